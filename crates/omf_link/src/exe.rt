@@ -5,7 +5,9 @@ use crate::libraries::Sources;
 use omf_frame::Sink;
 use omf_host::{Status, misused_by};
 use omf_linker::asked::{Asked, sorted};
-use omf_linker::exe::{Call, ExeOptions, ProgramModules, Refusal, call_of, missing_lines};
+use omf_linker::exe::{
+    Call, ExeOptions, LinkedModules, ProgramModules, Refusal, call_of, missing_lines,
+};
 use omf_linker::host::write_or_tell;
 use omf_linker::link::InputFile;
 use std::alloc::{AllocError, Global};
@@ -31,7 +33,7 @@ fn refuse<K: Sink>(
 /// The map of a program, if that is asked for.
 fn map_of(
     alloc: Global,
-    modules: &ProgramModules,
+    modules: &LinkedModules<'_>,
     files: &[InputFile],
     is_asked: bool,
 ) -> Result<Option<Vec<u8>>, Refusal> {
@@ -75,7 +77,7 @@ struct Output<'a> {
 /// The bytes of the program of modules, and whether it lacks a stack that it is to have.
 fn bytes_of(
     alloc: Global,
-    modules: &ProgramModules,
+    modules: &LinkedModules<'_>,
     files: &[InputFile],
     is_com: bool,
 ) -> Result<(Vec<u8>, bool), Refusal> {
@@ -93,9 +95,10 @@ fn made(
     files: &[InputFile],
     output: Output<'_>,
 ) -> Result<MadeProgram, Refusal> {
-    let (bytes, lacks_stack) = bytes_of(alloc, modules, files, output.is_com)?;
-    let map = map_of(alloc, modules, files, output.map.is_some())?;
-    let repeated = modules.repeated(alloc, files, output.allows_twice)?;
+    let linked = modules.linked(alloc)?;
+    let (bytes, lacks_stack) = bytes_of(alloc, &linked, files, output.is_com)?;
+    let map = map_of(alloc, &linked, files, output.map.is_some())?;
+    let repeated = linked.repeated(alloc, files, output.allows_twice)?;
     Ok(MadeProgram {
         bytes,
         map,

@@ -1,23 +1,16 @@
 -- The modules of a program's files, one file after another.
-use Rattle.std.proofs.Common.{◌≡◌, ℕ, zero, suc, ◌+◌, ◌<◌, ◌≤◌, List, [], ◌∷◌, ◌++◌, length, take, drop, get_or, refl, sym, ap, subst, ◌∙◌, append_assoc, append-nil, arith}
-use Rattle.std.specs.Prelude.{All, Some, Ok, Err, slice_get}
-use Rattle.std.specs.List.{AllZip}
-use Rattle.std.proofs.lemmas.List.{take_all}
+use Rattle.std.proofs.Common.{◌≡◌, ℕ, zero, suc, ◌+◌, ◌<◌, List, [], ◌∷◌, ◌++◌, length, take, get_or, refl, sym, ap, subst, ◌∙◌, inl, true, append_assoc, append-nil, arith}
+use Rattle.std.specs.Prelude.{Some, Ok, Err, slice_get}
 use Rattle.std.proofs.Math.Seq.{take-suc}
-use Rattle.omf_frame.specs.declared.fault.Place.{Place}
-use Rattle.omf_frame.specs.declared.fault.Reason.{Reason}
-use Rattle.omf_image.specs.Limits.{profile_limits}
 use Rattle.omf_check.specs.Module.{Module}
-use Rattle.omf_check.specs.Refusal.{IsRefused}
-use Rattle.omf_check.proofs.AcceptLaws.{never_both}
-use Rattle.omf_library.specs.Library.{AreMembers, IsMember, next_page}
-use Rattle.omf_library.specs.declared.member.Member.{Member}
+use Rattle.omf_library.specs.Library.{AreOfMembers}
 use Rattle.omf_check.specs.declared.profile.Profile.{Profile}
 use Rattle.omf_linking.specs.File.{InputFile}
 use Rattle.omf_linking.specs.Files.{HaveModules, IsFile, IsFirstAtFault}
 use Rattle.omf_linking.specs.declared.fault.FileFault.{FileFault}
-use Rattle.omf_linker.specs.Exe.Input.{AllGive, Gives, IsModuleOf}
-use Rattle.omf_linker.specs.Inner.Input.{AddsMembers, IsAdded}
+use Rattle.omf_linker.specs.Exe.Input.{AllGive, Gives, is_library}
+use Rattle.omf_linker.specs.Exe.Sharing.{any_profile}
+use Rattle.omf_linker.specs.Inner.Input.{IsAdded}
 
 -- A file alone.
 pub alone-holds : (p : Profile) (f : InputFile) (ms : List Module) → HaveModules p (f ∷ []) ms → IsFile p f.bytes (Ok ms)
@@ -46,36 +39,7 @@ one-added fs i f given members ng nm low is h a =
     subst (λ (xs : List InputFile). AllGive xs ng nm) (sym next)
     (subst (λ (xs : List Module). AllGive (take i fs ++ f ∷ []) xs nm) (sym a.more) (subst (λ (xs : List Module). AllGive (take i fs ++ f ∷ []) (given ++ a.own) xs) (sym a.offered) (all-more (take i fs) given members f a.own a.mine h a.gives)))
 
--- One more pair.
-pub one-paired : {A B : Type 0} (R : A → B → Type 0) (xs : List A) (ys : List B) (x : A) (y : B) → AllZip R xs ys → R x y → AllZip R (xs ++ x ∷ []) (ys ++ y ∷ [])
-one-paired R [] [] x y h r = (r, tt)
-one-paired R [] (b ∷ ys) x y h r = absurd h
-one-paired R (a ∷ xs) [] x y h r = absurd h
-one-paired R (a ∷ xs) (b ∷ ys) x y h r = (h.0, one-paired R xs ys x y h.1 r)
-
--- Each of a library's members is one.
-pub each-member : (p : Profile) (bytes : List ℕ) (page at : ℕ) (ms : List Member) (to : ℕ) → AreMembers p bytes page at ms to → All (IsMember p bytes) ms
-each-member p bytes page at [] to h k d low = absurd (omega (arith, low))
-each-member p bytes page at (m ∷ ms) to h zero d low = h.1
-each-member p bytes page at (m ∷ ms) to h (suc k) d low = each-member p bytes page (next_page page (at + m.length)) ms to h.2 k d (omega (arith, low))
-
--- The module of a member is not refused.
-pub not-refused : (p : Profile) (bytes : List ℕ) (m : Member) (why : Reason) (at : Place) → IsMember p bytes m → IsRefused p profile_limits (drop m.offset bytes) why at → ⊥
-not-refused p bytes m why at h r = never_both p profile_limits (drop m.offset bytes) h.0 why at h.1 r
-
--- One more member.
-pub no-members : (bytes : List ℕ) (old : List Module) → AddsMembers bytes [] old old
-no-members bytes old = ([], tt, sym (append-nil old))
-
-pub one-member : (bytes : List ℕ) (ms : List Member) (i : ℕ) (d : Member) (x : Module) (old now new : List Module) → i < length ms → AddsMembers bytes (take i ms) old now
-    → IsModuleOf bytes (get_or ms i d) x → new ≡ now ++ x ∷ [] → AddsMembers bytes (take (i + 1) ms) old new
-one-member bytes ms i d x old now new low (own, paired, e) h f =
-    let after : i + 1 ≡ suc i = omega arith in
-    let next : take (i + 1) ms ≡ take i ms ++ get_or ms i d ∷ [] = ap (λ (n : ℕ). take n ms) after ∙ take-suc ms i d low in (
-      own ++ x ∷ [],
-      subst (λ (xs : List Member). AllZip (IsModuleOf bytes) xs (own ++ x ∷ [])) (sym next) (one-paired (IsModuleOf bytes) (take i ms) own (get_or ms i d) x paired h),
-      f ∙ ap (λ (xs : List Module). xs ++ x ∷ []) e ∙ append_assoc old own (x ∷ []),
-    )
-
-pub all-members : (bytes : List ℕ) (ms : List Member) (i : ℕ) (old new : List Module) → length ms ≤ i → AddsMembers bytes (take i ms) old new → AddsMembers bytes ms old new
-all-members bytes ms i old new high h = subst (λ (xs : List Member). AddsMembers bytes xs old new) (take_all i ms high) h
+-- The modules of a library's members are offered.
+pub library-added : (bytes : List ℕ) (given members new_given new_members ms : List Module) → is_library bytes ≡ true → AreOfMembers any_profile bytes ms → new_given ≡ given → new_members ≡ members ++ ms
+    → IsAdded bytes given members new_given new_members
+library-added bytes given members ng nm ms l h g m = record { own = []; mine = ms; gives = inl (l, refl, h); more = g ∙ sym (append-nil given); offered = m }

@@ -4,18 +4,20 @@ use Rattle.std.specs.Prelude.{flat_map, Option, Some, is_some, bytes_eq, ◌||�
 use Rattle.std.proofs.Math.Seq.{drop-nil}
 use Rattle.std.specs.BTreeMap.{BTreeMap, get_by, is_at}
 use Rattle.std.specs.Map.{lookup}
-use Rattle.std.proofs.lemmas.Bool.{cond-true, cond-false, cases_Bool, true≢false}
+use Rattle.std.proofs.lemmas.Bool.{cond-true, cond-false, cases_Bool, not_from_false, true≢false}
 use Rattle.std.proofs.lemmas.Slice.Eq.{bytes_eq-Decides}
 use Rattle.omf_names.specs.Names.{name_cmp}
 use Rattle.omf_names.proofs.NameTables.{IsUpdated}
 use Rattle.omf_frame.specs.Framing.{Raw, raw_bytes}
+use Rattle.omf_frame.specs.Types.{is_local}
 use Rattle.omf_frame.specs.declared.fault.Place.{Place}
 use Rattle.omf_records.specs.Inner.Reading.{typed}
-use Rattle.omf_records.specs.Values.{Rec}
+use Rattle.omf_records.specs.Values.{Rec, Contents, Publics}
+use Rattle.omf_check.specs.Inner.Known.{holds_publics}
 use Rattle.omf_check.specs.Listed.{placed_from}
 use Rattle.omf_check.specs.Module.{Module, records_in, typed_modules}
 use Rattle.omf_check.specs.WellFormed.{recs}
-use Rattle.omf_linker.specs.Drafting.Names.{AreApart, count_of, names_asked, public_names, has_name, IsNameTable, HasMore}
+use Rattle.omf_linker.specs.Drafting.Names.{AreApart, count_of, names_asked, names_of, public_names, has_name, IsNameTable, HasMore}
 use Rattle.omf_linker.specs.declared.drafting.names.NameTable.{NameTable}
 
 abbrev pub Map : Type 0
@@ -114,6 +116,20 @@ none_more t xs e = subst (HasMore t t) (sym e) (λ names h. subst (IsNameTable t
 
 pub same_more : (t u : NameTable) (xs ys : List (List ℕ)) → ys ≡ xs → HasMore t u xs → HasMore t u ys
 same_more t u xs ys e h = subst (HasMore t u) (sym e) h
+
+-- A record without such publics has no such names.
+neither : (b : Bool) (xs : List (List ℕ)) → cond b xs xs ≡ xs
+neither true xs = refl
+neither false xs = refl
+
+pub none_asked : (local : Bool) (kind : ℕ) (c : Contents) → holds_publics local kind c ≡ false → names_asked local kind c ≡ []
+none_asked true kind (Publics p) h = cond-false (is_local kind) (names_of p.items) [] h
+none_asked true kind _ h = neither (is_local kind) []
+none_asked false kind (Publics p) h = elim (cases_Bool (is_local kind)) [
+  | inl t ↦ cond-true (is_local kind) [] (names_of p.items) t
+  | inr f ↦ absurd (true≢false (sym (not_from_false (is_local kind) f) ∙ h))
+]
+none_asked false kind _ h = neither (is_local kind) []
 
 -- The names of the records with their places.
 abbrev pub listed_names : Bool → List (Place × Rec) → List (List ℕ)

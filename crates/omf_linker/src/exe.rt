@@ -24,9 +24,11 @@ pub use fault::{ComProgramFault, PlacingFault, ProgramFault};
 pub(crate) use input::is_library;
 pub(crate) use joining::move_all;
 pub use joining::{Joined, join_needed};
-pub use making::{com_of, map_of, program_of};
+pub use making::{com_linked, map_linked, program_linked, program_of};
 pub use options::{ExeOptions, Order};
 pub use ordering::{OrderingFault, order_of};
-pub use program::{ProgramModules, com_of_files, exe_of_files, order_modules, share_communals};
+pub use program::{
+    LinkedModules, ProgramModules, com_of_files, exe_of_files, order_modules, share_communals,
+};
 pub use refusal::Refusal;
 pub use sharing::{SharingFault, shared_module};

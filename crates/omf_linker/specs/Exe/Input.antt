@@ -1,12 +1,10 @@
 -- The modules of a program's files (this profile's rule): those of a file of modules all take part, those of a library are offered.
-use Rattle.std.specs.Prelude.{◌≡◌, ◌⊎◌, ⊤, ℕ, ◌==◌, Bool, true, false, List, [], ◌∷◌, ◌++◌, drop, take, slice_get, Some, Ok, Err}
+use Rattle.std.specs.Prelude.{◌≡◌, ◌⊎◌, ⊤, ℕ, ◌==◌, Bool, true, false, List, [], ◌∷◌, ◌++◌, take, slice_get, Some, Ok, Err}
 use Rattle.std.specs.List.{AllZip}
 use Rattle.omf_check.specs.Module.{Module}
-use Rattle.omf_library.specs.Library.{AreMembersIn, IsLibraryFault, library_header}
-use Rattle.omf_library.specs.declared.member.Member.{Member}
+use Rattle.omf_library.specs.Library.{AreOfMembers, IsLibraryFault, library_header}
 use Rattle.omf_linking.specs.File.{InputFile}
 use Rattle.omf_linking.specs.Files.{IsFile}
-use Rattle.omf_linking.specs.Reading.{BeginsWith}
 use Rattle.omf_linker.specs.Exe.Sharing.{any_profile}
 use Rattle.omf_linker.specs.Exe.Taken.{AreJoined}
 use Rattle.omf_linking.specs.Folded.{IsFolded}
@@ -18,20 +16,10 @@ abbrev pub is_library : List ℕ → Bool
 is_library [] = false
 is_library (b ∷ bs) = b == library_header
 
--- The module of a member: the one that the bytes from its offset on begin with.
-abbrev pub IsModuleOf : List ℕ → Member → Module → Type 0
-IsModuleOf bytes member m = BeginsWith any_profile (drop member.offset bytes) m
-
--- The modules of a library's members, in order.
-pub record AreOffered (bytes : List ℕ) (ms : List Module) : Type 0 where
-  pub members : List Member
-  pub library : AreMembersIn any_profile bytes (Ok members)
-  pub modules : AllZip (IsModuleOf bytes) members ms
-
 -- What a file gives: modules that take part, and members. A library gives its members, any other file its modules.
 abbrev pub Gives : List ℕ → List Module → List Module → Type 0
 Gives bytes given members =
-    ((is_library bytes ≡ true) × (given ≡ []) × AreOffered bytes members)
+    ((is_library bytes ≡ true) × (given ≡ []) × AreOfMembers any_profile bytes members)
     ⊎ ((is_library bytes ≡ false) × IsFile any_profile bytes (Ok given) × (members ≡ []))
 
 -- What files give, in their order.

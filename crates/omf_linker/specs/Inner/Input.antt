@@ -1,13 +1,7 @@
 -- What is added of one file to what those before it give (the steps of the code).
 use Rattle.std.specs.Prelude.{◌≡◌, List, ℕ, ◌++◌}
-use Rattle.std.specs.List.{AllZip}
 use Rattle.omf_check.specs.Module.{Module}
-use Rattle.omf_library.specs.declared.member.Member.{Member}
-use Rattle.omf_linker.specs.Exe.Input.{Gives, IsModuleOf}
-
--- The modules of members were added.
-abbrev pub AddsMembers : List ℕ → List Member → List Module → List Module → Type 0
-AddsMembers bytes members old new = (own : List Module) × AllZip (IsModuleOf bytes) members own × (new ≡ old ++ own)
+use Rattle.omf_linker.specs.Exe.Input.{Gives}
 
 -- What a file gives was added.
 pub record IsAdded (bytes : List ℕ) (given members new_given new_members : List Module) : Type 0 where

@@ -7,7 +7,7 @@ ghost use Rattle.omf_records.specs.Inner.Seen.{contents_seen, kind_seen};
 ghost use Rattle.omf_records.specs.Values.{Contents};
 ghost use Rattle.omf_linker.specs.Drafting.Names.{AreApart, HasMore, IsNameTable, all_names, has_name, names_asked, names_in, names_of, public_names};
 
-use omf_check::Checked;
+use omf_check::{Checked, Undecoded};
 use omf_names::NameKey;
 use omf_records::{Items, Public, Rec};
 use std::alloc::{AllocError, Global};
@@ -103,12 +103,23 @@ impl<'a> NameTable<'a> {
         self.add_record(rec)
     }
 
+    /// The same for a record that is not decoded yet. It is decoded only if it has such publics.
+    #[tactic(auto, using(crate::proofs::NameLaws::none_more, crate::proofs::NameLaws::none_asked))]
+    fn add_undecoded(&mut self, local: bool, record: &Undecoded<'a>) -> Result<(), AllocError>
+        ensures { OnOk result (HasMore self.old self.new (names_asked local «record».now.kind «record».now.contents)) }
+    {
+        match record.publics(local) {
+            Some(rec) => self.add_asked(local, &rec),
+            None => Ok(()),
+        }
+    }
+
     /// Adds the names of a module's local publics, or of the others.
     fn add_module(&mut self, local: bool, module: &'a Checked) -> Result<(), AllocError>
         ensures { OnOk result (HasMore self.old self.new (public_names local (recs_of «module».entry.now.bytes))) }
     {
-        for (_, rec) in module.records() {
-            self.add_asked(local, &rec)?;
+        for (_, record) in module.undecoded() {
+            self.add_undecoded(local, &record)?;
         }
         Ok(())
     }

@@ -1,19 +1,16 @@
 //! The modules of files: those that are given, and the members of libraries.
 
-ghost use Rattle.std.specs.Prelude.{◌≡◌, ◌++◌, ◌∷◌, [], All, IfErr, IfOk, OnOk, false, true};
+ghost use Rattle.std.specs.Prelude.{◌≡◌, ◌++◌, [], IfErr, IfOk, OnOk, false, true};
 ghost use Rattle.std.specs.List.{AllZip};
-ghost use Rattle.omf_library.specs.Library.{IsMember};
-ghost use Rattle.omf_library.specs.declared.fault.LibraryFault.TheVariants.{Memory};
 ghost use Rattle.omf_linking.specs.Folded.{IsFolded};
-ghost use Rattle.omf_linker.specs.Exe.Input.{AllGive, IsFileFault, IsInputFault, IsModuleOf, is_library};
+ghost use Rattle.omf_linker.specs.Exe.Input.{AllGive, IsFileFault, IsInputFault, is_library};
 ghost use Rattle.omf_linker.specs.Exe.Sharing.{any_profile};
-ghost use Rattle.omf_linker.specs.Inner.Input.{AddsMembers, IsAdded};
+ghost use Rattle.omf_linker.specs.Inner.Input.{IsAdded};
 
 use crate::exe::joining::move_all;
 use crate::link::InputFile;
-use omf_check::{CheckFault, Checked, Profile, check};
-use omf_frame::Bytes;
-use omf_library::{LibraryFault, Member, members_in};
+use omf_check::{Checked, Profile};
+use omf_library::{LibraryFault, modules_in};
 use omf_linking::{FileFault, LinkFault, folded_all, modules_of_files};
 use std::alloc::{AllocError, AllocFailed, Global};
 use std::slice::from_ref;
@@ -78,24 +75,12 @@ pub(crate) fn is_library(bytes: &[u8]) -> bool
     }
 }
 
-/// The module of a member of a library.
-///
-/// # Errors
-///
-/// `Memory` if memory runs out.
-fn member_of(alloc: Global, bytes: &[u8], member: &Member) -> Result<Checked, LibraryFault>
-    requires { IsMember any_profile bytes.now member.now }
-    ensures checked { IfOk result (IsModuleOf bytes.now member.now) }
-    ensures fault { IfErr result (λ f. f ≡ Memory) }
-{
-    let start = (member.offset as usize).min(bytes.len());
-    let (_before, rest) = bytes.split_at(start);
-    match check(alloc, &mut Bytes::new(rest), profile()) {
-        Ok(checked) => Ok(checked),
-        Err(CheckFault::Memory) => Err(LibraryFault::Memory),
-        Err(CheckFault::Read) => unreachable!(),
-        Err(CheckFault::Refused { .. }) => unreachable!(),
+/// Adds the origins of a file's modules, from the first on.
+fn add_origins(origins: &mut Vec<Origin>, file: usize, count: usize) -> Result<(), AllocError> {
+    for module in 0..count {
+        origins.push(Origin { file, module })?;
     }
+    Ok(())
 }
 
 impl Input {
@@ -112,44 +97,13 @@ impl Input {
         }
     }
 
-    /// Adds a member of a library.
-    fn add_member(&mut self, origin: Origin, member: Checked) -> Result<(), AllocError>
-        ensures members { OnOk result (self.new.members.items ≡ self.old.members.items ++ member ∷ []) }
+    /// Adds modules of members of a library.
+    fn add_members(&mut self, file: usize, modules: Vec<Checked>) -> Result<(), AllocError>
+        ensures members { OnOk result (self.new.members.items ≡ self.old.members.items ++ modules.items) }
         ensures given { OnOk result (self.new.given.items ≡ self.old.given.items) }
     {
-        self.members.push(member)?;
-        self.members_from.push(origin)?;
-        Ok(())
-    }
-
-    /// Adds these members of a library.
-    ///
-    /// # Errors
-    ///
-    /// `Memory` if memory runs out.
-    fn add_members(
-        &mut self,
-        alloc: Global,
-        file: usize,
-        bytes: &[u8],
-        members: &[Member],
-    ) -> Result<(), LibraryFault>
-        requires { All (IsMember any_profile bytes.now) members.now }
-        ensures members { OnOk result (AddsMembers bytes.now members.now self.old.members.items self.new.members.items) }
-        ensures given { OnOk result (self.new.given.items ≡ self.old.given.items) }
-        ensures fault { IfErr result (λ f. f ≡ Memory) }
-    {
-        for (number, member) in members.iter().enumerate() {
-            let checked = member_of(alloc, bytes, member)?;
-            let origin = Origin {
-                file,
-                module: number,
-            };
-            if let Err(AllocError) = self.add_member(origin, checked) {
-                return Err(LibraryFault::Memory);
-            }
-        }
-        Ok(())
+        add_origins(&mut self.members_from, file, modules.len())?;
+        move_all(modules, &mut self.members)
     }
 
     /// Adds the members of a library.
@@ -162,12 +116,11 @@ impl Input {
         ensures added { OnOk result (IsAdded bytes.now self.old.given.items self.old.members.items self.new.given.items self.new.members.items) }
         ensures fault { IfErr result (IsFileFault file bytes.now) }
     {
-        let members = match members_in(alloc, profile(), bytes) {
-            Ok(members) => members,
-            Err(fault) => return Err(InputFault::Library(file, fault)),
-        };
-        match self.add_members(alloc, file, bytes, &members) {
-            Ok(()) => Ok(()),
+        match modules_in(alloc, profile(), bytes) {
+            Ok(modules) => match self.add_members(file, modules) {
+                Ok(()) => Ok(()),
+                Err(AllocError) => Err(InputFault::Memory),
+            },
             Err(fault) => Err(InputFault::Library(file, fault)),
         }
     }
@@ -177,13 +130,7 @@ impl Input {
         ensures given { OnOk result (self.new.given.items ≡ self.old.given.items ++ modules.items) }
         ensures members { OnOk result (self.new.members.items ≡ self.old.members.items) }
     {
-        for number in 0..modules.len() {
-            let origin = Origin {
-                file,
-                module: number,
-            };
-            self.given_from.push(origin)?;
-        }
+        add_origins(&mut self.given_from, file, modules.len())?;
         move_all(modules, &mut self.given)
     }
 

@@ -5,6 +5,7 @@ ghost use Rattle.omf_check.specs.Module.{typed_modules};
 ghost use Rattle.omf_output.specs.Exe.Derived.{AreMovers};
 ghost use Rattle.omf_placement.specs.Derive.{placed_modules};
 ghost use Rattle.omf_placement.specs.Inner.Derived.{derived};
+ghost use Rattle.omf_placement.specs.Inner.Linkage.{IsLinkage};
 ghost use Rattle.omf_linker.specs.Exe.Program.{AreLaid, AreMade, IsComOf, IsComProgramFault, IsExternalFault, IsMapOf, IsPlacingFault, IsProgramFault, IsProgramOf, members_from, weak_of};
 
 use crate::exe::fault::{ComProgramFault, PlacingFault, ProgramFault};
@@ -13,7 +14,7 @@ use omf_check::Checked;
 use omf_layout::several::place_segments;
 use omf_layout::{Frames, LayoutFault, Options};
 use omf_output::exe::{ExeFault, ExeFile, Member, Movers, link_com, link_exe, movers_of};
-use omf_placement::{DeriveFault, Placement, derive, with_weak};
+use omf_placement::{DeriveFault, Linkage, Placement, derive_linked, with_weak_linked};
 use std::alloc::{AllocError, Global};
 
 /// The places of modules from address 0 on, in real mode.
@@ -41,29 +42,40 @@ struct Settled {
 }
 
 /// Settles modules at their places.
-fn settle(alloc: Global, modules: &[Checked], places: &[Placement]) -> Result<Settled, DeriveFault>
+fn settle(
+    alloc: Global,
+    linkage: &Linkage,
+    modules: &[Checked],
+    places: &[Placement],
+) -> Result<Settled, DeriveFault>
     requires few { length modules.now < 2 ^ 32 }
+    requires linked { IsLinkage (typed_modules modules.now) linkage.now }
     requires laid { AreLaid modules.now places.now }
     ensures derived { IfOk result (λ s. derived (placed_modules modules.now places.now) (weak_of modules.now places.now) ≡ Ok s.placements.items) }
     ensures moving { IfOk result (λ s. AreMovers (typed_modules modules.now) (placed_modules modules.now places.now) [] s.movers.items) }
     ensures fault { IfErr result (IsExternalFault modules.now) }
 {
-    let given = with_weak(alloc, modules, places, &[])?;
-    let placements = derive(alloc, modules, places, &given)?;
-    let movers = movers_of(alloc, modules, places, &[])?;
+    let given = with_weak_linked(alloc, linkage, modules, places, &[])?;
+    let placements = derive_linked(alloc, linkage, modules, places, &given)?;
+    let movers = movers_of(alloc, linkage, modules, places, &[])?;
     Ok(Settled { placements, movers })
 }
 
 /// Settles modules from address 0 on.
-fn place_and_settle(alloc: Global, modules: &[Checked]) -> Result<Settled, PlacingFault>
-    requires { length modules.now < 2 ^ 32 }
+fn place_and_settle(
+    alloc: Global,
+    linkage: &Linkage,
+    modules: &[Checked],
+) -> Result<Settled, PlacingFault>
+    requires few { length modules.now < 2 ^ 32 }
+    requires linked { IsLinkage (typed_modules modules.now) linkage.now }
     ensures placed { IfOk result (λ s. length s.placements.items ≡ length modules.now) }
     ensures moved { IfOk result (λ s. length s.movers.items ≡ length modules.now) }
     ensures made { IfOk result (λ s. AreMade modules.now (members_from 0 modules.now s.placements.items s.movers.items)) }
     ensures fault { IfErr result (IsPlacingFault modules.now) }
 {
     let places = places_of(alloc, modules)?;
-    match settle(alloc, modules, &places) {
+    match settle(alloc, linkage, modules, &places) {
         Ok(settled) => Ok(settled),
         Err(DeriveFault::Memory) => Err(PlacingFault::Memory),
         Err(fault) => Err(PlacingFault::External(fault)),
@@ -112,7 +124,7 @@ fn file_of(
     }
 }
 
-/// The MZ file (.EXE) of modules: laid out from address 0 on in real mode, each external at the only public of its name, and a weak one without a public at its default.
+/// The MZ file (.EXE) of modules: laid out from address 0 on in real mode, each external at the only public of its name, and a weak one without a public at its default. `linkage` is that of the modules.
 ///
 /// What DOS loads at paragraph k, for every k, is what the modules are at their placements moved by k paragraphs.
 ///
@@ -120,12 +132,17 @@ fn file_of(
 ///
 /// `NoRoom` if a segment does not end below 2^20; otherwise `External` for the first external without a place; otherwise `Exe` with the
 /// first fault of `link_exe`. `Memory` if memory runs out.
-pub fn program_of(alloc: Global, modules: &[Checked]) -> Result<ExeFile, ProgramFault>
-    requires { length modules.now < 2 ^ 32 }
+pub fn program_linked(
+    alloc: Global,
+    linkage: &Linkage,
+    modules: &[Checked],
+) -> Result<ExeFile, ProgramFault>
+    requires few { length modules.now < 2 ^ 32 }
+    requires linked { IsLinkage (typed_modules modules.now) linkage.now }
     ensures program { IfOk result (λ e. IsProgramOf modules.now e.bytes.items e.has_stack) }
     ensures fault { IfErr result (IsProgramFault modules.now) }
 {
-    let settled = match place_and_settle(alloc, modules) {
+    let settled = match place_and_settle(alloc, linkage, modules) {
         Ok(settled) => settled,
         Err(PlacingFault::Memory) => return Err(ProgramFault::Memory),
         Err(PlacingFault::NoRoom) => return Err(ProgramFault::NoRoom),
@@ -133,6 +150,20 @@ pub fn program_of(alloc: Global, modules: &[Checked]) -> Result<ExeFile, Program
     };
     let members = members_of(alloc, modules, &settled.placements, &settled.movers)?;
     file_of(alloc, modules, &members)
+}
+
+/// The same without a linkage.
+///
+/// # Errors
+///
+/// Those of `program_linked`.
+pub fn program_of(alloc: Global, modules: &[Checked]) -> Result<ExeFile, ProgramFault>
+    requires { length modules.now < 2 ^ 32 }
+    ensures program { IfOk result (λ e. IsProgramOf modules.now e.bytes.items e.has_stack) }
+    ensures fault { IfErr result (IsProgramFault modules.now) }
+{
+    let linkage = Linkage::of(alloc, modules)?;
+    program_linked(alloc, &linkage, modules)
 }
 
 /// The .COM file of members.
@@ -159,12 +190,17 @@ fn com_file_of(
 ///
 /// `Placing` with `NoRoom` if a segment does not end below 2^20, otherwise with `External` for the first external without a place; otherwise
 /// `Modules` with the first fault of `link_com`. `Placing` with `Memory` if memory runs out before the modules are linked.
-pub fn com_of(alloc: Global, modules: &[Checked]) -> Result<Vec<u8>, ComProgramFault>
-    requires { length modules.now < 2 ^ 32 }
+pub fn com_linked(
+    alloc: Global,
+    linkage: &Linkage,
+    modules: &[Checked],
+) -> Result<Vec<u8>, ComProgramFault>
+    requires few { length modules.now < 2 ^ 32 }
+    requires linked { IsLinkage (typed_modules modules.now) linkage.now }
     ensures program { IfOk result (λ v. IsComOf modules.now v.items) }
     ensures fault { IfErr result (IsComProgramFault modules.now) }
 {
-    let settled = match place_and_settle(alloc, modules) {
+    let settled = match place_and_settle(alloc, linkage, modules) {
         Ok(settled) => settled,
         Err(fault) => return Err(ComProgramFault::Placing(fault)),
     };
@@ -177,13 +213,18 @@ pub fn com_of(alloc: Global, modules: &[Checked]) -> Result<Vec<u8>, ComProgramF
 /// # Errors
 ///
 /// `NoRoom` if a segment does not end below 2^20; otherwise `External` for the first external without a place. `Memory` if memory runs out.
-pub fn map_of(alloc: Global, modules: &[Checked]) -> Result<String, PlacingFault>
-    requires { length modules.now < 2 ^ 32 }
+pub fn map_linked(
+    alloc: Global,
+    linkage: &Linkage,
+    modules: &[Checked],
+) -> Result<String, PlacingFault>
+    requires few { length modules.now < 2 ^ 32 }
+    requires linked { IsLinkage (typed_modules modules.now) linkage.now }
     ensures map { IfOk result (λ text. IsMapOf modules.now (string_bytes text)) }
     ensures fault { IfErr result (IsPlacingFault modules.now) }
 {
     let places = places_of(alloc, modules)?;
-    let settled = match settle(alloc, modules, &places) {
+    let settled = match settle(alloc, linkage, modules, &places) {
         Ok(settled) => settled,
         Err(DeriveFault::Memory) => return Err(PlacingFault::Memory),
         Err(fault) => return Err(PlacingFault::External(fault)),

@@ -1,6 +1,6 @@
 //! The modules of a program, and what is made of them: its file and its map.
 
-ghost use Rattle.std.specs.Prelude.{IfOk, List};
+ghost use Rattle.std.specs.Prelude.{◌≡◌, IfOk, List};
 ghost use Rattle.omf_linking.specs.File.{InputFile as FileModel};
 ghost use Rattle.std.specs.List.{AllZip};
 ghost use Rattle.omf_check.specs.Module.{Module};
@@ -17,7 +17,7 @@ use crate::exe::input::{Input, Origin};
 use crate::exe::joining::{join_needed, move_all, taken};
 use crate::exe::lines::Origins;
 use crate::exe::listing::modules_text;
-use crate::exe::making::{com_of, map_of, program_of};
+use crate::exe::making::{com_linked, map_linked, program_linked};
 use crate::exe::options::ExeOptions;
 use crate::exe::ordering::{order_of, with_front};
 use crate::exe::refusal::Refusal;
@@ -25,7 +25,7 @@ use crate::exe::sharing::{shared_module, with_added};
 use crate::link::InputFile;
 use omf_check::Checked;
 use omf_output::exe::{ComFault, ExeFile};
-use omf_placement::DeriveFault;
+use omf_placement::{DeriveFault, Linkage};
 use std::alloc::{AllocError, Global};
 use std::marker::Model;
 
@@ -241,18 +241,57 @@ impl ProgramModules {
         }
     }
 
+    /// The modules with what their externals refer to.
+    ///
+    /// # Errors
+    ///
+    /// Out of memory.
+    pub fn linked(&self, alloc: Global) -> Result<LinkedModules<'_>, Refusal>
+        ensures { IfOk result (λ l. l ≡ self.entry.now) }
+    {
+        match Linkage::of(alloc, &self.modules) {
+            Ok(linkage) => Ok(LinkedModules {
+                program: self,
+                linkage,
+            }),
+            Err(AllocError) => Err(memory()),
+        }
+    }
+}
+
+/// The modules of a program, with what their externals refer to.
+#[derive(Drop)]
+pub struct LinkedModules<'a> {
+    program: &'a ProgramModules,
+    linkage: Linkage,
+}
+
+impl<'a> Model for LinkedModules<'a> {
+    ghost use Rattle.omf_check.specs.Module.{typed_modules};
+    ghost use Rattle.omf_placement.specs.Inner.Linkage.{IsLinkage};
+    ghost use Rattle.omf_linker.specs.Exe.Program.{ProgramModules as Seen};
+
+    ghost Value = { Seen };
+
+    ghost view = { λ l. l.program.now };
+
+    ghost invariant = { λ l. IsLinkage (typed_modules l.program.now.modules) l.linkage };
+}
+
+impl<'a> LinkedModules<'a> {
     /// The MZ file (.EXE) of the modules, which are those of these files.
     ///
     /// # Errors
     ///
-    /// The fault of `program_of`, as lines.
+    /// The fault of `program_linked`, as lines.
     pub fn exe(&self, alloc: Global, files: &[InputFile]) -> Result<ExeFile, Refusal> {
-        if self.modules.len() > u32::MAX as usize {
+        let program = self.program;
+        if program.modules.len() > u32::MAX as usize {
             return Err(memory());
         }
-        match program_of(alloc, &self.modules) {
+        match program_linked(alloc, &self.linkage, &program.modules) {
             Ok(file) => Ok(file),
-            Err(fault) => Err(self.refused(alloc, files, fault)),
+            Err(fault) => Err(program.refused(alloc, files, fault)),
         }
     }
 
@@ -260,19 +299,20 @@ impl ProgramModules {
     ///
     /// # Errors
     ///
-    /// The fault of `com_of`, as lines.
+    /// The fault of `com_linked`, as lines.
     pub fn com(&self, alloc: Global, files: &[InputFile]) -> Result<Vec<u8>, Refusal> {
-        if self.modules.len() > u32::MAX as usize {
+        let program = self.program;
+        if program.modules.len() > u32::MAX as usize {
             return Err(memory());
         }
-        match com_of(alloc, &self.modules) {
+        match com_linked(alloc, &self.linkage, &program.modules) {
             Ok(bytes) => Ok(bytes),
-            Err(fault) => Err(self.com_refused(alloc, files, fault)),
+            Err(fault) => Err(program.com_refused(alloc, files, fault)),
         }
     }
 
     /// The lines of the names that more than one public of the modules has, in ascending order; empty if there are none. A program without a
-    /// fault has no external of these names.
+    /// fault has no external of these names. They are looked for only where names repeat.
     ///
     /// # Errors
     ///
@@ -283,7 +323,10 @@ impl ProgramModules {
         files: &[InputFile],
         is_allowed: bool,
     ) -> Result<String, Refusal> {
-        let Ok(lines) = self.origins(files).repeated_lines(alloc) else {
+        if !self.linkage.repeats() {
+            return Ok(String::new(alloc));
+        }
+        let Ok(lines) = self.program.origins(files).repeated_lines(alloc) else {
             return Err(memory());
         };
         if is_allowed || lines.is_empty() {
@@ -297,15 +340,16 @@ impl ProgramModules {
     ///
     /// # Errors
     ///
-    /// The fault of `map_of`, as lines.
+    /// The fault of `map_linked`, as lines.
     pub fn map(&self, alloc: Global, files: &[InputFile]) -> Result<Vec<u8>, Refusal> {
-        if self.modules.len() > u32::MAX as usize {
+        let program = self.program;
+        if program.modules.len() > u32::MAX as usize {
             return Err(memory());
         }
-        let map = match map_of(alloc, &self.modules) {
+        let map = match map_linked(alloc, &self.linkage, &program.modules) {
             Ok(map) => map,
             Err(fault) => {
-                return Err(self.com_refused(alloc, files, ComProgramFault::Placing(fault)));
+                return Err(program.com_refused(alloc, files, ComProgramFault::Placing(fault)));
             }
         };
         match self.listed(alloc, files, map.as_str()) {
@@ -316,7 +360,7 @@ impl ProgramModules {
 
     /// The lines of the modules, and a map after them.
     fn listed(&self, alloc: Global, files: &[InputFile], map: &str) -> Result<String, AllocError> {
-        let mut text = modules_text(alloc, self.origins(files))?;
+        let mut text = modules_text(alloc, self.program.origins(files))?;
         text.push_str(map)?;
         Ok(text)
     }
@@ -327,13 +371,14 @@ impl ProgramModules {
 ///
 /// # Errors
 ///
-/// The first file that is not read; otherwise the fault of `share_communals`; otherwise that of `program_of`; otherwise the names that more
+/// The first file that is not read; otherwise the fault of `share_communals`; otherwise that of `program_linked`; otherwise the names that more
 /// than one public has.
 pub fn exe_of_files(alloc: Global, files: &[InputFile]) -> Result<ExeFile, Refusal> {
     let options = ExeOptions::new(alloc);
     let modules = ProgramModules::of(alloc, files)?.with_added(alloc, &options)?;
-    let file = modules.exe(alloc, files)?;
-    let _ = modules.repeated(alloc, files, options.allows_twice)?;
+    let linked = modules.linked(alloc)?;
+    let file = linked.exe(alloc, files)?;
+    let _ = linked.repeated(alloc, files, options.allows_twice)?;
     Ok(file)
 }
 
@@ -341,12 +386,13 @@ pub fn exe_of_files(alloc: Global, files: &[InputFile]) -> Result<ExeFile, Refus
 ///
 /// # Errors
 ///
-/// The first file that is not read; otherwise the fault of `share_communals`; otherwise that of `com_of`; otherwise the names that more than
+/// The first file that is not read; otherwise the fault of `share_communals`; otherwise that of `com_linked`; otherwise the names that more than
 /// one public has.
 pub fn com_of_files(alloc: Global, files: &[InputFile]) -> Result<Vec<u8>, Refusal> {
     let options = ExeOptions::new(alloc);
     let modules = ProgramModules::of(alloc, files)?.with_added(alloc, &options)?;
-    let bytes = modules.com(alloc, files)?;
-    let _ = modules.repeated(alloc, files, options.allows_twice)?;
+    let linked = modules.linked(alloc)?;
+    let bytes = linked.com(alloc, files)?;
+    let _ = linked.repeated(alloc, files, options.allows_twice)?;
     Ok(bytes)
 }

@@ -10,7 +10,7 @@ ghost use Rattle.omf_linker.specs.Link.Unresolved.{HasMore, IsByName, Row, all_a
 
 use crate::drafting::has_asked;
 use crate::link::settled::{Settled, is_settled};
-use omf_check::{Checked, entry_of};
+use omf_check::{Checked, Undecoded, entry_of};
 use omf_linking::locator::Sparse;
 use omf_placement::Placed;
 use omf_records::{Items, Public, Rec};
@@ -176,6 +176,23 @@ impl<'a> ByName<'a> {
         self.add_record(alloc, number, rec)
     }
 
+    /// The same for a record that is not decoded yet. It is decoded only if it has such publics.
+    #[tactic(auto, using(crate::proofs::UnresolvedLaws::none_more, crate::proofs::NameLaws::none_asked))]
+    fn add_undecoded(
+        &mut self,
+        alloc: Global,
+        local: bool,
+        number: u32,
+        record: &Undecoded<'a>,
+    ) -> Result<(), AllocError>
+        ensures { OnOk result (HasMore self.old.spots self.new.spots (rows_in number (names_asked local «record».now.kind «record».now.contents))) }
+    {
+        match record.publics(local) {
+            Some(rec) => self.add_asked(alloc, local, number, &rec),
+            None => Ok(()),
+        }
+    }
+
     /// Adds a module's local publics, or the others.
     fn add_module(
         &mut self,
@@ -186,8 +203,8 @@ impl<'a> ByName<'a> {
     ) -> Result<(), AllocError>
         ensures { OnOk result (HasMore self.old.spots self.new.spots (rows_in number (public_names local (recs_of «module».entry.now.bytes)))) }
     {
-        for (_, rec) in module.records() {
-            self.add_asked(alloc, local, number, &rec)?;
+        for (_, record) in module.undecoded() {
+            self.add_undecoded(alloc, local, number, &record)?;
         }
         Ok(())
     }

@@ -5,12 +5,15 @@ ghost use Rattle.std.specs.List.{AllZip};
 ghost use Rattle.omf_check.specs.Module.{recs_of, typed_modules};
 ghost use Rattle.omf_placement.specs.Derive.{placed_modules};
 ghost use Rattle.omf_placement.specs.Derivation.{IsPlaceOf};
+ghost use Rattle.omf_placement.specs.Inner.Linkage.{IsLinkage};
 ghost use Rattle.omf_output.specs.Exe.Derived.{AreMovers, IsLowTable, IsMoversFault, Named, all_movers, based, external_moving, externals_moving, frame_at, frame_if, movers_in, moving_between, place_at, place_if};
 
 use crate::exe::groups::{LowTable, segments_moving};
 use crate::exe::movers::{Movers, Moving};
 use omf_check::Checked;
-use omf_placement::{DeriveFault, Frame, Given, Placed, Placement, derive, with_weak};
+use omf_placement::{
+    DeriveFault, Frame, Given, Linkage, Placed, Placement, derive_linked, with_weak_linked,
+};
 use std::alloc::{AllocError, Global};
 
 /// The frame at address 0, or 16 bytes higher.
@@ -188,28 +191,30 @@ fn all_movers<'a>(
 /// - an external as the base of the public whose place it has: its address as the segment does, its frame as the group does, or the segment
 ///   if there is no group. One with a place given by hand does not move; a weak one without a public moves as its default does.
 ///
-/// There must be one of `places` for each module, and fewer than 2^32 modules.
+/// There must be one of `places` for each module, and fewer than 2^32 modules; `linkage` is that of the modules.
 ///
 /// # Errors
 ///
 /// Those of `derive` with the segments and groups at address 0, or 16 bytes higher; `Memory` if memory runs out.
 pub fn movers_of(
     alloc: Global,
+    linkage: &Linkage,
     modules: &[Checked],
     places: &[Placement],
     given: &[Given],
 ) -> Result<Vec<Movers>, DeriveFault>
     requires few { length modules.now < 2 ^ 32 }
+    requires linked { IsLinkage (typed_modules modules.now) linkage.now }
     requires placed { length places.now ≡ length modules.now }
     ensures movers { IfOk result (λ v. AreMovers (typed_modules modules.now) (placed_modules modules.now places.now) given.now v.items) }
     ensures fault { IfErr result (IsMoversFault (typed_modules modules.now) (placed_modules modules.now places.now) given.now) }
 {
     let table = LowTable::of(alloc, modules, places)?;
     let at_0 = all_based(alloc, false, &table, modules)?;
-    let low_given = with_weak(alloc, modules, &at_0, given)?;
-    let low = derive(alloc, modules, &at_0, &low_given)?;
+    let low_given = with_weak_linked(alloc, linkage, modules, &at_0, given)?;
+    let low = derive_linked(alloc, linkage, modules, &at_0, &low_given)?;
     let higher = all_based(alloc, true, &table, modules)?;
-    let high_given = with_weak(alloc, modules, &higher, given)?;
-    let high = derive(alloc, modules, &higher, &high_given)?;
+    let high_given = with_weak_linked(alloc, linkage, modules, &higher, given)?;
+    let high = derive_linked(alloc, linkage, modules, &higher, &high_given)?;
     Ok(all_movers(alloc, &table, modules, &low, &high)?)
 }

@@ -193,7 +193,10 @@ fn member_is_taken(alloc: Global) -> bool {
     let Ok(modules) = ProgramModules::folded(alloc, &files) else {
         return false;
     };
-    match (modules.exe(alloc, &files), bytes_of(alloc, PROGRAM)) {
+    let Ok(linked) = modules.linked(alloc) else {
+        return false;
+    };
+    match (linked.exe(alloc, &files), bytes_of(alloc, PROGRAM)) {
         (Ok(file), Ok(wanted)) => file.bytes == wanted,
         _ => false,
     }
@@ -207,7 +210,10 @@ fn member_is_left(alloc: Global) -> bool {
     let Ok(modules) = ProgramModules::of(alloc, &files) else {
         return false;
     };
-    let Err(refusal) = modules.exe(alloc, &files) else {
+    let Ok(linked) = modules.linked(alloc) else {
+        return false;
+    };
+    let Err(refusal) = linked.exe(alloc, &files) else {
         return false;
     };
     let mut sink = Gathered::new(alloc);

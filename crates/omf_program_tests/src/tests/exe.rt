@@ -183,11 +183,14 @@ const MAP: &str = "module 1 file \"calls.obj\" module 1\n\
 
 /// Whether the map of files is a text.
 fn is_mapped(alloc: Global, files: &[InputFile], text: &str) -> bool {
-    match ProgramModules::of(alloc, files) {
-        Ok(modules) => match modules.map(alloc, files) {
-            Ok(map) => map.as_slice() == text.as_bytes(),
-            Err(_) => false,
-        },
+    let Ok(modules) = ProgramModules::of(alloc, files) else {
+        return false;
+    };
+    let Ok(linked) = modules.linked(alloc) else {
+        return false;
+    };
+    match linked.map(alloc, files) {
+        Ok(map) => map.as_slice() == text.as_bytes(),
         Err(_) => false,
     }
 }
@@ -210,7 +213,10 @@ fn has_added_stack(alloc: Global, files: &[InputFile]) -> bool {
     let Ok(all) = modules.with_added(alloc, &options) else {
         return false;
     };
-    match all.exe(alloc, files) {
+    let Ok(linked) = all.linked(alloc) else {
+        return false;
+    };
+    match linked.exe(alloc, files) {
         Ok(file) => file.has_stack && file.bytes.get(14..18) == Some(&[1, 0, 16, 0]),
         Err(_) => false,
     }

@@ -46,7 +46,8 @@ fn map_of(alloc: Global, files: &[InputFile], order: Option<Order>) -> Result<Ve
     let mut options = ExeOptions::new(alloc);
     options.order = order;
     let modules = ProgramModules::of(alloc, files)?;
-    modules.with_added(alloc, &options)?.map(alloc, files)
+    let modules = modules.with_added(alloc, &options)?;
+    modules.linked(alloc)?.map(alloc, files)
 }
 
 /// Whether a program of files in this order has this map, or this line.

@@ -167,6 +167,7 @@ fn linked(
         ProgramModules::of(alloc, files)?
     };
     let all = modules.with_added(alloc, &ExeOptions::new(alloc))?;
+    let all = all.linked(alloc)?;
     let bytes = if case.is_com {
         all.com(alloc, files)?
     } else {

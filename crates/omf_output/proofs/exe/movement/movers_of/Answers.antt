@@ -12,24 +12,24 @@ use Rattle.omf_output.proofs.DerivingLaws.{as-many-based, bases-are-places, deri
 use Rattle.omf_placement.specs.Weak.{with_weak}
 use Rattle.omf_output.proofs.exe.movement.movers_of.Goals as goal
 
-pub with_weak-requires-clause-placed : goal.with_weak-requires-clause-placed
-with_weak-requires-clause-placed c =
+pub with_weak_linked-requires-clause-placed : goal.with_weak_linked-requires-clause-placed
+with_weak_linked-requires-clause-placed c =
     let ls = lows (placed_modules c.args.modules.now c.args.places.now) in
     ap length (c.deref.ensures.value ∙ c.in_ok-at_0.ensures ls c.in_ok-table.ensures) ∙ as-many-based (based false ls) c.args.modules.now
 
-pub with_weak-requires-2-clause-placed : goal.with_weak-requires-2-clause-placed
-with_weak-requires-2-clause-placed c =
+pub with_weak_linked-requires-2-clause-placed : goal.with_weak_linked-requires-2-clause-placed
+with_weak_linked-requires-2-clause-placed c =
     let ls = lows (placed_modules c.args.modules.now c.args.places.now) in
     ap length (c.deref-4.ensures.value ∙ c.in_ok-higher.ensures ls c.in_ok-table.ensures) ∙ as-many-based (based true ls) c.args.modules.now
 
-pub derive-requires-clause-placed : goal.derive-requires-clause-placed
-derive-requires-clause-placed c =
+pub derive_linked-requires-clause-placed : goal.derive_linked-requires-clause-placed
+derive_linked-requires-clause-placed c =
     let ms = typed_modules c.args.modules.now in
     let ls = lows (placed_modules c.args.modules.now c.args.places.now) in
     subst (λ (xs : List Places). AllZip IsPlaceOf ms xs) (sym (c.deref-2.ensures.value ∙ c.in_ok-at_0.ensures ls c.in_ok-table.ensures)) (bases-are-places false ls ms)
 
-pub derive-requires-2-clause-placed : goal.derive-requires-2-clause-placed
-derive-requires-2-clause-placed c =
+pub derive_linked-requires-2-clause-placed : goal.derive_linked-requires-2-clause-placed
+derive_linked-requires-2-clause-placed c =
     let ms = typed_modules c.args.modules.now in
     let ls = lows (placed_modules c.args.modules.now c.args.places.now) in
     subst (λ (xs : List Places). AllZip IsPlaceOf ms xs) (sym (c.deref-5.ensures.value ∙ c.in_ok-higher.ensures ls c.in_ok-table.ensures)) (bases-are-places true ls ms)

@@ -5,7 +5,7 @@ use Rattle.omf_placement.specs.Placement.{Places}
 use Rattle.std.proofs.Common.{◌∙◌, ap, length, List, subst, sym}
 use Rattle.omf_linker.specs.Exe.Program.{weak_of, AreLaid}
 use Rattle.omf_linker.proofs.ExeLaws.{laid-many, placements-many}
-use Rattle.omf_linker.proofs.exe.making.map_of.Goals as goal
+use Rattle.omf_linker.proofs.exe.making.map_linked.Goals as goal
 
 pub map_text-requires : goal.map_text-requires
 map_text-requires c =
