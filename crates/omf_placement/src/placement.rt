@@ -61,15 +61,30 @@ impl Placement {
         }
     }
 
-    /// A copy of this placement with other externals.
-    pub fn with_externals(&self, externals: Vec<Placed>) -> Result<Self, AllocError>
-        ensures { IfOk result (λ p. p ≡ record self.now { externals = externals.items }) }
+    /// A copy of this placement.
+    ///
+    /// # Errors
+    ///
+    /// `AllocError` if out of memory.
+    pub fn copied(&self) -> Result<Self, AllocError>
+        ensures { IfOk result (λ p. p ≡ self.now) }
     {
         Ok(Placement {
             segments: self.segments.clone()?,
             groups: self.groups.clone()?,
-            externals,
+            externals: self.externals.clone()?,
         })
+    }
+
+    /// This placement with other externals.
+    pub fn with_externals(self, externals: Vec<Placed>) -> Self
+        ensures { result ≡ record self { externals = externals.items } }
+    {
+        Placement {
+            segments: self.segments,
+            groups: self.groups,
+            externals,
+        }
     }
 
     /// The entries of the segments.

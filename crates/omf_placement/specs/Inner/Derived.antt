@@ -47,14 +47,21 @@ err_of (Err e) = Some e
 abbrev pub derive_faults : List PlacedModule → List Given → List DeriveFault
 derive_faults ms given = flat_map (λ m. filter_map err_of (external_places (seen_publics ms m.1) given m.0 m.1.0)) (enumerate_from 0 ms)
 
--- The derived placement of a module: the segments and groups of its placement, and its externals.
-abbrev pub with_externals : List PlacedModule → List Given → ℕ × PlacedModule → Places
-with_externals ms given m = record m.1.1 { externals = filter_map ok_of (external_places (seen_publics ms m.1) given m.0 m.1.0) }
+-- The places of the externals of a module; and its derived placement, with the segments and groups of its placement.
+abbrev pub resolved_in : List PlacedModule → List Given → ℕ × PlacedModule → List Placed
+resolved_in ms given m = filter_map ok_of (external_places (seen_publics ms m.1) given m.0 m.1.0)
 
--- The placements if there is no fault, else the first fault.
+abbrev pub with_externals : List PlacedModule → List Given → ℕ × PlacedModule → Places
+with_externals ms given m = record m.1.1 { externals = resolved_in ms given m }
+
+-- This if there is no fault, else the first fault.
 abbrev pub unless_fault : {A : Type 0} → List DeriveFault → A → Result A DeriveFault
 unless_fault [] a = Ok a
 unless_fault (e ∷ es) a = Err e
+
+-- The places of the externals of all modules, and their placements.
+abbrev pub resolved : List PlacedModule → List Given → Result (List (List Placed)) DeriveFault
+resolved ms given = unless_fault (derive_faults ms given) (map (resolved_in ms given) (enumerate_from 0 ms))
 
 abbrev pub derived : List PlacedModule → List Given → Result (List Places) DeriveFault
 derived ms given = unless_fault (derive_faults ms given) (map (with_externals ms given) (enumerate_from 0 ms))

@@ -31,7 +31,11 @@ abbrev pub IsFaultIn : Result (List Places) DeriveFault → Option DeriveFault �
 IsFaultIn r None = IsOk r
 IsFaultIn r (Some f) = r ≡ Err f
 
--- The placements, or the first fault; or Memory, whatever the fault.
-abbrev pub IsTried : Result (List Places) DeriveFault → Result (List Places) DeriveFault → Type 0
-IsTried r (Ok pls) = r ≡ Ok pls
+-- The places of the externals, or the first fault; or Memory, whatever the fault.
+abbrev pub IsTried : Result (List (List Placed)) DeriveFault → Result (List (List Placed)) DeriveFault → Type 0
+IsTried r (Ok ess) = r ≡ Ok ess
 IsTried r (Err f) = (f ≡ fault.Memory) ⊎ (r ≡ Err f)
+
+-- A placement with other externals.
+abbrev pub with_own : Places × List Placed → Places
+with_own x = record x.0 { externals = x.1 }

@@ -76,7 +76,7 @@ abbrev pub definer_after : Source → Option Definer → Definer
 definer_after s None = Only s
 definer_after s (Some d) = Several
 
--- A table holds these publics; if it does not say that a name repeats, no two have one name.
+-- A table holds these publics; if `repeats` is not set, no two have one name.
 pub record IsSourceTable (t : SourceTable) (among : List NamedSource) : Type 0 where
   pub found : (name : List ℕ) → get_by (λ k. name_cmp name k.now) t.by_name ≡ definer (filter_map (of_source name) among)
   pub apart : t.repeats ≡ false → AreSourcesApart among

@@ -1,6 +1,6 @@
 //! Derivation of the places of externals from the publics of several modules.
 
-ghost use Rattle.std.specs.Prelude.{◌≡◌, ◌<◌, ◌^◌, Err, IfOk, length, List, Bool, true, false, filter_map, Option};
+ghost use Rattle.std.specs.Prelude.{◌≡◌, ◌<◌, ◌^◌, Err, IfErr, IfOk, Ok, length, List, Bool, true, false, filter_map, map, zip, Option};
 ghost use Rattle.std.specs.List.{AllZip};
 ghost use Rattle.omf_records.specs.Values.{Rec};
 ghost use Rattle.omf_records.specs.Inner.Seen.{map_ok};
@@ -9,10 +9,10 @@ ghost use Rattle.omf_check.specs.Tables.{externals};
 ghost use Rattle.omf_placement.specs.declared.frame.Placed.{Placed as Place};
 ghost use Rattle.omf_placement.specs.declared.several.given.Given.{Given as Entry};
 ghost use Rattle.omf_placement.specs.Derive.{PlacedPublic, placed_modules};
-ghost use Rattle.omf_placement.specs.Inner.Derived.{derived, external_places, given_or, given_place, one_public};
+ghost use Rattle.omf_placement.specs.Inner.Derived.{derived, external_places, given_or, given_place, one_public, resolved};
 ghost use Rattle.omf_placement.specs.Inner.GivenTable.{IsGivenTable};
 ghost use Rattle.omf_placement.specs.Derivation.{IsDerived, IsPlaceOf};
-ghost use Rattle.omf_placement.specs.Inner.Deriving.{IsFound, IsTried};
+ghost use Rattle.omf_placement.specs.Inner.Deriving.{IsFound, IsTried, with_own};
 ghost use Rattle.omf_placement.specs.Inner.Linkage.{AreFound, IsLinkage, IsSourceTable, NamedSource, definer, definers, found_by, of_source};
 ghost use Rattle.omf_placement.specs.Inner.PublicTable.{summed};
 ghost use Rattle.omf_placement.specs.Weak.{with_weak};
@@ -190,27 +190,46 @@ fn linked_places(
     Ok(found)
 }
 
-/// The derived placements. Out of memory, it may hide a fault.
-fn try_derive(
+/// The places of the externals of all modules. Out of memory, it may hide a fault.
+fn try_resolve(
     alloc: Global,
     linkage: &Linkage,
     modules: &[Checked],
     places: &[Placement],
     given: &[Given],
-) -> Result<Vec<Placement>, DeriveFault>
+) -> Result<Vec<Vec<Placed>>, DeriveFault>
     requires few { length modules.now < 2 ^ 32 }
     requires linked { IsLinkage (typed_modules modules.now) linkage.now }
     requires placed { AllZip IsPlaceOf (typed_modules modules.now) places.now }
-    ensures { IsTried (derived (placed_modules modules.now places.now) given.now) (map_ok (λ v. v.items) result) }
+    ensures { IsTried (resolved (placed_modules modules.now places.now) given.now) (map_ok (λ v. map (λ e. e.items) v.items) result) }
 {
     let first_given = GivenTable::of(alloc, given)?;
     let of_module = linkage.of_module.as_slice();
-    let mut placements = Vec::new(alloc);
-    for (j, place) in places.iter().enumerate() {
+    let mut resolved = Vec::new(alloc);
+    for (j, _place) in places.iter().enumerate() {
         let links = &of_module[j];
         let externals = linked_places(alloc, links, places, &first_given, j as u32)?;
-        let placement = place.with_externals(externals)?;
-        placements.push(placement)?;
+        resolved.push(externals)?;
+    }
+    Ok(resolved)
+}
+
+/// Placements with the places of their externals.
+fn with_externals(
+    alloc: Global,
+    places: Vec<Placement>,
+    externals: Vec<Vec<Placed>>,
+) -> Result<Vec<Placement>, AllocError>
+    requires { length externals.items ≡ length places.items }
+    ensures { IfOk result (λ v. v.items ≡ map with_own (zip places.items (map (λ e. e.items) externals.items))) }
+{
+    let mut placements = Vec::new(alloc);
+    let mut left = externals.into_iter();
+    for place in places {
+        let Some(own) = left.next() else {
+            unreachable!()
+        };
+        placements.push(place.with_externals(own))?;
     }
     Ok(placements)
 }
@@ -224,8 +243,28 @@ fn fault_or_memory(modules: &[Checked], places: &[Placement], given: &[Given]) -
     first_fault(modules, places, given).unwrap_or(DeriveFault::Memory)
 }
 
+/// The places of the externals of all modules, without which the modules are not derived.
+fn resolve(
+    alloc: Global,
+    linkage: &Linkage,
+    modules: &[Checked],
+    places: &[Placement],
+    given: &[Given],
+) -> Result<Vec<Vec<Placed>>, DeriveFault>
+    requires few { length modules.now < 2 ^ 32 }
+    requires linked { IsLinkage (typed_modules modules.now) linkage.now }
+    requires placed { AllZip IsPlaceOf (typed_modules modules.now) places.now }
+    ensures resolved { IfOk result (λ v. resolved (placed_modules modules.now places.now) given.now ≡ Ok (map (λ e. e.items) v.items)) }
+    ensures fault { IfErr result (λ f. IsDerived (derived (placed_modules modules.now places.now) given.now) (Err f)) }
+{
+    match try_resolve(alloc, linkage, modules, places, given) {
+        Err(DeriveFault::Memory) => Err(fault_or_memory(modules, places, given)),
+        answer => answer,
+    }
+}
+
 /// The same as `derive`, by the publics that the externals refer to: so modules are derived at several places without looking for names
-/// again.
+/// again, and the places are not copied.
 ///
 /// # Errors
 ///
@@ -234,18 +273,30 @@ pub fn derive_linked(
     alloc: Global,
     linkage: &Linkage,
     modules: &[Checked],
-    places: &[Placement],
+    places: Vec<Placement>,
     given: &[Given],
 ) -> Result<Vec<Placement>, DeriveFault>
     requires few { length modules.now < 2 ^ 32 }
     requires linked { IsLinkage (typed_modules modules.now) linkage.now }
-    requires placed { AllZip IsPlaceOf (typed_modules modules.now) places.now }
-    ensures { IsDerived (derived (placed_modules modules.now places.now) given.now) (map_ok (λ v. v.items) result) }
+    requires placed { AllZip IsPlaceOf (typed_modules modules.now) places.items }
+    ensures { IsDerived (derived (placed_modules modules.now places.items) given.now) (map_ok (λ v. v.items) result) }
 {
-    match try_derive(alloc, linkage, modules, places, given) {
-        Err(DeriveFault::Memory) => Err(fault_or_memory(modules, places, given)),
-        answer => answer,
+    let externals = resolve(alloc, linkage, modules, &places, given)?;
+    match with_externals(alloc, places, externals) {
+        Ok(placements) => Ok(placements),
+        Err(AllocError) => Err(DeriveFault::Memory),
     }
+}
+
+/// Copies of placements.
+fn copies(alloc: Global, places: &[Placement]) -> Result<Vec<Placement>, AllocError>
+    ensures { IfOk result (λ v. v.items ≡ places.now) }
+{
+    let mut copies = Vec::new(alloc);
+    for place in places {
+        copies.push(place.copied()?)?;
+    }
+    Ok(copies)
 }
 
 /// Derives the placement of each module: the segments and groups of its placement in `places`, and a place for each of its externals.
@@ -271,8 +322,8 @@ pub fn derive(
     requires placed { AllZip IsPlaceOf (typed_modules modules.now) places.now }
     ensures { IsDerived (derived (placed_modules modules.now places.now) given.now) (map_ok (λ v. v.items) result) }
 {
-    match Linkage::of(alloc, modules) {
-        Ok(linkage) => derive_linked(alloc, &linkage, modules, places, given),
-        Err(AllocError) => Err(fault_or_memory(modules, places, given)),
-    }
+    let (Ok(linkage), Ok(own)) = (Linkage::of(alloc, modules), copies(alloc, places)) else {
+        return Err(fault_or_memory(modules, places, given));
+    };
+    derive_linked(alloc, &linkage, modules, own, given)
 }

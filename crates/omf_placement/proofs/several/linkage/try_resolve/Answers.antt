@@ -1,13 +1,14 @@
 use Rattle.std.proofs.Common.{rules, ◌≡◌, ◌+◌, ◌∷◌, ◌∙◌, [], arith, drop, ap, get_or, length}
-use Rattle.std.specs.Prelude.{Err}
+use Rattle.std.specs.Prelude.{Err, map}
+use Rattle.std.proofs.lemmas.List.{map-append}
 use Rattle.omf_records.specs.Inner.Seen.{map_ok}
 use Rattle.omf_check.specs.Module.{typed_modules}
 use Rattle.omf_placement.specs.Derive.{PlacedModule, seen_publics, placed_modules}
-use Rattle.omf_placement.specs.Inner.Derived.{derived}
+use Rattle.omf_placement.specs.Inner.Derived.{resolved}
 use Rattle.omf_placement.specs.Inner.Linkage.{Known}
-use Rattle.omf_placement.proofs.LinkageLaws.{module-placed, module-ends, modules-placed, err-derived, same-length}
+use Rattle.omf_placement.proofs.LinkageLaws.{module-placed, module-ends, modules-resolved, err-tried, same-length}
 use Rattle.omf_placement.proofs.LinkedLaws.{links-count, next-zip, none-zip, turn-found, turn-short, zip-length}
-use Rattle.omf_placement.proofs.several.linkage.try_derive.Goals as goal
+use Rattle.omf_placement.proofs.several.linkage.try_resolve.Goals as goal
 
 pub returns-in_err-externals : goal.returns-in_err-externals
 returns-in_err-externals c =
@@ -21,8 +22,8 @@ returns-in_err-externals c =
     let at : c.index-of_module-j.result ≡ get_or c.args.linkage.now.links j c.index-of_module-j.result = c.index-of_module-j.is ∙ ap (λ x. get_or x j c.index-of_module-j.result) (c.as_slice-of_module.ensures.value ∙ ap (λ (k : Known). k.links) c.linkage.view_is) in
     let next : drop j ms ≡ m ∷ drop (j + 1) ms = next-zip tm pls j pl c.requires.placed c.index-places-j.is c.loop-j-test.true in
     let same : c.from_residual-in_err-externals.result ≡ Err f = search rules in
-    err-derived (derived ms c.args.given.now) _ f (ap (map_ok (λ v. v.items)) same)
-    (module-ends ms c.args.given.now j m next f c.loop-j.placements.items
+    err-tried (resolved ms c.args.given.now) _ f (ap (map_ok (λ v. map (λ e. e.items) v.items)) same)
+    (module-ends ms c.args.given.now j m next f (map (λ e. e.items) c.loop-j.resolved.items)
     (c.in_err-externals.ensures (seen_publics ms m) c.args.given.now m.0 c.in_ok-first_given.ensures (turn-found tm pls c.args.linkage.now c.requires.linked c.requires.placed j pl c.index-places-j.is c.loop-j-test.true c.index-of_module-j.result at)) c.loop-j.invariant)
 
 pub loop-j-preserved : goal.loop-j-preserved
@@ -35,13 +36,13 @@ loop-j-preserved c =
     let m : PlacedModule = (get_or tm j [], pl) in
     let at : c.index-of_module-j.result ≡ get_or c.args.linkage.now.links j c.index-of_module-j.result = c.index-of_module-j.is ∙ ap (λ x. get_or x j c.index-of_module-j.result) (c.as_slice-of_module.ensures.value ∙ ap (λ (k : Known). k.links) c.linkage.view_is) in
     let next : drop j ms ≡ m ∷ drop (j + 1) ms = next-zip tm pls j pl c.requires.placed c.index-places-j.is c.loop-j-test.true in
-    module-placed ms c.args.given.now j m next c.in_ok-externals.externals.items c.in_ok-placement.placement c.loop-j.placements.items c.push.new.self.items
-    (c.in_ok-externals.ensures (seen_publics ms m) c.args.given.now m.0 c.in_ok-first_given.ensures (turn-found tm pls c.args.linkage.now c.requires.linked c.requires.placed j pl c.index-places-j.is c.loop-j-test.true c.index-of_module-j.result at)) c.in_ok-placement.ensures c.in_ok-push.ensures.items c.loop-j.invariant
+    module-placed ms c.args.given.now j m next c.in_ok-externals.externals.items (map (λ e. e.items) c.loop-j.resolved.items) (map (λ e. e.items) c.push.new.self.items)
+    (c.in_ok-externals.ensures (seen_publics ms m) c.args.given.now m.0 c.in_ok-first_given.ensures (turn-found tm pls c.args.linkage.now c.requires.linked c.requires.placed j pl c.index-places-j.is c.loop-j-test.true c.index-of_module-j.result at)) (ap (map (λ e. e.items)) c.in_ok-push.ensures.items ∙ map-append (λ e. e.items) c.loop-j.resolved.items (c.in_ok-externals.externals ∷ [])) c.loop-j.invariant
 
 pub returns : goal.returns
 returns c =
     let ms = placed_modules c.args.modules.now c.args.places.now in
-    modules-placed ms c.args.given.now c.loop-j.placements.items c.loop-j.j (none-zip (typed_modules c.args.modules.now) c.args.places.now c.loop-j.j c.requires.placed c.loop-j-test.false) c.loop-j.invariant
+    modules-resolved ms c.args.given.now (map (λ e. e.items) c.loop-j.resolved.items) c.loop-j.j (none-zip (typed_modules c.args.modules.now) c.args.places.now c.loop-j.j c.requires.placed c.loop-j-test.false) c.loop-j.invariant
 
 pub bounds-of_module-j : goal.bounds-of_module-j
 bounds-of_module-j c =
