@@ -6,7 +6,7 @@ use Rattle.std.proofs.lemmas.List.{map-append}
 use Rattle.std.proofs.lemmas.List.Sums.{fold-append}
 use Rattle.std.proofs.lemmas.List.Elements.{All-nil, All-cons, All-head, All-tail, All-append}
 use Rattle.omf_frame.specs.declared.fault.Place.{Place}
-use Rattle.omf_records.specs.Values.{Contents, Names, Plain, Iterated, Fixups, ModEnd, Rec, SegmentItem, Subrecord}
+use Rattle.omf_records.specs.Values.{Contents, Names, Plain, Iterated, Fixups, ModEnd, Rec, Subrecord}
 use Rattle.omf_image.specs.Limits.{profile_limits}
 use Rattle.omf_image.specs.Painting.{Fits, extent}
 use Rattle.omf_check.specs.Sound.{ModuleHolds}
@@ -22,7 +22,6 @@ use Rattle.omf_reloc.proofs.HoldLaws.{KeptHolds, PieceHolds, PiecesHold, PlainFi
 use Rattle.omf_reloc.proofs.MeasureLaws.{places-are}
 use Rattle.omf_reloc.proofs.SingleLaws.{singles}
 use Rattle.omf_reloc.proofs.WalkLaws.{all-left as part-left, all-right as part-right}
-use Rattle.omf_output.specs.Exe.Based.{same_flags}
 use Rattle.omf_output.specs.Inner.Laying.{AllCanLay, CanEnd, CanLay, DataFit, FixupFits, Source, address_at, all_laid, extent_end, laid_by, record_ends, source_after, source_in}
 use Rattle.omf_output.specs.Exe.Memory.{Chunk, chunk_end, chunks, lying}
 use Rattle.omf_output.specs.Exe.Moved.{Movers}
@@ -190,10 +189,3 @@ all-can-end [] h g = All-nil CanEnd
 all-can-end (r ∷ rs) h g =
     All-cons CanEnd r rs (All-head CanMeasure r rs h, part-left Fits (measured r) (flat_map measured rs) g)
     (all-can-end rs (All-tail CanMeasure r rs h) (part-right Fits (measured r) (flat_map measured rs) g))
-
--- No flags are left for no segments.
-pub flags-none : (left : List Bool) (ds : List (ℕ × SegmentItem)) → ds ≡ [] → (length left == 0) ≡ same_flags left ds
-flags-none [] [] e = refl
-flags-none [] (d ∷ ds) e = absurd cc
-flags-none (b ∷ bs) [] e = false_from_ne_true (length (b ∷ bs) == 0) (λ f. let g = eqb-true (length (b ∷ bs)) 0 f in omega (arith, g))
-flags-none (b ∷ bs) (d ∷ ds) e = absurd cc

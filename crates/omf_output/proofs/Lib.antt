@@ -25,6 +25,7 @@ pub mod TakeLaws
 pub mod TurnLaws
 pub mod LayingLaws
 pub mod FitLaws
+pub mod FlagLaws
 pub mod LinkedLaws
 pub mod RegisterLaws
 pub mod RoomLaws

@@ -16,8 +16,7 @@ use Rattle.omf_reloc.specs.declared.fault.ReachFault.{ReachFault}
 use Rattle.omf_frame.specs.declared.fault.Place.{Place}
 use Rattle.omf_output.specs.declared.exe.fault.ExeFault.{ExeFault}
 use Rattle.omf_output.specs.declared.exe.fault.ExeFault.TheVariants as fault
-use Rattle.omf_output.specs.Exe.Based.{HasReached, Holds, IsBased, has_its_movers, is_movable, same_flags}
-use Rattle.omf_records.specs.Values.{SegmentItem}
+use Rattle.omf_output.specs.Exe.Based.{HasReached, Holds, IsBased, has_its_movers, is_movable, same_flags, segments_moving}
 use Rattle.omf_output.specs.Exe.Exe.{CanBeWritten, Program, exe}
 use Rattle.omf_output.specs.Exe.FileFaults.{file_fault}
 use Rattle.omf_output.specs.declared.exe.file.FileFault.TheVariants as files
@@ -25,7 +24,7 @@ use Rattle.omf_output.specs.Inner.Plans.{IsManyOrMemory, IsPlan}
 use Rattle.omf_output.specs.Exe.Loading.{Loaded, loaded}
 use Rattle.omf_output.specs.declared.exe.link.Plan.{Plan}
 use Rattle.omf_output.specs.Exe.Linked.{IsExeFault, IsOverlap, code, extra, far_pair, few_words, high_faults, in_registers, later_faults, linked, linked_at, member_fault, ok_or, one_start, or_else, placed, plain_faults, stack_pointer, starts, words_from}
-use Rattle.omf_output.specs.Exe.Members.{Member, all_moving, memory_end, moving, portions, segdefs, stack}
+use Rattle.omf_output.specs.Exe.Members.{Member, all_moving, memory_end, moving, portions, stack}
 use Rattle.omf_output.specs.Exe.Memory.{Chunk, IsProgram, LiesIn, all_chunks, chunk_end, chunks_at, data_end, flat, flat_words}
 use Rattle.omf_output.specs.Exe.Movable.{first_unmoved}
 use Rattle.omf_output.specs.Exe.Overlaps.{AddInTurn, AreJudged, HasItsWords, IsJudged}
@@ -34,7 +33,7 @@ use Rattle.omf_reloc.proofs.WalkedLaws.{records-listed}
 use Rattle.omf_output.proofs.MovableLaws.{moving-decided}
 use Rattle.omf_output.proofs.ProgramLaws.{length-flat, programs, words-inside}
 use Rattle.omf_output.proofs.TurnLaws.{programs-judged}
-use Rattle.omf_output.proofs.RegisterLaws.{code-moves, flags-are, is_free, stack-moves}
+use Rattle.omf_output.proofs.RegisterLaws.{code-moves, stack-moves}
 
 -- ---- no fault
 
@@ -48,26 +47,23 @@ no-fault m None true (Some p) e = absurd cc
 no-fault m None false b e = absurd cc
 no-fault m (Some f) t b e = absurd cc
 
-flags-same : (bs : List Bool) (ds : List (ℕ × SegmentItem)) → same_flags bs ds ≡ true → bs ≡ map is_free ds
+flags-same : (bs cs : List Bool) → same_flags bs cs ≡ true → bs ≡ cs
 flags-same [] [] e = refl
-flags-same [] (d ∷ ds) e = absurd cc
+flags-same [] (c ∷ cs) e = absurd cc
 flags-same (b ∷ bs) [] e = absurd cc
-flags-same (b ∷ bs) (d ∷ ds) e = by b (is_movable d.1.absolute) e (flags-same bs ds)
-  where
-    by : (x y : Bool) → cond (same x y) (same_flags bs ds) false ≡ true → (same_flags bs ds ≡ true → bs ≡ map is_free ds) → (x ∷ bs) ≡ (y ∷ map is_free ds)
-    by true true f rest = ap (λ l. true ∷ l) (rest f)
-    by true false f rest = absurd cc
-    by false true f rest = absurd cc
-    by false false f rest = ap (λ l. false ∷ l) (rest f)
+flags-same (true ∷ bs) (true ∷ cs) e = ap (λ l. true ∷ l) (flags-same bs cs e)
+flags-same (true ∷ bs) (false ∷ cs) e = absurd cc
+flags-same (false ∷ bs) (true ∷ cs) e = absurd cc
+flags-same (false ∷ bs) (false ∷ cs) e = ap (λ l. false ∷ l) (flags-same bs cs e)
 
 based : (m : Member) → HasReached m → has_its_movers m ≡ true → IsBased m
 based m r e =
-    let flags = same_flags m.movers.segments (segdefs (recs_of m.bytes)) in
+    let flags = same_flags m.movers.segments (segments_moving (recs_of m.bytes)) in
     let gs = length m.movers.groups == length m.places.groups in
     let xs = length m.movers.externals == length m.places.externals in
     let outer = and_parts flags (gs && xs) e in
     let inner = and_parts gs xs outer.1 in
-    let segs = flags-same m.movers.segments (segdefs (recs_of m.bytes)) outer.0 ∙ sym (flags-are (recs_of m.bytes)) in
+    let segs = flags-same m.movers.segments (segments_moving (recs_of m.bytes)) outer.0 in
     let fits = ((reach-decided m.places (recs_of m.bytes)).decided.0 r).fits in
     record {
       movers = record {

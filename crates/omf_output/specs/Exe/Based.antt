@@ -1,14 +1,14 @@
 -- What moves of the segments and groups of a module, by its records (this profile's rule).
 use Rattle.std.specs.Prelude.{◌≡◌, ℕ, List, [], ◌∷◌, length, map, Bool, true, false, ◌==◌, ◌&&◌, Option, Some, None, if◌then◌else◌}
 use Rattle.std.specs.List.{list_all}
-use Rattle.omf_records.specs.Values.{GroupItem, Rec, SegmentItem}
+use Rattle.omf_records.specs.Values.{GroupItem, Rec}
 use Rattle.omf_check.specs.Module.{recs_of}
 use Rattle.omf_check.specs.Tables.{groups, segments}
 use Rattle.omf_check.specs.Threads.{same}
 use Rattle.omf_check.specs.Sound.{ModuleHolds}
 use Rattle.omf_image.specs.Limits.{profile_limits}
 use Rattle.omf_reloc.specs.Reach.{Reaches}
-use Rattle.omf_output.specs.Exe.Members.{Member, segdefs}
+use Rattle.omf_output.specs.Exe.Members.{Member}
 use Rattle.omf_output.specs.Exe.Moved.{AreMoversOf, moves}
 
 -- A segment moves unless it is absolute.
@@ -31,15 +31,15 @@ pub record IsBased (m : Member) : Type 0 where
   pub movers : AreMoversOf m.movers m.places
   pub segments : m.movers.segments ≡ segments_moving (recs_of m.bytes)
 
--- The same as a test, where the placement has an entry for each entry of the module's tables: the flags of the SEGDEFs.
-abbrev pub same_flags : List Bool → List (ℕ × SegmentItem) → Bool
+-- The same as a test.
+abbrev pub same_flags : List Bool → List Bool → Bool
 same_flags [] [] = true
-same_flags [] (s ∷ ss) = false
+same_flags [] (c ∷ cs) = false
 same_flags (b ∷ bs) [] = false
-same_flags (b ∷ bs) (s ∷ ss) = if same b (is_movable s.1.absolute) then same_flags bs ss else false
+same_flags (b ∷ bs) (c ∷ cs) = if same b c then same_flags bs cs else false
 
 abbrev pub has_its_movers : Member → Bool
-has_its_movers m = same_flags m.movers.segments (segdefs (recs_of m.bytes)) && ((length m.movers.groups == length m.places.groups) && (length m.movers.externals == length m.places.externals))
+has_its_movers m = same_flags m.movers.segments (segments_moving (recs_of m.bytes)) && ((length m.movers.groups == length m.places.groups) && (length m.movers.externals == length m.places.externals))
 
 -- Its placement reaches; it is well formed.
 abbrev pub HasReached : Member → Type 0

@@ -85,13 +85,16 @@ place_at up b = place_if (up && b)
 abbrev pub frame_at : Bool → Bool → Frame
 frame_at up b = frame_if (up && b)
 
+-- What moves of a module, without its externals.
+abbrev pub bases_in : List Named → List Rec → Movers
+bases_in ls m = record { segments = segments_moving m; groups = names_moving ls m; externals = [] }
+
 -- The places of a module whose segments and groups are all at address 0; and the same where those that move are 16 bytes higher.
+abbrev pub based_by : Bool → Movers → Places
+based_by up mv = record { segments = map (place_at up) mv.segments; groups = map (frame_at up) mv.groups; externals = [] }
+
 abbrev pub based : Bool → List Named → List Rec → Places
-based up ls m = record {
-  segments = map (place_at up) (segments_moving m);
-  groups = map (frame_at up) (names_moving ls m);
-  externals = [];
-}
+based up ls m = based_by up (bases_in ls m)
 
 -- How a place moves, by its two places where the bases are at 0 and where those that move are higher: its address and its frame move if they differ.
 abbrev pub moving_between : Placed → Placed → Moving
@@ -110,8 +113,11 @@ externals_moving x = map (external_moving x.0 x.1) (range_with_len 1 (length x.0
 
 -- ---- all that moves
 
+abbrev pub completed : Movers × (Places × Places) → Movers
+completed x = record x.0 { externals = externals_moving x.1 }
+
 abbrev pub movers_in : List Named → List Rec × (Places × Places) → Movers
-movers_in ls x = record { segments = segments_moving x.0; groups = names_moving ls x.0; externals = externals_moving x.1 }
+movers_in ls x = completed (bases_in ls x.0, x.1)
 
 abbrev pub all_movers : List Named → List (List Rec) → List Places → List Places → List Movers
 all_movers ls ms low high = map (movers_in ls) (zip ms (zip low high))

@@ -1,6 +1,6 @@
 -- Data records put in bytes from address 0 on, and their fixups applied there, one piece after the other.
 use Rattle.std.specs.Prelude.{ℕ, ◌+◌, ◌≤◌, List, [], ◌∷◌, ◌++◌, length, take, drop, map, flat_map, fold, All, Bool, false, Option, Some, None, ⊤}
-use Rattle.omf_records.specs.Values.{Contents, Plain, Iterated, Rec, SegmentItem, width, location_offset}
+use Rattle.omf_records.specs.Values.{Contents, Plain, Iterated, Rec, width, location_offset}
 use Rattle.omf_image.specs.Inner.Expanding.{expanded}
 use Rattle.omf_image.specs.Limits.{profile_limits}
 use Rattle.omf_image.specs.Painting.{Fits}
@@ -13,7 +13,6 @@ use Rattle.omf_reloc.specs.Laws.{location_end}
 use Rattle.omf_reloc.specs.Offsets.{outcome_at}
 use Rattle.omf_reloc.specs.Plain.{Piece, Kept, Fixed, End, PlainFixup}
 use Rattle.omf_check.specs.Module.{recs_of}
-use Rattle.omf_output.specs.Exe.Based.{same_flags}
 use Rattle.omf_output.specs.Exe.Members.{Member}
 use Rattle.omf_output.specs.Exe.Memory.{segment_address}
 
@@ -94,8 +93,3 @@ record_ends pl r = map (extent_end pl) (measured r)
 -- The data of a module end in n bytes.
 abbrev pub EndsIn : ℕ → Member → Type 0
 EndsIn n m = All (λ x. x ≤ n) (flat_map (record_ends m.places) (recs_of m.bytes))
-
--- The flags of segments that are left; none where a flag was not that of its segment.
-abbrev pub flags_left : Option (List Bool) → List (ℕ × SegmentItem) → Bool
-flags_left None rest = false
-flags_left (Some left) rest = same_flags left rest

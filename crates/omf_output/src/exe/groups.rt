@@ -17,7 +17,7 @@ use std::alloc::{AllocError, Global};
 use std::collections::BTreeMap;
 
 /// Whether a segment moves: unless it is absolute.
-fn is_movable(segment: &SegInfo) -> bool
+pub(crate) fn is_movable(segment: &SegInfo) -> bool
     ensures { result ≡ is_movable segment.now.absolute }
 {
     match segment.absolute {
@@ -141,6 +141,9 @@ impl<'a> LowTable<'a> {
     ) -> Result<(), AllocError>
         ensures { OnOk result (HasMore self.old.by_name self.new.by_name (lows_in (recs_of «module».entry.now.bytes, placement.now))) }
     {
+        if module.groups() == 0 {
+            return Ok(());
+        }
         let marks = marks(alloc, module, placement)?;
         self.add_groups(module, &marks)
     }

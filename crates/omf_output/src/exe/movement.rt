@@ -1,12 +1,10 @@
 //! What moves of modules that are laid out together and whose externals are derived.
 
-ghost use Rattle.std.specs.Prelude.{◌≡◌, ◌<◌, ◌^◌, List, IfOk, IfErr, length, map};
-ghost use Rattle.std.specs.List.{AllZip};
+ghost use Rattle.std.specs.Prelude.{◌≡◌, ◌<◌, ◌^◌, List, IfOk, IfErr, length, map, zip};
 ghost use Rattle.omf_check.specs.Module.{recs_of, typed_modules};
 ghost use Rattle.omf_placement.specs.Derive.{placed_modules};
-ghost use Rattle.omf_placement.specs.Derivation.{IsPlaceOf};
 ghost use Rattle.omf_placement.specs.Inner.Linkage.{IsLinkage};
-ghost use Rattle.omf_output.specs.Exe.Derived.{AreMovers, IsLowTable, IsMoversFault, Named, all_movers, based, external_moving, externals_moving, frame_at, frame_if, movers_in, moving_between, place_at, place_if};
+ghost use Rattle.omf_output.specs.Exe.Derived.{AreMovers, IsLowTable, IsMoversFault, Named, based_by, bases_in, completed, external_moving, externals_moving, frame_at, frame_if, moving_between, place_at, place_if};
 
 use crate::exe::groups::{LowTable, segments_moving};
 use crate::exe::movers::{Movers, Moving};
@@ -80,32 +78,50 @@ fn frames_of(alloc: Global, up: bool, moving: &[bool]) -> Result<Vec<Frame>, All
     Ok(frames)
 }
 
-/// The places of a module whose segments and groups are at address 0; if `up` is set, those that move are 16 bytes higher.
-fn based<'a>(
+/// What moves of a module, without its externals.
+fn bases_of<'a>(
     alloc: Global,
-    up: bool,
     table: &LowTable<'a>,
     module: &'a Checked,
-) -> Result<Placement, AllocError>
-    ensures { (ls : List Named) → IsLowTable table.now.by_name ls → IfOk result (λ p. p ≡ based up ls (recs_of «module».entry.now.bytes)) }
+) -> Result<Movers, AllocError>
+    ensures { (ls : List Named) → IsLowTable table.now.by_name ls → IfOk result (λ m. m ≡ bases_in ls (recs_of «module».entry.now.bytes)) }
 {
-    let segments = places_of(alloc, up, &segments_moving(alloc, module)?)?;
-    let groups = frames_of(alloc, up, &table.names_moving(alloc, module)?)?;
+    let segments = segments_moving(alloc, module)?;
+    let groups = table.names_moving(alloc, module)?;
+    Ok(Movers::of(segments, groups, Vec::new(alloc)))
+}
+
+/// What moves of all modules, without their externals.
+fn all_bases<'a>(
+    alloc: Global,
+    table: &LowTable<'a>,
+    modules: &'a [Checked],
+) -> Result<Vec<Movers>, AllocError>
+    ensures { (ls : List Named) → IsLowTable table.now.by_name ls → IfOk result (λ v. v.items ≡ map (bases_in ls) (typed_modules modules.entry.now)) }
+{
+    let mut bases = Vec::new(alloc);
+    for module in modules {
+        bases.push(bases_of(alloc, table, module)?)?;
+    }
+    Ok(bases)
+}
+
+/// The places of a module whose segments and groups are at address 0; if `up` is set, those that move are 16 bytes higher.
+fn based(alloc: Global, up: bool, bases: &Movers) -> Result<Placement, AllocError>
+    ensures { IfOk result (λ p. p ≡ based_by up bases.now) }
+{
+    let segments = places_of(alloc, up, bases.segments())?;
+    let groups = frames_of(alloc, up, bases.groups())?;
     Ok(Placement::of(segments, groups, Vec::new(alloc)))
 }
 
 /// These places of all modules.
-fn all_based<'a>(
-    alloc: Global,
-    up: bool,
-    table: &LowTable<'a>,
-    modules: &'a [Checked],
-) -> Result<Vec<Placement>, AllocError>
-    ensures { (ls : List Named) → IsLowTable table.now.by_name ls → IfOk result (λ v. v.items ≡ map (based up ls) (typed_modules modules.entry.now)) }
+fn all_based(alloc: Global, up: bool, bases: &[Movers]) -> Result<Vec<Placement>, AllocError>
+    ensures { IfOk result (λ v. v.items ≡ map (based_by up) bases.now) }
 {
     let mut placements = Vec::new(alloc);
-    for module in modules {
-        placements.push(based(alloc, up, table, module)?)?;
+    for of_module in bases {
+        placements.push(based(alloc, up, of_module)?)?;
     }
     Ok(placements)
 }
@@ -148,37 +164,23 @@ fn externals_moving(
     Ok(moving)
 }
 
-/// What moves of a module, by its two placements.
-fn movers_in<'a>(
-    alloc: Global,
-    table: &LowTable<'a>,
-    module: &'a Checked,
-    low: &Placement,
-    high: &Placement,
-) -> Result<Movers, AllocError>
-    ensures { (ls : List Named) → IsLowTable table.now.by_name ls → IfOk result (λ m. m ≡ movers_in ls (recs_of «module».entry.now.bytes, (low.now, high.now))) }
-{
-    let segments = segments_moving(alloc, module)?;
-    let groups = table.names_moving(alloc, module)?;
-    let externals = externals_moving(alloc, low, high)?;
-    Ok(Movers::of(segments, groups, externals))
-}
-
 /// What moves of all modules, by their two placements.
-fn all_movers<'a>(
+fn all_movers(
     alloc: Global,
-    table: &LowTable<'a>,
-    modules: &'a [Checked],
+    bases: Vec<Movers>,
     low: &[Placement],
     high: &[Placement],
 ) -> Result<Vec<Movers>, AllocError>
-    requires low { length low.now ≡ length modules.now }
-    requires high { length high.now ≡ length modules.now }
-    ensures { (ls : List Named) → IsLowTable table.now.by_name ls → IfOk result (λ v. v.items ≡ all_movers ls (typed_modules modules.entry.now) low.now high.now) }
+    requires low { length low.now ≡ length bases.items }
+    requires high { length high.now ≡ length bases.items }
+    ensures { IfOk result (λ v. v.items ≡ map completed (zip bases.items (zip low.now high.now))) }
 {
     let mut movers = Vec::new(alloc);
-    for (j, module) in modules.iter().enumerate() {
-        movers.push(movers_in(alloc, table, module, &low[j], &high[j])?)?;
+    let mut j = 0;
+    for of_module in bases {
+        let externals = externals_moving(alloc, &low[j], &high[j])?;
+        movers.push(of_module.with_externals(externals))?;
+        j += 1;
     }
     Ok(movers)
 }
@@ -210,11 +212,12 @@ pub fn movers_of(
     ensures fault { IfErr result (IsMoversFault (typed_modules modules.now) (placed_modules modules.now places.now) given.now) }
 {
     let table = LowTable::of(alloc, modules, places)?;
-    let at_0 = all_based(alloc, false, &table, modules)?;
+    let bases = all_bases(alloc, &table, modules)?;
+    let at_0 = all_based(alloc, false, &bases)?;
     let low_given = with_weak_linked(alloc, linkage, modules, &at_0, given)?;
-    let low = derive_linked(alloc, linkage, modules, &at_0, &low_given)?;
-    let higher = all_based(alloc, true, &table, modules)?;
+    let low = derive_linked(alloc, linkage, modules, at_0, &low_given)?;
+    let higher = all_based(alloc, true, &bases)?;
     let high_given = with_weak_linked(alloc, linkage, modules, &higher, given)?;
-    let high = derive_linked(alloc, linkage, modules, &higher, &high_given)?;
-    Ok(all_movers(alloc, &table, modules, &low, &high)?)
+    let high = derive_linked(alloc, linkage, modules, higher, &high_given)?;
+    Ok(all_movers(alloc, bases, &low, &high)?)
 }

@@ -1,17 +1,14 @@
 //! Which parts of a placement move with a program.
 
-ghost use Rattle.std.specs.Prelude.{◌≡◌, ◌++◌, ◌==◌, ◌&&◌, [], ◌∷◌, OnOk, OnErr, List, ℕ, length, option_map};
+ghost use Rattle.std.specs.Prelude.{◌≡◌, ◌++◌, ◌==◌, ◌&&◌, [], ◌∷◌, OnOk, OnErr, length};
 ghost use Rattle.omf_check.specs.Module.{recs_of};
-ghost use Rattle.omf_records.specs.Inner.Seen.{contents_seen, kind_seen};
-ghost use Rattle.omf_records.specs.Values.{SegmentItem};
-ghost use Rattle.omf_output.specs.Exe.Based.{same_flags};
-ghost use Rattle.omf_output.specs.Inner.Laying.{flags_left};
-ghost use Rattle.omf_output.specs.Exe.Members.{segdefs, segdefs_in};
+ghost use Rattle.omf_output.specs.Exe.Based.{same_flags, segments_moving};
 ghost use Rattle.omf_output.specs.Exe.Moved.{both, frame_moves, moves, moving_of, target_moves};
 
-use omf_check::{Checked, FrameMethod, TargetMethod, Undecoded, entry_of};
+use crate::exe::groups::is_movable;
+use omf_check::{Checked, FrameMethod, TargetMethod, entry_of};
 use omf_placement::Placement;
-use omf_records::{Kind, Rec};
+use omf_records::Kind;
 use std::alloc::{AllocError, Global};
 use std::marker::Model;
 
@@ -53,41 +50,22 @@ impl Model for Movers {
     ghost view = { λ m. record { segments = m.segments.items; groups = m.groups.items; externals = m.externals.items } };
 }
 
-/// The flags left after that of a record's segment, if it moves exactly if it is not absolute. A record that is no SEGDEF takes none.
-fn flags_after<'a>(left: &'a [bool], rec: &Rec<'_>) -> Option<&'a [bool]>
-    ensures { (rest : List (ℕ × SegmentItem)) → same_flags left.now (segdefs_in (kind_seen rec.now) (contents_seen rec.now) ++ rest) ≡ flags_left (option_map (λ b. b.now) result) rest }
-{
-    let Rec::Segment { segment, .. } = rec else {
-        return Some(left);
-    };
-    match left.split_first() {
-        Some((moves, rest)) if *moves == segment.absolute.is_none() => Some(rest),
-        Some(_) | None => None,
-    }
-}
-
-/// The same for a record that is not decoded yet. It is decoded only if it is a SEGDEF.
-fn undecoded_flags<'a>(left: &'a [bool], record: &Undecoded<'_>) -> Option<&'a [bool]>
-    ensures { (rest : List (ℕ × SegmentItem)) → same_flags left.now (segdefs_in «record».now.kind «record».now.contents ++ rest) ≡ flags_left (option_map (λ b. b.now) result) rest }
-{
-    match record.segment() {
-        Some(rec) => flags_after(left, &rec),
-        None => Some(left),
-    }
-}
-
 /// Whether these are the flags of a module's segments, each set exactly if its segment is not absolute.
 fn are_flags(flags: &[bool], module: &Checked) -> bool
-    ensures { result ≡ same_flags flags.now (segdefs (recs_of «module».now.bytes)) }
+    ensures { result ≡ same_flags flags.now (segments_moving (recs_of «module».now.bytes)) }
 {
-    let mut left = flags;
-    for (_place, record) in module.undecoded() {
-        match undecoded_flags(left, &record) {
-            Some(rest) => left = rest,
-            None => return false,
+    if flags.len() != usize::from(module.segments()) {
+        return false;
+    }
+    for before in 0..module.segments() {
+        let Some(segment) = module.segment(before + 1) else {
+            unreachable!()
+        };
+        if flags[usize::from(before)] != is_movable(&segment) {
+            return false;
         }
     }
-    left.is_empty()
+    true
 }
 
 impl Movers {
@@ -111,6 +89,31 @@ impl Movers {
             groups,
             externals,
         }
+    }
+
+    /// These with other externals.
+    pub fn with_externals(self, externals: Vec<Moving>) -> Movers
+        ensures { result ≡ record self { externals = externals.items } }
+    {
+        Movers {
+            segments: self.segments,
+            groups: self.groups,
+            externals,
+        }
+    }
+
+    /// Whether each segment moves.
+    pub fn segments(&self) -> &[bool]
+        ensures { result.now ≡ self.now.segments }
+    {
+        &self.segments
+    }
+
+    /// Whether each group moves.
+    pub fn groups(&self) -> &[bool]
+        ensures { result.now ≡ self.now.groups }
+    {
+        &self.groups
     }
 
     /// Adds whether the next segment moves.
@@ -192,7 +195,7 @@ impl Movers {
 
     /// Whether the segments of a module move exactly where they are not absolute.
     fn are_of_segments(&self, module: &Checked) -> bool
-        ensures { result ≡ same_flags self.now.segments (segdefs (recs_of «module».now.bytes)) }
+        ensures { result ≡ same_flags self.now.segments (segments_moving (recs_of «module».now.bytes)) }
     {
         are_flags(&self.segments, module)
     }
@@ -200,7 +203,7 @@ impl Movers {
     /// Whether these are the movers of a module at its placement: there is one for each entry of the placement, and a segment moves exactly
     /// if it is not absolute.
     pub(crate) fn are_of(&self, module: &Checked, placement: &Placement) -> bool
-        ensures { result ≡ (same_flags self.now.segments (segdefs (recs_of «module».now.bytes)) && ((length self.now.groups == length placement.now.groups) && (length self.now.externals == length placement.now.externals))) }
+        ensures { result ≡ (same_flags self.now.segments (segments_moving (recs_of «module».now.bytes)) && ((length self.now.groups == length placement.now.groups) && (length self.now.externals == length placement.now.externals))) }
     {
         self.are_of_segments(module)
             && self.groups.len() == placement.group_count()

@@ -1,9 +1,8 @@
-use Rattle.std.proofs.Common.{◌≡◌, ◌++◌, List, drop}
+use Rattle.std.proofs.Common.{◌≡◌, ◌++◌, drop}
 use Rattle.std.specs.Prelude.{map}
-use Rattle.omf_check.specs.Module.{typed_modules}
-use Rattle.omf_output.specs.Exe.Derived.{IsLowTable, Named, based}
+use Rattle.omf_output.specs.Exe.Derived.{based_by}
 use Rattle.omf_output.proofs.exe.movement.all_based.Given as goal
 
 -- the placements so far, and those of the modules that are left
-abbrev pub invariant-loop-module : goal.invariant-loop-module
-invariant-loop-module l = (ls : List Named) → IsLowTable l.table.by_name ls → l.placements.items ++ map (based l.up ls) (typed_modules (drop l.module-index l.modules)) ≡ map (based l.up ls) (typed_modules l.modules)
+abbrev pub invariant-loop-of_module : goal.invariant-loop-of_module
+invariant-loop-of_module l = l.placements.items ++ map (based_by l.up) (drop l.of_module-index l.bases) ≡ map (based_by l.up) l.bases

@@ -1,10 +1,12 @@
-use Rattle.std.proofs.Common.{◌≡◌, ◌++◌, List, drop}
+use Rattle.std.proofs.Common.{◌≡◌, ◌+◌, ◌++◌, drop, length}
 use Rattle.std.specs.Prelude.{map, zip}
-use Rattle.omf_check.specs.Module.{typed_modules}
-use Rattle.omf_output.specs.Exe.Derived.{IsLowTable, Named, all_movers, movers_in}
+use Rattle.std.specs.Vec.Iter.{into_iter_items}
+use Rattle.omf_output.specs.Exe.Derived.{completed}
 use Rattle.omf_output.proofs.exe.movement.all_movers.Given as goal
 
 -- the movers so far, and those of the modules that are left
-abbrev pub invariant-loop-j : goal.invariant-loop-j
-invariant-loop-j l = (ls : List Named) → IsLowTable l.table.by_name ls
-    → l.movers.items ++ map (movers_in ls) (drop l.j (zip (typed_modules l.modules) (zip l.low l.high))) ≡ all_movers ls (typed_modules l.modules) l.low l.high
+abbrev pub invariant-loop-of_module : goal.invariant-loop-of_module
+invariant-loop-of_module l = record {
+  so_far : l.movers.items ++ map completed (zip (into_iter_items l.of_module-iterator) (zip (drop l.j l.low) (drop l.j l.high))) ≡ map completed (zip l.fn.bases.items (zip l.low l.high));
+  counted : l.j + length (into_iter_items l.of_module-iterator) ≡ length l.fn.bases.items;
+}

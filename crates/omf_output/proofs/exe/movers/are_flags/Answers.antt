@@ -1,18 +1,33 @@
-use Rattle.std.proofs.Common.{◌∙◌, ap}
-use Rattle.omf_check.specs.Module.{records_in}
-use Rattle.omf_reloc.proofs.WalkedLaws.{records-listed}
-use Rattle.omf_output.specs.Exe.Based.{same_flags}
-use Rattle.omf_output.specs.Exe.Members.{segdefs}
-use Rattle.omf_output.proofs.FitLaws.{flags-none, without_places_of}
+use Rattle.std.proofs.Common.{◌<◌, ◌∙◌, ap, sym, arith, length, false, get_or}
+use Rattle.std.specs.Prelude.{not}
+use mathlib.Core.Bool.{beq}
+use Rattle.omf_check.specs.Module.{recs_of}
+use Rattle.omf_check.specs.Tables.{segments}
+use Rattle.omf_output.specs.Exe.Based.{segments_moving}
+use Rattle.omf_output.proofs.FlagLaws.{flag-agrees, flag-differs, flags-differ, many-flags, none-entered}
 use Rattle.omf_output.proofs.exe.movers.are_flags.Goals as goal
 
-pub loop-place-init : goal.loop-place-init
-loop-place-init c =
-    let r = c.undecoded-place-items in
-    let e = ap without_places_of (c.into_iter-place-iterator.ensures.into_iter_gives ∙ r.ensures.listed) ∙ records-listed 0 0 (records_in c.args.module.now.bytes) in
-    ap (λ l. same_flags c.args.flags.now (segdefs l)) e
+pub returns-then-flags-from : goal.returns-then-flags-from
+returns-then-flags-from c =
+    let m = recs_of c.args.«module».now.bytes in
+    sym (flags-differ c.args.flags.now (segments_moving m) (λ e. c.if-flags-from.true (e ∙ many-flags m ∙ sym (c.from.ensures ∙ c.segments.ensures.count))))
 
-pub returns : goal.returns
-returns c =
-    c.is_empty.ensures ∙ flags-none c.loop-place.left.now (segdefs (without_places_of c.loop-place._place-iterator)) (ap (λ l. segdefs (without_places_of l)) c.in-None.ensures.steps.0)
-    ∙ c.loop-place.invariant
+pub unreachable-requires : goal.unreachable-requires
+unreachable-requires c =
+    let m = recs_of c.args.«module».now.bytes in
+    none-entered (segments m) c.loop-before.before (sym c.segment.ensures ∙ c.in_default.is) (omega (arith, c.loop-before-test.true, c.loop-before.invariant.end))
+
+pub returns-then-flags-from-2 : goal.returns-then-flags-from-2
+returns-then-flags-from-2 c =
+    let m = recs_of c.args.«module».now.bytes in
+    let low : c.loop-before.before < length c.args.flags.now = omega (arith, c.loop-before-test.true, c.if-flags-from.false, c.from.ensures, c.segments.ensures.count, c.loop-before.invariant.end) in
+    sym (flag-differs c.args.flags.now m c.loop-before.before c.in-Some.segment c.is_movable.result low (sym c.segment.ensures ∙ c.in-Some.is) c.is_movable.ensures (ap (λ k. not (beq (get_or c.args.flags.now k false) c.is_movable.result)) (sym c.from-in-loop-before.ensures) ∙ c.if-flags-from-2.true)) ∙ c.loop-before.invariant.left
+
+pub loop-before-preserved : goal.loop-before-preserved
+loop-before-preserved c =
+    let m = recs_of c.args.«module».now.bytes in
+    let low : c.loop-before.before < length c.args.flags.now = omega (arith, c.loop-before-test.true, c.if-flags-from.false, c.from.ensures, c.segments.ensures.count, c.loop-before.invariant.end) in
+    record {
+      left = flag-agrees c.args.flags.now m c.loop-before.before c.in-Some.segment c.is_movable.result low (sym c.segment.ensures ∙ c.in-Some.is) c.is_movable.ensures (ap (λ k. not (beq (get_or c.args.flags.now k false) c.is_movable.result)) (sym c.from-in-loop-before.ensures) ∙ c.if-flags-from-2.false) ∙ c.loop-before.invariant.left;
+      end = c.loop-before.invariant.end;
+    }
