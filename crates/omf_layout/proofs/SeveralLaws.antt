@@ -8,3 +8,4 @@ pub mod OnceLaws
 pub mod LowLaws
 pub mod FoundLaws
 pub mod FitLaws
+pub mod KnownLaws

@@ -78,21 +78,8 @@ one-more g old new all x k n h e f whole =
     ∙ append_assoc old (g k ∷ []) (map g (range_with_len (k + 1) (n - (k + 1))))
     ∙ ap (λ j. old ++ map g (range_with_len k j)) (sym next) ∙ whole
 
--- The same, of those that have a value.
+-- Numbers of a range, of which all have a value.
 module _ {A : Type 0} (g : ℕ → Option A) where
-  pub kept-more : (old new all : List A) (x : A) (k n : ℕ) → k < n → g k ≡ Some x → new ≡ old ++ x ∷ [] → old ++ filter_map g (range_with_len k (n - k)) ≡ all → new ++ filter_map g (range_with_len (k + 1) (n - (k + 1))) ≡ all
-  kept-more old new all x k n h e f whole =
-      let next : n - k ≡ suc (n - (k + 1)) = omega arith in
-      let rest = filter_map g (range_with_len (k + 1) (n - (k + 1))) in
-      ap (λ xs. xs ++ rest) f ∙ append_assoc old (x ∷ []) rest ∙ ap (λ o. old ++ cons_option o rest) (sym e)
-      ∙ ap (λ j. old ++ filter_map g (range_with_len k j)) (sym next) ∙ whole
-
-  pub passed-over : (old all : List A) (k n : ℕ) → k < n → g k ≡ None → old ++ filter_map g (range_with_len k (n - k)) ≡ all → old ++ filter_map g (range_with_len (k + 1) (n - (k + 1))) ≡ all
-  passed-over old all k n h e whole =
-      let next : n - k ≡ suc (n - (k + 1)) = omega arith in
-      let rest = filter_map g (range_with_len (k + 1) (n - (k + 1))) in
-      ap (λ o. old ++ cons_option o rest) (sym e) ∙ ap (λ j. old ++ filter_map g (range_with_len k j)) (sym next) ∙ whole
-
   -- All of them have one.
   abbrev pub HaveAll : ℕ → ℕ → Type 0
   HaveAll a n = (i : ℕ) → a ≤ i → i < a + n → (x : A) × (g i ≡ Some x)

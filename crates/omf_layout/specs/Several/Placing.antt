@@ -1,8 +1,7 @@
 -- The placements of several modules: the places of each module's segments, and the frames of its groups (this profile's rule).
 use Rattle.std.specs.Prelude.{◌≡◌, ℕ, List, [], ◌++◌, length, map, flat_map, filter_map, find, zip, Option, unwrap_or, option_map, option_and_then, ◌==◌, ◌&&◌, Bool}
 use Rattle.std.specs.List.{range_with_len, enumerate_from}
-use Rattle.std.specs.BTreeMap.{BTreeMap, get, get_by}
-use Rattle.std.specs.Ordering.{nat_cmp, ordering_then}
+use Rattle.std.specs.BTreeMap.{BTreeMap, get_by}
 use denote.Ref.{Bor}
 use Rattle.omf_names.specs.Names.{name_cmp}
 use Rattle.omf_records.specs.Values.{Rec, GroupItem}
@@ -65,10 +64,6 @@ all_with_frames frames ms xs = map (with_frames frames (lows ms xs)) (zip ms xs)
 -- The placements of all modules, and the first free address after all segments; none if one does not fit.
 abbrev pub arranged_places : Options → List (List Rec) → Option (Laid (List Places))
 arranged_places o ms = option_map (λ l. laid (all_with_frames o.frames ms (all_segments_in l.what ms)) l.free) (arranged o ms)
-
--- A table of laid segments, by module and index: it has the place of each.
-abbrev pub IsPlaceTable : BTreeMap (ℕ × ℕ) Placed → List Lying → Type 0
-IsPlaceTable m ls = (j i : ℕ) → get (λ x y. ordering_then (nat_cmp x.0 y.0) (nat_cmp x.1 y.1)) m (j, i) ≡ place_in ls j i
 
 -- A table of lowest places by name.
 abbrev pub IsLowTable : BTreeMap (Bor (List ℕ)) Placed → List (Named Placed) → Type 0

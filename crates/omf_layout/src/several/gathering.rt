@@ -39,12 +39,13 @@ impl<'a, T: Drop> Gathering<'a, T> {
         requires { (xs : List (List ℕ × T)) × AreGathered self.old.places (map (λ r. r.items) self.old.runs.items) xs }
         ensures { (xs : List (List ℕ × T)) → AreGathered self.old.places (map (λ r. r.items) self.old.runs.items) xs → OnOk result (AreGathered self.new.places (map (λ r. r.items) self.new.runs.items) (xs ++ (name.entry.now, value) ∷ [])) }
     {
-        match self.places.insert(NameKey::of(name), self.runs.len())? {
-            Some(place) => {
-                self.places.insert(NameKey::of(name), place)?;
-                add_at(&mut self.runs, place, value)
+        let place = self.places.get(&NameKey::of(name)).copied();
+        match place {
+            Some(place) => add_at(&mut self.runs, place, value),
+            None => {
+                self.places.insert(NameKey::of(name), self.runs.len())?;
+                add_run(alloc, &mut self.runs, value)
             }
-            None => add_run(alloc, &mut self.runs, value),
         }
     }
 }

@@ -48,7 +48,6 @@ fn placements_at(
     frames: Frames,
     lying: &[Lying],
 ) -> Result<Vec<Placement>, AllocError>
-    requires { length modules.now < 2 ^ 32 }
     ensures { IfOk result (λ v. v.items ≡ all_with_frames frames (typed_modules modules.now) (all_segments_in lying.now (typed_modules modules.now))) }
 {
     let segments = segments_of(alloc, modules, lying)?;
