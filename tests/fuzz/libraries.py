@@ -226,7 +226,7 @@ def names_of_one_hash(count):
 
 def try_long_searches(program):
     """Each name of the first library has a block of its own, which a search reaches after half of the others. The names of the second one fill
-    200 blocks and more, of 24 names each at most, and all searches begin in one block."""
+    200 blocks and more, of 24 names each at most, and all searches begin in one block. Names that are numbered in order become a library."""
     blocks = b"".join(full_block(b"x" * 251 + struct.pack("<I", it)) for it in range(1500))
     with tempfile.TemporaryDirectory() as folder:
         with open(f"{folder}/x.lib", "wb") as it:
@@ -242,7 +242,14 @@ def try_long_searches(program):
             assert status == (count > 100), f"{count} names of one hash: {lines}"
         assert lines == [f"refused {folder}/5000.lib: the searches for its names would be too long"] and not os.path.exists(f"{folder}/5000.lib")
         try_file(program, f"{folder}/100.lib")
-    print("long searches: fault 16, and make refuses")
+        for form in ("_n%06d", "sub_%05X"):
+            with open(f"{folder}/numbered.obj", "wb") as it:
+                it.write(module(b"", [(form % number).encode() for number in range(4000)]))
+            lines, status = run(program, "make", "-o", f"{folder}/{form}.lib", f"{folder}/numbered.obj")
+            assert status == 0, f"numbered names: {lines}"
+            lines, status = run(program, "check", f"{folder}/{form}.lib")
+            assert status == 0, f"numbered names: {lines[0]}"
+    print("long searches: fault 16, and make refuses, but not numbered names")
 
 
 if __name__ == "__main__":

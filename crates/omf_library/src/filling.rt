@@ -3,11 +3,12 @@
 
 ghost use Rattle.std.specs.Prelude.{◌≡◌, ◌+◌, ◌*◌, ◌<◌, ◌≤◌, ◌^◌, length};
 
-use crate::dictionary::{BLOCK, Dictionary, Look, look_of};
+use crate::dictionary::BLOCK;
+use crate::entries::{Entry, First, entries_of};
 use crate::hash::{BUCKETS, Probe, probe_of};
 use crate::making::{MakeFault, Part};
-use crate::names::{Defined, Kind, is_strong};
-use crate::search::{Rule, credit_of, hash_cost, look_cost};
+use crate::names::is_strong;
+use crate::search::{credit_of, hash_cost, looks_cost};
 use std::alloc::{AllocError, Global};
 
 /// The page sizes.
@@ -31,30 +32,7 @@ const FIRST_ENTRY: u8 = (BUCKETS as u8 + 1) / 2;
 const SEARCHES: u64 = 3;
 
 /// What an empty block costs, as searches are counted.
-const EMPTY: u64 = 64;
-
-/// The filling may cost this many times what the searches may.
-const TRIES: u64 = 2;
-
-/// Where a block has a place for a name.
-enum Slot {
-    /// At this empty bucket.
-    Free(usize),
-    /// The name is there, with this page.
-    Twice(u16),
-    /// No bucket is empty.
-    Full,
-}
-
-/// What came of putting an entry.
-#[derive(Clone, Copy)]
-enum Placed {
-    Done,
-    /// The name is there, with this page.
-    Twice(u16),
-    /// The block, or each of them, has no room.
-    Full,
-}
+const EMPTY: u64 = 1024;
 
 /// The number of pages that a module takes.
 fn pages_of(page: usize, length: usize) -> usize {
@@ -75,35 +53,31 @@ fn page_for(parts: &[Part]) -> Option<usize> {
     PAGES.iter().copied().find(|page| is_numbered(*page, parts))
 }
 
-/// An entry that is put: a name, and the page of its member.
+/// An empty bucket of a block.
 #[derive(Clone, Copy)]
-struct Entry<'a> {
-    is_case_sensitive: bool,
-    name: &'a [u8],
-    page: u16,
+struct Slot {
+    bucket: usize,
+    /// How many buckets were looked at, with this one.
+    looks: u8,
 }
 
-/// Where a block has a place for an entry, and adds what it cost to look for it. Buckets with one entry, one after another, as
-/// those of a closed block, are compared with the name once.
-fn slot_of(block: &[u8], probe: Probe, entry: Entry<'_>, cost: &mut u64) -> Slot
+/// The empty bucket of a block at which a search for a name ends.
+fn slot_of(block: &[u8], probe: Probe) -> Option<Slot>
     requires whole { 37 ≤ length block.now }
     requires bucket { probe.bucket < 37 }
     requires step { probe.bucket_step < 37 }
 {
     let mut bucket = probe.bucket;
-    let mut other = 0;
-    for _looked in 0..BUCKETS {
-        if other == 0 || block[bucket] != other {
-            *cost = cost.saturating_add(look_cost(block, bucket, entry.name));
-            match look_of(entry.is_case_sensitive, block, bucket, entry.name) {
-                Look::Empty => return Slot::Free(bucket),
-                Look::Found(page) => return Slot::Twice(page),
-                Look::Other => other = block[bucket],
-            }
+    for looked in 1..=BUCKETS as u8 {
+        if block[bucket] == 0 {
+            return Some(Slot {
+                bucket,
+                looks: looked,
+            });
         }
         bucket = (bucket + probe.bucket_step) % BUCKETS;
     }
-    Slot::Full
+    None
 }
 
 /// Writes a byte, if the index is inside.
@@ -138,29 +112,39 @@ fn write_entry(block: &mut [u8], bucket: usize, entry: Entry<'_>) -> bool {
 }
 
 /// Marks a block as full. Its empty buckets point to its first entry, so that no search ends at one of them: each looks
-/// at all buckets, and goes on in the next block at the bucket where it began, by both rules.
-fn close_block(block: &mut [u8]) {
+/// at all buckets, and goes on in the next block at the bucket where it began, by both rules. Returns how many of the looks
+/// count at most: buckets with one entry, one after another, count once.
+fn close_block(block: &mut [u8]) -> u8 {
+    let mut entries = 0u8;
     for bucket in 0..BUCKETS {
         if block.get(bucket) == Some(&0) {
             set(block, bucket, FIRST_ENTRY);
+        } else {
+            entries = entries.saturating_add(1);
         }
     }
     set(block, BUCKETS, FULL);
+    entries.saturating_mul(2).clamp(1, BUCKETS as u8)
+}
+
+/// What came of putting an entry into a block.
+#[derive(Clone, Copy)]
+enum Placed {
+    /// It is there, and a search for it looks at this many buckets.
+    Done(u8),
+    /// There is no room. The block is closed now, and a search looks at this many of its buckets at most.
+    Closed(u8),
 }
 
 /// Puts an entry into a block. A block that has no room for it is full from then on.
-fn put_in_block(block: &mut [u8], probe: Probe, entry: Entry<'_>, cost: &mut u64) -> Placed
+fn put_in_block(block: &mut [u8], probe: Probe, entry: Entry<'_>) -> Placed
     requires whole { 37 ≤ length block.old }
     requires bucket { probe.bucket < 37 }
     requires step { probe.bucket_step < 37 }
 {
-    match slot_of(block, probe, entry, cost) {
-        Slot::Twice(page) => Placed::Twice(page),
-        Slot::Free(bucket) if write_entry(block, bucket, entry) => Placed::Done,
-        Slot::Free(_) | Slot::Full => {
-            close_block(block);
-            Placed::Full
-        }
+    match slot_of(block, probe) {
+        Some(slot) if write_entry(block, slot.bucket, entry) => Placed::Done(slot.looks),
+        Some(_) | None => Placed::Closed(close_block(block)),
     }
 }
 
@@ -168,40 +152,62 @@ fn put_in_block(block: &mut [u8], probe: Probe, entry: Entry<'_>, cost: &mut u64
 #[derive(Drop)]
 struct Filled {
     blocks: Vec<u8>,
-    is_case_sensitive: bool,
+    /// For each block 0, or, once it is closed, how many of its buckets a search looks at, at most.
+    closed: Vec<u8>,
     /// The bytes that its entries take.
     used: usize,
-    /// What the filling may still cost, as searches are counted. At 0 it ends.
-    credit: u64,
+    /// What the searches of a check may still cost. At 0 they are too long.
+    searches: u64,
 }
 
-/// Puts an entry into a dictionary, where both searches find it, and takes what it cost from the credit. It ends at 0.
-fn put_entry(blocks: &mut [u8], entry: Entry<'_>, credit: &mut u64) -> Placed {
+/// Puts an entry into a dictionary, where both searches find it. Returns how many buckets a search for it looks at, at most;
+/// None if no block has room. Closed blocks are passed, as they have no name twice.
+fn put_entry(blocks: &mut [u8], closed: &mut [u8], entry: Entry<'_>) -> Option<u64> {
     let count = blocks.len() / BLOCK;
     if count == 0 {
-        return Placed::Full;
+        return None;
     }
     let probe = probe_of(count, entry.name);
     let mut number = probe.block;
-    let mut cost = hash_cost(entry.name);
-    let mut placed = Placed::Full;
+    let mut looks = 0u64;
     for _passed in 0..count {
         let start = BLOCK * number;
-        placed = put_in_block(&mut blocks[start..start + BLOCK], probe, entry, &mut cost);
-        if cost >= *credit || !matches!(placed, Placed::Full) {
-            break;
+        if closed.get(number) == Some(&0) {
+            match put_in_block(&mut blocks[start..start + BLOCK], probe, entry) {
+                Placed::Done(own) => return Some(looks.saturating_add(u64::from(own))),
+                Placed::Closed(most) => set(closed, number, most),
+            }
+        }
+        if let Some(most) = closed.get(number) {
+            looks = looks.saturating_add(u64::from(*most));
         }
         number = (number + probe.block_step) % count;
     }
-    *credit = credit.saturating_sub(cost);
-    placed
+    None
 }
 
-/// The number of a part's first page.
-#[derive(Clone, Copy)]
-struct First {
-    part: usize,
-    page: u16,
+/// Puts the entries of a dictionary, and takes what that cost from the credit. Returns whether each has a place, and the
+/// blocks are not too full, and the searches not too long; it ends where they are.
+fn put_all(filled: &mut Filled, entries: &[Entry<'_>], credit: &mut u64) -> bool {
+    let count = filled.blocks.len() / BLOCK;
+    for entry in entries {
+        if entry.times == 0 {
+            continue;
+        }
+        let Some(looks) = put_entry(&mut filled.blocks, &mut filled.closed, *entry) else {
+            return false;
+        };
+        let cost = hash_cost(entry.name);
+        *credit = credit.saturating_sub(cost.saturating_add(looks));
+        let search = cost.saturating_add(looks_cost(entry.name, looks));
+        let searches = search.saturating_mul(SEARCHES).saturating_mul(entry.times);
+        filled.searches = filled.searches.saturating_sub(searches);
+        filled.used = filled.used.saturating_add(entry_size(entry.name));
+        if *credit == 0 || filled.searches == 0 || !has_room(count, filled.used) {
+            return false;
+        }
+    }
+    true
 }
 
 /// The first pages of the parts.
@@ -221,85 +227,6 @@ fn first_pages(alloc: Global, page: usize, parts: &[Part]) -> Result<Vec<First>,
     Ok(pages)
 }
 
-/// The part that begins at a page.
-fn part_at(pages: &[First], page: u16) -> usize {
-    match pages.iter().find(|first| first.page == page) {
-        Some(first) => first.part,
-        None => 0,
-    }
-}
-
-/// Which names of the parts are put.
-#[derive(Clone, Copy, PartialEq, Eq)]
-enum Turn {
-    /// Publics and imports. None may be there already.
-    Strong,
-    /// Communals that are not there already.
-    Communal,
-}
-
-/// Whether a name is put in a turn.
-fn has_turn(turn: Turn, kind: Kind) -> bool {
-    match turn {
-        Turn::Strong => is_strong(kind),
-        Turn::Communal => !is_strong(kind),
-    }
-}
-
-/// Puts the names of a part that have their turn. Returns whether each has a place, and the blocks are not too full; it ends
-/// where they are.
-fn put_names(
-    filled: &mut Filled,
-    turn: Turn,
-    pages: &[First],
-    first: First,
-    names: &[Defined],
-) -> Result<bool, MakeFault> {
-    for (number, defined) in names.iter().enumerate() {
-        if !has_turn(turn, defined.kind) {
-            continue;
-        }
-        let entry = Entry {
-            is_case_sensitive: filled.is_case_sensitive,
-            name: defined.name.as_slice(),
-            page: first.page,
-        };
-        match put_entry(&mut filled.blocks, entry, &mut filled.credit) {
-            Placed::Done => {
-                filled.used = filled.used.saturating_add(entry_size(entry.name));
-                if !has_room(filled.blocks.len() / BLOCK, filled.used) {
-                    return Ok(false);
-                }
-            }
-            Placed::Full => return Ok(false),
-            Placed::Twice(_) if turn == Turn::Communal => {}
-            Placed::Twice(page) => {
-                return Err(MakeFault::Twice {
-                    first: part_at(pages, page),
-                    second: first.part,
-                    name: number,
-                });
-            }
-        }
-    }
-    Ok(true)
-}
-
-/// Puts the names of all parts that have their turn. Returns whether each has a place.
-fn put_all(
-    filled: &mut Filled,
-    turn: Turn,
-    pages: &[First],
-    parts: &[Part],
-) -> Result<bool, MakeFault> {
-    for (first, part) in pages.iter().zip(parts) {
-        if !put_names(filled, turn, pages, *first, part.names.as_slice())? {
-            return Ok(false);
-        }
-    }
-    Ok(true)
-}
-
 /// Empty blocks: the free space of each begins after its buckets and its mark.
 fn empty_blocks(alloc: Global, count: usize) -> Result<Vec<u8>, AllocError>
     requires { count < 65536 }
@@ -316,61 +243,32 @@ fn has_room(count: usize, used: usize) -> bool {
     used.saturating_add(used / 4) <= count.saturating_mul(ROOM)
 }
 
-/// What the searches for names cost that a check of the library makes. It ends at `most`.
-fn names_cost(dictionary: Dictionary<'_>, names: &[Defined], most: u64) -> u64 {
-    let mut cost = 0u64;
-    for defined in names {
-        if cost >= most {
-            break;
-        }
-        let sought = dictionary.search(Rule::Restart, defined.name.as_slice());
-        cost = cost.saturating_add(sought.cost.saturating_mul(SEARCHES));
-    }
-    cost
-}
-
-/// What the searches for the names of all parts cost. It ends at `most`.
-fn search_cost(filled: &Filled, parts: &[Part], most: u64) -> u64 {
-    let dictionary = Dictionary {
-        bytes: filled.blocks.as_slice(),
-        is_case_sensitive: filled.is_case_sensitive,
-    };
-    let mut cost = 0u64;
-    for part in parts {
-        if cost >= most {
-            break;
-        }
-        let names = part.names.as_slice();
-        cost = cost.saturating_add(names_cost(dictionary, names, most - cost));
-    }
-    cost
-}
-
-/// Whether the searches for the names cost less than a check of the library allows.
-fn is_short(filled: &mut Filled, parts: &[Part]) -> bool {
-    let allowed = credit_of(size_of(parts).saturating_add(filled.blocks.len()));
-    let most = allowed.min(filled.credit);
-    let cost = search_cost(filled, parts, most);
-    filled.credit = filled.credit.saturating_sub(cost);
-    cost < most
-}
-
-/// Fills a dictionary in this number of blocks. Returns whether each name has a place, and the blocks are not too full.
+/// Fills a dictionary in this number of blocks, and takes what that cost from the credit. Returns its bytes if each entry has
+/// a place, and the blocks are not too full, and the searches of a check not too long.
 fn fill(
     alloc: Global,
-    filled: &mut Filled,
     count: usize,
-    pages: &[First],
-    parts: &[Part],
-) -> Result<bool, MakeFault>
+    size: usize,
+    entries: &[Entry<'_>],
+    credit: &mut u64,
+) -> Result<Option<Vec<u8>>, AllocError>
     requires { count < 65536 }
 {
-    filled.blocks = empty_blocks(alloc, count)?;
-    filled.used = 0;
-    filled.credit = filled.credit.saturating_sub(count as u64 * EMPTY);
-    let is_whole = put_all(filled, Turn::Strong, pages, parts)?
-        && put_all(filled, Turn::Communal, pages, parts)?;
-    Ok(is_whole && has_room(count, filled.used) && is_short(filled, parts))
+    *credit = credit.saturating_sub(count as u64 * EMPTY);
+    if *credit == 0 {
+        return Ok(None);
+    }
+    let mut filled = Filled {
+        blocks: empty_blocks(alloc, count)?,
+        closed: vec![in alloc; 0u8; count]?,
+        used: 0,
+        searches: credit_of(size.saturating_add(count * BLOCK)),
+    };
+    if put_all(&mut filled, entries, credit) {
+        Ok(Some(filled.blocks))
+    } else {
+        Ok(None)
+    }
 }
 
 /// Whether a number from 2 to 65,535 is prime.
@@ -418,26 +316,22 @@ fn size_of(parts: &[Part]) -> usize {
     size
 }
 
-/// The dictionary of the parts: the least number of blocks is tried first, then primes that grow by a quarter.
+/// The dictionary of the parts: the least number of blocks is tried first, then primes that grow by a quarter. All together
+/// may cost what the searches of a library of this size may.
 fn dictionary_of(
     alloc: Global,
-    is_case_sensitive: bool,
-    pages: &[First],
     parts: &[Part],
+    entries: &[Entry<'_>],
 ) -> Result<Vec<u8>, MakeFault> {
-    let mut filled = Filled {
-        blocks: Vec::new(alloc),
-        is_case_sensitive,
-        used: 0,
-        credit: credit_of(size_of(parts)).saturating_mul(TRIES),
-    };
+    let size = size_of(parts);
+    let mut credit = credit_of(size);
     let mut next = least_blocks(parts);
     for count in 2..=MOST_BLOCKS {
         if count >= next && is_prime(count) {
-            if fill(alloc, &mut filled, count, pages, parts)? {
-                return Ok(filled.blocks);
+            if let Some(blocks) = fill(alloc, count, size, entries, &mut credit)? {
+                return Ok(blocks);
             }
-            if filled.credit == 0 {
+            if credit == 0 {
                 return Err(MakeFault::LongSearches);
             }
             next = count + count / 4 + 1;
@@ -497,7 +391,8 @@ pub fn build(alloc: Global, is_case_sensitive: bool, parts: &[Part]) -> Result<V
         return Err(MakeFault::TooLarge);
     };
     let pages = first_pages(alloc, page, parts)?;
-    let blocks = dictionary_of(alloc, is_case_sensitive, &pages, parts)?;
+    let entries = entries_of(alloc, is_case_sensitive, &pages, parts)?;
+    let blocks = dictionary_of(alloc, parts, &entries)?;
     let end = end_of(page, parts);
     let filling = end_length(end);
     let dictionary = end.saturating_add(3).saturating_add(usize::from(filling));

@@ -11,6 +11,7 @@
 
 mod account;
 mod dictionary;
+mod entries;
 mod fault;
 mod filling;
 mod hash;

@@ -13,7 +13,7 @@ const LOOK: u64 = 4;
 const HASHED: u64 = 4;
 
 /// What the searches of a library may cost, whatever its size.
-const FIRST_CREDIT: u64 = 1 << 26;
+const FIRST_CREDIT: u64 = 1 << 20;
 
 /// What the searches of a library may cost for each of its bytes.
 const CREDIT: u64 = 64;
@@ -71,7 +71,7 @@ pub(crate) fn hash_cost(name: &[u8]) -> u64 {
 }
 
 /// What it costs to look at a bucket: the name is compared with those that are as long.
-pub(crate) fn look_cost(block: &[u8], bucket: usize, name: &[u8]) -> u64
+fn look_cost(block: &[u8], bucket: usize, name: &[u8]) -> u64
     requires { bucket < length block.now }
 {
     if entry_length(block, bucket) == Some(name.len()) {
@@ -79,6 +79,11 @@ pub(crate) fn look_cost(block: &[u8], bucket: usize, name: &[u8]) -> u64
     } else {
         LOOK
     }
+}
+
+/// What it costs at most to look at this many buckets for a name.
+pub(crate) fn looks_cost(name: &[u8], looks: u64) -> u64 {
+    looks.saturating_mul(LOOK.saturating_add(name.len() as u64))
 }
 
 /// Searches a block, and adds what it cost. Buckets with one entry, one after another, are compared with the name once.

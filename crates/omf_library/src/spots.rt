@@ -23,7 +23,7 @@ fn defined_at<'a>(parts: &'a [Part], spot: Spot) -> Option<&'a Defined> {
 }
 
 /// How two names are in order: by their lengths, then by their characters as they are compared.
-fn name_order(is_case_sensitive: bool, one: &[u8], other: &[u8]) -> Ordering {
+pub(crate) fn name_order(is_case_sensitive: bool, one: &[u8], other: &[u8]) -> Ordering {
     if one.len() != other.len() {
         return one.len().cmp(&other.len());
     }
