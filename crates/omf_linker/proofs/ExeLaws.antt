@@ -1,13 +1,15 @@
 -- The modules of a program, one after another; and as many placements and movers as modules.
-use Rattle.std.proofs.Common.{◌≡◌, ℕ, zero, suc, ◌+◌, ◌<◌, ◌≤◌, ◌∙◌, List, [], ◌∷◌, ◌++◌, length, drop, get_or, refl, sym, ap, arith, append-nil, append_assoc, true, false}
+use Rattle.std.proofs.Common.{◌≡◌, ℕ, zero, suc, ◌+◌, ◌<◌, ◌≤◌, ◌∙◌, List, [], ◌∷◌, ◌++◌, length, drop, get_or, refl, sym, ap, arith, append-nil, append_assoc, true, false, inl, inr}
 use Rattle.std.proofs.Math.Seq.{drop-nil}
-use Rattle.std.specs.Prelude.{zip, Some, Ok}
+use Rattle.std.specs.Prelude.{◌⊎◌, zip, Some, Ok, Err, IsOk}
 use Rattle.std.specs.List.{AllZip}
 use Rattle.std.proofs.lemmas.List.{length-map}
 use Rattle.std.proofs.lemmas.Option.{slice_get-get_or}
 use Rattle.omf_records.specs.Values.{Rec}
 use Rattle.omf_check.specs.Module.{Module, records_in, typed_modules}
 use Rattle.omf_check.specs.WellFormed.{recs}
+use Rattle.omf_placement.specs.declared.several.fault.DeriveFault.{DeriveFault}
+use Rattle.omf_placement.specs.declared.several.fault.DeriveFault.TheVariants as fault
 use Rattle.omf_placement.specs.declared.several.given.Given.{Given}
 use Rattle.omf_placement.specs.Derivation.{IsPlaceOf, KeepsPlace}
 use Rattle.omf_placement.specs.Derive.{PlacedModule, placed_modules}
@@ -21,7 +23,7 @@ use Rattle.omf_output.specs.Exe.Moved.{Movers}
 use Rattle.omf_output.proofs.DerivingLaws.{derived-many}
 use Rattle.omf_output.proofs.LowLaws.{next-at}
 use Rattle.omf_linker.specs.Drafting.Fit.{FitsSoFar}
-use Rattle.omf_linker.specs.Exe.Program.{AreLaid, at_0, members_from}
+use Rattle.omf_linker.specs.Exe.Program.{AreLaid, IsExternalFault, at_0, members_from, weak_of}
 use Rattle.omf_linker.proofs.FitLaws.{places-fit}
 
 next : {A : Type 0} (xs : List A) (j : ℕ) (x : A) → x ≡ get_or xs j x → j < length xs → drop j xs ≡ x ∷ drop (j + 1) xs
@@ -91,3 +93,9 @@ movers-many ms placed given mvs a =
     let high = derived-many (based true (lows placed)) ms (with_weak (all_based true (typed_modules ms) placed) given) a.high a.higher in
     ap length a.each ∙ length-map (zip (typed_modules ms) (zip a.low a.high)) (movers_in (lows placed))
     ∙ zip-many (typed_modules ms) (zip a.low a.high) (zip-many a.low a.high (high ∙ sym low) ∙ low ∙ sym (typed-many ms)) ∙ typed-many ms
+
+-- The fault of a derivation at places where the modules are laid.
+pub placing-fault : (ms : List Module) (pls : List Places) (gs : List Given) (f : DeriveFault) → AreLaid ms pls → gs ≡ weak_of ms pls
+    → ((f ≡ fault.Memory) × IsOk (derived (placed_modules ms pls) gs)) ⊎ (derived (placed_modules ms pls) gs ≡ Err f) → IsExternalFault ms f
+placing-fault ms pls gs f l g (inl h) = record { places = pls; laid = l; fault = inr (inl h.0) }
+placing-fault ms pls gs f l g (inr e) = record { places = pls; laid = l; fault = inl (ap (λ (xs : List Given). derived (placed_modules ms pls) xs) (sym g) ∙ e) }

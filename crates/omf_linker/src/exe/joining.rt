@@ -59,10 +59,14 @@ pub(crate) fn taken<T: Drop>(
     walked(alloc, numbers, values)
 }
 
-/// Moves values to the end of others.
+/// Moves values to the end of others. If there are no others, their vector is replaced as a whole.
 pub(crate) fn move_all<T: Drop>(own: Vec<T>, all: &mut Vec<T>) -> Result<(), AllocError>
     ensures { OnOk result (all.new.items ≡ all.old.items ++ own.items) }
 {
+    if all.is_empty() {
+        *all = own;
+        return Ok(());
+    }
     for value in own {
         all.push(value)?;
     }

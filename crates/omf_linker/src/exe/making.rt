@@ -46,18 +46,18 @@ fn settle(
     alloc: Global,
     linkage: &Linkage,
     modules: &[Checked],
-    places: &[Placement],
+    places: Vec<Placement>,
 ) -> Result<Settled, DeriveFault>
     requires few { length modules.now < 2 ^ 32 }
     requires linked { IsLinkage (typed_modules modules.now) linkage.now }
-    requires laid { AreLaid modules.now places.now }
-    ensures derived { IfOk result (λ s. derived (placed_modules modules.now places.now) (weak_of modules.now places.now) ≡ Ok s.placements.items) }
-    ensures moving { IfOk result (λ s. AreMovers (typed_modules modules.now) (placed_modules modules.now places.now) [] s.movers.items) }
+    requires laid { AreLaid modules.now places.items }
+    ensures derived { IfOk result (λ s. derived (placed_modules modules.now places.items) (weak_of modules.now places.items) ≡ Ok s.placements.items) }
+    ensures moving { IfOk result (λ s. AreMovers (typed_modules modules.now) (placed_modules modules.now places.items) [] s.movers.items) }
     ensures fault { IfErr result (IsExternalFault modules.now) }
 {
-    let given = with_weak_linked(alloc, linkage, modules, places, &[])?;
+    let given = with_weak_linked(alloc, linkage, modules, &places, &[])?;
     let placements = derive_linked(alloc, linkage, modules, places, &given)?;
-    let movers = movers_of(alloc, linkage, modules, places, &[])?;
+    let movers = movers_of(alloc, linkage, modules, &placements, &[])?;
     Ok(Settled { placements, movers })
 }
 
@@ -75,7 +75,7 @@ fn place_and_settle(
     ensures fault { IfErr result (IsPlacingFault modules.now) }
 {
     let places = places_of(alloc, modules)?;
-    match settle(alloc, linkage, modules, &places) {
+    match settle(alloc, linkage, modules, places) {
         Ok(settled) => Ok(settled),
         Err(DeriveFault::Memory) => Err(PlacingFault::Memory),
         Err(fault) => Err(PlacingFault::External(fault)),
@@ -224,7 +224,7 @@ pub fn map_linked(
     ensures fault { IfErr result (IsPlacingFault modules.now) }
 {
     let places = places_of(alloc, modules)?;
-    let settled = match settle(alloc, linkage, modules, &places) {
+    let settled = match settle(alloc, linkage, modules, places) {
         Ok(settled) => settled,
         Err(DeriveFault::Memory) => return Err(PlacingFault::Memory),
         Err(fault) => return Err(PlacingFault::External(fault)),
