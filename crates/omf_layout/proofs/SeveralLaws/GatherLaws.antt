@@ -11,7 +11,7 @@ use Rattle.std.proofs.lemmas.List.{length-map}
 use Rattle.std.proofs.lemmas.Option.{none-some, same_Some}
 use Rattle.std.proofs.lemmas.Slice.Eq.{bytes_eq-Decides}
 use Rattle.omf_names.specs.Names.{name_cmp}
-use Rattle.omf_names.proofs.NameTables.{IsUpdated}
+use Rattle.omf_names.proofs.NameTables.{IsUpdated, at_name, twice_updated}
 use Rattle.omf_layout.specs.Several.Gathered.{distinct, value_of, of_name, names_in, gathered, place_of, with_value, IsTable, AreGathered}
 
 abbrev pub Name : Type 0
@@ -281,4 +281,21 @@ gathered-more m n old new left rest all x e next h = record {
   done = h.done ++ x ∷ [];
   gathered = next h.done h.gathered;
   whole = append_assoc h.done (x ∷ []) rest ∙ ap (λ ys. h.done ++ ys) (sym e) ∙ h.whole;
+}
+
+-- A name was given another position, and then its own again.
+table-kept : (m k n : BTreeMap (Bor (List ℕ)) ℕ) (x : Name) (v : Option ℕ) (i : ℕ) → get_by (λ k. name_cmp x k.now) m ≡ Some i → IsUpdated x m k v → IsUpdated x k n (Some i)
+    → (names : List Name) → IsTable m names → IsTable n names
+table-kept m k n x v i here f g names h name = elim (cases_Bool (bytes_eq x name)) [
+  | inl t ↦
+      twice_updated x m k n v (Some i) f g name ∙ cond-true (bytes_eq x name) (Some i) (at_name m name) t
+      ∙ sym here ∙ ap (at_name m) (same x name t) ∙ h name
+  | inr e ↦ twice_updated x m k n v (Some i) f g name ∙ cond-false (bytes_eq x name) (Some i) (at_name m name) e ∙ h name
+]
+
+pub places-kept : {A : Type 0} (m k n : BTreeMap (Bor (List ℕ)) ℕ) (x : Name) (v : Option ℕ) (i : ℕ) → get_by (λ k. name_cmp x k.now) m ≡ Some i → IsUpdated x m k v → IsUpdated x k n (Some i)
+    → (runs : List (List A)) (ys : List (Name × A)) → AreGathered m runs ys → AreGathered n runs ys
+places-kept m k n x v i here f g runs ys h = record {
+  found = table-kept m k n x v i here f g (distinct (names_in ys)) h.found;
+  all = h.all;
 }

@@ -27,7 +27,7 @@ fn add_at<T: Drop>(runs: &mut Vec<Vec<T>>, place: usize, value: T) -> Result<(),
 fn add_run<T: Drop>(alloc: Global, runs: &mut Vec<Vec<T>>, value: T) -> Result<(), AllocError>
     ensures { OnOk result (map (λ r. r.items) runs.new.items ≡ map (λ r. r.items) runs.old.items ++ (value ∷ []) ∷ []) }
 {
-    let mut run = Vec::new(alloc);
+    let mut run = Vec::with_capacity(alloc, 1)?;
     run.push(value)?;
     runs.push(run)?;
     Ok(())
@@ -39,13 +39,12 @@ impl<'a, T: Drop> Gathering<'a, T> {
         requires { (xs : List (List ℕ × T)) × AreGathered self.old.places (map (λ r. r.items) self.old.runs.items) xs }
         ensures { (xs : List (List ℕ × T)) → AreGathered self.old.places (map (λ r. r.items) self.old.runs.items) xs → OnOk result (AreGathered self.new.places (map (λ r. r.items) self.new.runs.items) (xs ++ (name.entry.now, value) ∷ [])) }
     {
-        let place = self.places.get(&NameKey::of(name)).copied();
-        match place {
-            Some(place) => add_at(&mut self.runs, place, value),
-            None => {
-                self.places.insert(NameKey::of(name), self.runs.len())?;
-                add_run(alloc, &mut self.runs, value)
+        match self.places.insert(NameKey::of(name), self.runs.len())? {
+            Some(place) => {
+                self.places.insert(NameKey::of(name), place)?;
+                add_at(&mut self.runs, place, value)
             }
+            None => add_run(alloc, &mut self.runs, value),
         }
     }
 }
