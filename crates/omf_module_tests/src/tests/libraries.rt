@@ -4,8 +4,8 @@ use super::verdicts::ANY;
 use omf_check::Checked;
 use omf_frame::Reason;
 use omf_library::{
-    Header, LibraryFault, Member, Part, Region, RegionKind, Spans, account_of, make, members_in,
-    modules_in, read_header, spans_in,
+    Defined, Header, Kind, LibraryFault, MakeFault, Member, Part, Region, RegionKind, Spans,
+    account_of, make, members_in, modules_in, read_header, spans_in,
 };
 use std::alloc::{AllocError, Global};
 
@@ -129,6 +129,52 @@ fn is_made(alloc: Global) -> bool {
 #[test]
 fn a_library_is_made(rt: HostRuntime) {
     assert!(rt; is_made(rt.alloc()));
+}
+
+/// A name of ten letters; the bits of the number are their case. The hash does not see it.
+fn cased(alloc: Global, number: u16) -> Result<Vec<u8>, AllocError> {
+    let mut name = Vec::new(alloc);
+    let mut left = number;
+    for letter in b"abcdefghij" {
+        name.push(if left % 2 == 1 {
+            *letter ^ 0x20
+        } else {
+            *letter
+        })?;
+        left /= 2;
+    }
+    Ok(name)
+}
+
+/// Adds this number of names of one hash.
+fn add_names(alloc: Global, names: &mut Vec<Defined>, count: u16) -> Result<(), AllocError> {
+    for number in 0..count {
+        names.push(Defined {
+            kind: Kind::Public,
+            name: cased(alloc, number)?,
+        })?;
+    }
+    Ok(())
+}
+
+/// Whether no library with short searches is found for this number of names of one hash.
+fn has_long_searches(alloc: Global, count: u16) -> bool {
+    let Some(mut part) = part_of(alloc, LIBRARY.get(16..27).unwrap_or(&[])) else {
+        return false;
+    };
+    let mut parts = Vec::new(alloc);
+    if add_names(alloc, &mut part.names, count).is_err() || parts.push(part).is_err() {
+        return false;
+    }
+    matches!(make(alloc, ANY, true, &parts), Err(MakeFault::LongSearches))
+}
+
+/// Name n of one hash comes after n others, so three searches for each of 1,000 names look at 1,500,000 buckets and more, each with a name of ten
+/// letters: 21,000,000. The dictionaries that may be tried have 211 blocks at most, and allow 7,960,000.
+#[test]
+fn names_of_one_hash_have_long_searches(rt: HostRuntime) {
+    assert!(rt; has_long_searches(rt.alloc(), 1000));
+    assert!(rt; !has_long_searches(rt.alloc(), 100));
 }
 
 /// The regions of the library: the header's fields and the rest of its page, the member and its padding, the F1H record.
