@@ -32,9 +32,21 @@ def loaded_com(file, paragraph):
     return bytes(COM_FRONT) + file, (paragraph, COM_FRONT), COM_FRONT + len(file)
 
 
+def segment_frames(text, absolute):
+    """The frames of the segments of a drafted text that are absolute, or of those that are not."""
+    frames = set()
+    for line in text.decode().splitlines():
+        segment = re.match(r'S (?:#\d+|"[^"]*"(?: "[^"]*")?) ([0-9A-F]+) (?:real|([0-9A-F]+) [0-9A-F]+)', line)
+        if segment and (" absolute " in line) == absolute:
+            frames.add(int(segment[2], 16) if segment[2] else int(segment[1], 16) // PARAGRAPH * PARAGRAPH)
+    return frames
+
+
 def moved(text, paragraph):
-    """A drafted text with all that is not absolute this number of paragraphs higher, and with one frame for the groups of a name: the lowest."""
+    """A drafted text with all that is not absolute this number of paragraphs higher, and with one frame for the groups of a name: the lowest. A group
+    whose frame is that of an absolute segment stays."""
     lines, modules = text.decode().splitlines(), 0
+    stay = segment_frames(text, True) - segment_frames(text, False)
     frames = {}
     for key, base in re.findall(r"^G (\S+) (\S+) ", text.decode(), re.M):
         frames[key] = min(frames.get(key, 1 << 20), int(base, 16))
@@ -49,7 +61,8 @@ def moved(text, paragraph):
             line = f"S {segment[1]} {int(segment[2], 16) + PARAGRAPH * paragraph:X} {frame}"
         elif line.startswith("G "):
             key = line.split()[1]
-            line = f"G {key} {frames[key] + PARAGRAPH * paragraph:X} {frames[key] // PARAGRAPH + paragraph:X}"
+            by = 0 if frames[key] in stay else paragraph
+            line = f"G {key} {frames[key] + PARAGRAPH * by:X} {frames[key] // PARAGRAPH + by:X}"
         made.append(line)
     return ("\n".join(made) + "\n").encode()
 
