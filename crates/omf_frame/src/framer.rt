@@ -222,6 +222,17 @@ impl Framer {
         }
     }
 
+    /// Goes to the start of another input. It keeps its memory, so that several inputs need it once.
+    pub fn restart(&mut self)
+        ensures { self.new ≡ at_start }
+    {
+        self.bytes.clear();
+        self.number = 0;
+        self.start = 0;
+        self.ended = false;
+        self.fault = None;
+    }
+
     /// Takes bytes up to the end of the current record. Takes none while a record is complete, and none after MODEND.
     ///
     /// Errors: a refusal by reasons 3 to 7, or `Memory`, which only the first byte of the first record can give. An error drops the
