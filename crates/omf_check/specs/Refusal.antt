@@ -1,5 +1,5 @@
 -- The first refusal of an input that does not begin with a module.
-use Rattle.std.specs.Prelude.{◌≡◌, ◌⊎◌, ℕ, ◌+◌, List, [], ◌∷◌, ◌++◌, length, map, flat_map, All, Bool, true, false, not, IsTrue, slice_get, is_none}
+use Rattle.std.specs.Prelude.{◌≡◌, ◌⊎◌, ℕ, ◌+◌, List, [], ◌∷◌, ◌++◌, length, map, flat_map, All, not, IsTrue, slice_get, is_none}
 use Rattle.omf_frame.specs.Fault.{Fault, IsLeast, broken, first_step}
 use Rattle.omf_frame.specs.Framing.{Raw, raw_bytes, IsRecord, is_end, is_end_of_input, frame_steps, front_record, present, stated_length}
 use Rattle.omf_frame.specs.declared.fault.Place.{Place}

@@ -9,8 +9,33 @@ use crate::fault::CheckFault;
 use crate::profile::Profile;
 use crate::session::finished;
 use crate::taking::take_module;
-use omf_frame::Source;
+use omf_frame::{Framer, Source};
 use std::alloc::Global;
+
+/// `check` with a framer that serves several checks, one after another, so that they need its memory once.
+///
+/// # Errors
+///
+/// As `check`.
+pub fn check_with<S: Source>(
+    alloc: Global,
+    framer: &mut Framer,
+    reader: &mut S,
+    profile: Profile,
+) -> Result<Checked, CheckFault>
+    ensures verdict { (input : List ℕ) → (S.seen reader.old).bytes ≡ Some input → Decides profile input result }
+    ensures read { IfOk result (λ m. Consumes (S.seen reader.old).bytes (S.seen reader.new).bytes m.bytes) }
+    ensures cause { IfErr result (IsCheckFault profile (S.seen reader.old).bytes (S.seen reader.new).bytes (S.seen reader.old).failures (S.seen reader.new).failures) }
+    ensures patient { IsReadPatiently (S.seen reader.old) (S.seen reader.new) result }
+    // Before each byte, and before the end, at most a thousand failures are passed over.
+    ensures bounded { IfOk result (λ m. (S.seen reader.new).failures ≤ (S.seen reader.old).failures + 1000 * (length m.bytes + 1)) }
+    ensures grows { (S.seen reader.old).failures ≤ (S.seen reader.new).failures }
+    ensures profile { IfOk result (λ m. m.profile ≡ profile) }
+{
+    let mut bytes = Vec::new(alloc);
+    let taken = take_module(alloc, framer, reader, &mut bytes, profile)?;
+    finished(profile, framer, bytes, taken.tables)
+}
 
 /// Reads and checks the module that the input begins with, and reads no further than its end.
 ///
@@ -36,7 +61,5 @@ pub fn check<S: Source>(
     ensures grows { (S.seen reader.old).failures ≤ (S.seen reader.new).failures }
     ensures profile { IfOk result (λ m. m.profile ≡ profile) }
 {
-    let mut bytes = Vec::new(alloc);
-    let taken = take_module(alloc, reader, &mut bytes, profile)?;
-    finished(profile, taken.framer, bytes, taken.tables)
+    check_with(alloc, &mut Framer::new(alloc), reader, profile)
 }

@@ -47,6 +47,7 @@ pub fn judge<S: Source>(
     ensures grows { (S.seen reader.old).failures ≤ (S.seen reader.new).failures }
 {
     let mut nothing = Nothing;
-    let taken = take_module(alloc, reader, &mut nothing, profile)?;
-    stopped(&taken.framer, taken.size)
+    let mut framer = Framer::new(alloc);
+    let taken = take_module(alloc, &mut framer, reader, &mut nothing, profile)?;
+    stopped(&framer, taken.size)
 }

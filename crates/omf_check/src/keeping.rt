@@ -5,6 +5,9 @@ ghost use Rattle.std.specs.Io.KnownBytes.{Appends, Keeps};
 
 use std::alloc::AllocError;
 
+/// The number of bytes that there is room for from the first on: small modules need no more.
+const FIRST_ROOM: usize = 256;
+
 /// Keeps bytes in order, or lets them go.
 pub(crate) trait Keeper {
     /// The bytes that it has kept, if it keeps any.
@@ -23,6 +26,9 @@ impl Keeper for Vec<u8> {
     ghost kept = { λ v. Some v.items };
 
     fn keep(&mut self, bytes: &[u8]) -> Result<(), AllocError> {
+        if self.is_empty() && !bytes.is_empty() {
+            self.reserve(FIRST_ROOM.max(bytes.len()))?;
+        }
         self.extend_from_slice(bytes)
     }
 }

@@ -39,7 +39,7 @@ mod threads;
 mod undecoded;
 
 pub use checked::Checked;
-pub use checking::check;
+pub use checking::{check, check_with};
 pub use fault::CheckFault;
 pub use judged::Judged;
 pub use judging::judge;

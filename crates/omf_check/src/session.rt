@@ -49,12 +49,12 @@ pub(crate) fn framing_fault(fault: FrameFault) -> CheckFault
 /// The module whose bytes were taken, if its MODEND has been checked; else the refusal of an input that ends here.
 pub(crate) fn finished(
     profile: Profile,
-    framer: Framer,
+    framer: &Framer,
     bytes: Vec<u8>,
     tables: Tables,
 ) -> Result<Checked, CheckFault>
-    requires { IsPassing profile framer bytes.items tables }
-    ensures { Finishes (here profile framer bytes.items) result }
+    requires { IsPassing profile framer.now bytes.items tables }
+    ensures { Finishes (here profile framer.now bytes.items) result }
 {
     if let Err(fault) = framer.stop() {
         return Err(framing_fault(fault));
@@ -156,6 +156,13 @@ impl Session {
         if let Some(fault) = self.fault {
             return Err(fault);
         }
-        finished(self.profile, self.framer, self.bytes, self.tables)
+        let Session {
+            profile,
+            framer,
+            bytes,
+            tables,
+            ..
+        } = self;
+        finished(profile, &framer, bytes, tables)
     }
 }

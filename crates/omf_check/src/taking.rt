@@ -21,10 +21,9 @@ use crate::table::Tables;
 use omf_frame::{Bytes, Fed, Framer, RawRecord, Source, pull_piece};
 use std::alloc::Global;
 
-/// The records taken from a reader: where the framer is after them, what later records need of them, and their size in bytes.
+/// The records taken from a reader: what later records need of them, and their size in bytes.
 #[derive(Drop)]
 pub(crate) struct Taken {
-    pub(crate) framer: Framer,
     pub(crate) tables: Tables,
     pub(crate) size: u64,
 }
@@ -171,52 +170,46 @@ fn take_ahead<S: Source, K: Keeper>(
 }
 
 /// Takes the module that the input begins with, up to its end or the end of the input, and judges each record. It reads as far as
-/// `check` does, and holds only the current record and the tables, beside what is kept.
+/// `check` does, and holds only the current record and the tables, beside what is kept. The framer is restarted, and is then after
+/// the records taken.
 ///
 /// # Errors
 ///
 /// As `check`, except that the input may end anywhere.
 pub(crate) fn take_module<S: Source, K: Keeper>(
     alloc: Global,
+    framer: &mut Framer,
     reader: &mut S,
     keeper: &mut K,
     profile: Profile,
 ) -> Result<Taken, CheckFault>
-    ensures taken { IfOk result (λ t. HasTaken profile (S.seen reader.old).bytes (S.seen reader.new).bytes (K.kept keeper.old) (K.kept keeper.new) t.framer t.tables t.size) }
-    ensures ends { IfOk result (λ t. (t.framer.ended ≡ true) ⊎ IsAtEnd (S.seen reader.new).bytes) }
+    ensures taken { IfOk result (λ t. HasTaken profile (S.seen reader.old).bytes (S.seen reader.new).bytes (K.kept keeper.old) (K.kept keeper.new) framer.new t.tables t.size) }
+    ensures ends { OnOk result ((framer.new.ended ≡ true) ⊎ IsAtEnd (S.seen reader.new).bytes) }
     ensures verdict { IfErr result (λ fault. (input : List ℕ) → (S.seen reader.old).bytes ≡ Some input → Judges profile input (Err fault)) }
     ensures cause { IfErr result (IsCheckFault profile (S.seen reader.old).bytes (S.seen reader.new).bytes (S.seen reader.old).failures (S.seen reader.new).failures) }
     ensures patient { IsReadPatiently (S.seen reader.old) (S.seen reader.new) result }
     ensures bounded { IfOk result (λ t. (S.seen reader.new).failures ≤ (S.seen reader.old).failures + 1000 * (t.size + 1)) }
     ensures grows { (S.seen reader.old).failures ≤ (S.seen reader.new).failures }
 {
-    let mut framer = Framer::new(alloc);
+    framer.restart();
     let mut tables = Tables::new(alloc);
     let mut size: u64 = 0;
     let mut buffer = [0; 1024];
     loop {
-        let want = wanted(&framer, size, reader.ahead()).min(buffer.len());
+        let want = wanted(framer, size, reader.ahead()).min(buffer.len());
         if want == 0 {
-            return Ok(Taken {
-                framer,
-                tables,
-                size,
-            });
+            return Ok(Taken { tables, size });
         }
         let room = &mut buffer[..want];
         let Ok(count) = pull_piece(reader, room) else {
             return Err(CheckFault::Read);
         };
         if count == 0 {
-            return Ok(Taken {
-                framer,
-                tables,
-                size,
-            });
+            return Ok(Taken { tables, size });
         }
-        let fed = step(&mut framer, &mut tables, keeper, profile, &room[..count])?;
+        let fed = step(framer, &mut tables, keeper, profile, &room[..count])?;
         size += fed.taken as u64;
-        let passed = take_ahead(&mut framer, &mut tables, keeper, profile, reader)?;
+        let passed = take_ahead(framer, &mut tables, keeper, profile, reader)?;
         size += passed as u64;
     }
 }

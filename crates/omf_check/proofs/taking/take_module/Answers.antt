@@ -15,7 +15,7 @@ pub loop-profile-init : goal.loop-profile-init
 loop-profile-init g c = record {
   all = record {
     taken = [];
-    passing = starting c.args.profile c.new-framer.result [] c.new-tables.result c.new-framer.ensures refl c.new-tables.ensures;
+    passing = starting c.args.profile c.restart.new.self [] c.new-tables.result c.restart.ensures refl c.new-tables.ensures;
     counted = refl;
     consumed = consumes_start (g.S.Source.seen c.args.reader.now).bytes;
     grown = Appends-nil (g.K.Keeper.kept c.args.keeper.now);
