@@ -7,8 +7,8 @@ ghost use Rattle.omf_library.specs.Library.{AreMembersIn, IsMemberRead, IsModule
 use crate::fault::LibraryFault;
 use crate::header::read_header;
 use crate::member::Member;
-use omf_check::{CheckFault, Checked, Profile, check};
-use omf_frame::Bytes;
+use omf_check::{CheckFault, Checked, Profile, check_with};
+use omf_frame::{Bytes, Framer};
 use std::alloc::Global;
 
 /// The type of the record after the members.
@@ -23,31 +23,39 @@ pub(crate) fn next_page(page: usize, at: usize) -> usize
     (at + (page - 1)) / page * page
 }
 
-/// The module at an offset, after those of `count` members.
+/// The page at which a member begins, if one does.
+#[derive(Clone, Copy)]
+pub(crate) struct MemberPage {
+    /// The number of members before it.
+    pub(crate) count: u64,
+    /// Its offset in bytes.
+    pub(crate) at: usize,
+}
+
+/// The module of the member that begins at a page. The framer serves all members.
 ///
 /// # Errors
 ///
 /// `Refused` where no module begins there. `Memory` if out of memory.
 pub(crate) fn module_at(
     alloc: Global,
+    framer: &mut Framer,
     profile: Profile,
     bytes: &[u8],
-    count: u64,
-    at: usize,
+    page: MemberPage,
 ) -> Result<Checked, LibraryFault>
-    requires { at ≤ length bytes.now }
-    ensures { IsModuleRead profile bytes.now count at result }
+    requires { page.at ≤ length bytes.now }
+    ensures { IsModuleRead profile bytes.now page.count page.at result }
 {
-    let (_before, rest) = bytes.split_at(at);
-    match check(alloc, &mut Bytes::new(rest), profile) {
+    let (_before, rest) = bytes.split_at(page.at);
+    match check_with(alloc, framer, &mut Bytes::new(rest), profile) {
         Ok(module) => Ok(module),
         Err(CheckFault::Memory) => Err(LibraryFault::Memory),
         Err(CheckFault::Read) => unreachable!(),
         Err(CheckFault::Refused { reason, place }) => {
-            let member = count;
-            let offset = at as u64;
+            let offset = page.at as u64;
             Err(LibraryFault::Refused {
-                member,
+                member: page.count,
                 offset,
                 reason,
                 place,
@@ -56,24 +64,24 @@ pub(crate) fn module_at(
     }
 }
 
-/// The member at an offset, after `count` others.
+/// The member that begins at a page.
 ///
 /// # Errors
 ///
 /// `Refused` where no module begins there. `Memory` if out of memory.
 fn member_at(
     alloc: Global,
+    framer: &mut Framer,
     profile: Profile,
     bytes: &[u8],
-    count: u64,
-    at: usize,
+    page: MemberPage,
 ) -> Result<Member, LibraryFault>
-    requires { at ≤ length bytes.now }
-    ensures { IsMemberRead profile bytes.now count at result }
+    requires { page.at ≤ length bytes.now }
+    ensures { IsMemberRead profile bytes.now page.count page.at result }
 {
-    match module_at(alloc, profile, bytes, count, at) {
+    match module_at(alloc, framer, profile, bytes, page) {
         Ok(module) => Ok(Member {
-            offset: at as u64,
+            offset: page.at as u64,
             length: module.bytes().len() as u64,
         }),
         Err(fault) => Err(fault),
@@ -95,13 +103,15 @@ pub fn members_in(
     ensures { AreMembersIn profile bytes.now (map_ok (λ members. members.items) result) }
 {
     let page = read_header(bytes)?.page as usize;
+    let mut framer = Framer::new(alloc);
     let mut members = Vec::new(alloc);
     let mut at = page;
     while at < bytes.len() {
         if bytes[at] == LIBRARY_END {
             return Ok(members);
         }
-        let member = member_at(alloc, profile, bytes, members.len() as u64, at)?;
+        let count = members.len() as u64;
+        let member = member_at(alloc, &mut framer, profile, bytes, MemberPage { count, at })?;
         members.push(member)?;
         at = next_page(page, at + member.length as usize);
     }

@@ -1,6 +1,6 @@
 //! The names of a module by which modules find each other.
 
-ghost use Rattle.std.specs.Prelude.{◌≡◌, ◌++◌, IfOk, OnOk, map};
+ghost use Rattle.std.specs.Prelude.{◌≡◌, ◌++◌, OnOk, map};
 ghost use Rattle.omf_check.specs.Module.{recs_of};
 ghost use Rattle.omf_frame.specs.Types.{is_local};
 ghost use Rattle.omf_records.specs.Inner.Seen.{contents_seen, kind_seen};
@@ -10,7 +10,7 @@ ghost use Rattle.omf_library.specs.Inner.Names.{names_by, names_seen};
 
 use omf_check::{Checked, Undecoded};
 use omf_records::{Communal, Extern, Items, Public, Rec};
-use std::alloc::{AllocError, Global};
+use std::alloc::AllocError;
 
 /// Which names of a module.
 #[derive(Clone, Copy)]
@@ -142,17 +142,17 @@ fn push_undecoded<'a>(
     }
 }
 
-/// The names of a module's publics or externals, those of local ones left out.
-pub(crate) fn names_of<'a>(
-    alloc: Global,
+/// Puts the names of a module's publics or externals in the place of others, those of local ones left out.
+pub(crate) fn take_names<'a>(
+    names: &mut Vec<&'a [u8]>,
     side: Side,
     module: &'a Checked,
-) -> Result<Vec<&'a [u8]>, AllocError>
-    ensures { IfOk result (λ names. names_seen names.items ≡ shared (names_by side) (recs_of «module».entry.now.bytes)) }
+) -> Result<(), AllocError>
+    ensures { OnOk result (names_seen names.new.items ≡ shared (names_by side) (recs_of «module».entry.now.bytes)) }
 {
-    let mut names = Vec::new(alloc);
+    names.clear();
     for (_, record) in module.undecoded() {
-        push_undecoded(&mut names, side, &record)?;
+        push_undecoded(names, side, &record)?;
     }
-    Ok(names)
+    Ok(())
 }

@@ -5,7 +5,7 @@ ghost use Rattle.omf_library.specs.Needed.{linkage, member_of};
 ghost use Rattle.omf_library.specs.Inner.Names.{names_seen};
 ghost use Rattle.omf_library.specs.Inner.Search.{HasMore, IsReady, IsTable, numbered, offered};
 
-use crate::needed::names::{Side, names_of};
+use crate::needed::names::{Side, take_names};
 use omf_check::Checked;
 use omf_names::NameKey;
 use std::alloc::{AllocError, Global};
@@ -55,28 +55,29 @@ impl<'a> Definers<'a> {
         Ok(())
     }
 
-    /// Adds a module, as the definer of its publics.
+    /// Adds a module, as the definer of its publics, whose names it takes.
     fn add_module(
         &mut self,
-        alloc: Global,
+        names: &mut Vec<&'a [u8]>,
         module: &'a Checked,
         definer: Definer,
     ) -> Result<(), AllocError>
         ensures { OnOk result (HasMore self.old self.new (linkage «module».entry.now).publics definer) }
     {
-        let names = names_of(alloc, Side::Publics, module)?;
-        self.add_names(&names, definer)
+        take_names(names, Side::Publics, module)?;
+        self.add_names(names, definer)
     }
 
     /// The definers of the given modules.
     fn of_given(alloc: Global, modules: &'a [Checked]) -> Result<Definers<'a>, AllocError>
         ensures { IfOk result (λ t. IsTable t (map linkage modules.entry.now) []) }
     {
+        let mut names = Vec::new(alloc);
         let mut definers = Definers {
             by_name: BTreeMap::new(alloc),
         };
         for module in modules {
-            definers.add_module(alloc, module, Definer::Given)?;
+            definers.add_module(&mut names, module, Definer::Given)?;
         }
         Ok(definers)
     }
@@ -89,9 +90,10 @@ impl<'a> Definers<'a> {
     ) -> Result<Definers<'a>, AllocError>
         ensures { IfOk result (λ t. IsTable t (map linkage modules.entry.now) (map linkage members.entry.now)) }
     {
+        let mut names = Vec::new(alloc);
         let mut definers = Definers::of_given(alloc, modules)?;
         for (number, member) in members.iter().enumerate() {
-            definers.add_module(alloc, member, Definer::Member(number))?;
+            definers.add_module(&mut names, member, Definer::Member(number))?;
         }
         Ok(definers)
     }

@@ -6,7 +6,7 @@ ghost use Rattle.omf_library.specs.Inner.Names.{names_seen};
 ghost use Rattle.omf_library.specs.Inner.Search.{IsReady, offered};
 ghost use Rattle.omf_library.specs.Inner.Walk.{AreTaken, IsCalled, IsGrown, IsWalk, IsWalked, numbers_from, queued};
 
-use crate::needed::names::{Side, names_of};
+use crate::needed::names::{Side, take_names};
 use crate::needed::search::Search;
 use omf_check::Checked;
 use std::alloc::{AllocError, Global};
@@ -71,10 +71,10 @@ impl Walk {
         Ok(())
     }
 
-    /// Lets the members join that a module needs.
+    /// Lets the members join that a module needs, and takes their names.
     fn join_module<'a>(
         &mut self,
-        alloc: Global,
+        names: &mut Vec<&'a [u8]>,
         search: &Search<'a>,
         module: &'a Checked,
     ) -> Result<(), AllocError>
@@ -83,8 +83,8 @@ impl Walk {
         requires called { All (IsCalled (offered search.now)) (linkage «module».now).externals }
         ensures { OnOk result (IsGrown (offered search.now) self.old.joined.items self.old.queue.items self.new.joined.items self.new.queue.items (linkage «module».entry.now).externals) }
     {
-        let names = names_of(alloc, Side::Externals, module)?;
-        self.join_names(search, &names)
+        take_names(names, Side::Externals, module)?;
+        self.join_names(search, names)
     }
 
     /// Lets the members join that the given modules need.
@@ -93,9 +93,10 @@ impl Walk {
         ensures walk { IfOk result (λ w. IsWalk (offered search.now) w.joined.items w.queue.items) }
         ensures taken { IfOk result (λ w. All (AreTaken (offered search.now) w.joined.items) (offered search.now).given) }
     {
+        let mut names = Vec::new(alloc);
         let mut walk = Walk::new(alloc, search.members.len())?;
         for module in search.modules {
-            walk.join_module(alloc, search, module)?;
+            walk.join_module(&mut names, search, module)?;
         }
         Ok(walk)
     }
@@ -107,10 +108,11 @@ impl Walk {
         requires taken { All (AreTaken (offered search.now) self.old.joined.items) (offered search.now).given }
         ensures { OnOk result (IsWalked (offered search.now) self.new.joined.items self.new.queue.items) }
     {
+        let mut names = Vec::new(alloc);
         let mut at = 0;
         while at < self.queue.len() {
             let number = self.queue[at];
-            self.join_module(alloc, search, &search.members[number])?;
+            self.join_module(&mut names, search, &search.members[number])?;
             at += 1;
         }
         Ok(())

@@ -32,8 +32,8 @@ loop-at-preserved c =
 pub returns : goal.returns
 returns c =
     let bytes = c.args.bytes.now in
-    let count : c.len-2.result ≡ length c.loop-at.modules.items = search rules in
-    let after : IsAfter c.args.profile bytes c.len-2.result c.loop-at.at =
+    let count : c.len.result ≡ length c.loop-at.modules.items = search rules in
+    let after : IsAfter c.args.profile bytes c.len.result c.loop-at.at =
     subst (λ n. IsAfter c.args.profile bytes n c.loop-at.at) (sym count) (first_after c.args.profile bytes c.loop-at.modules.items c.loop-at.at c.loop-at.invariant.first) in
     let high : length bytes ≤ c.loop-at.at = search rules in
     (after, high)

@@ -3,7 +3,7 @@ use Rattle.std.specs.Prelude.{flat_map}
 use Rattle.omf_check.specs.Module.{recs_of}
 use Rattle.omf_library.specs.Needed.{shared, shared_of}
 use Rattle.omf_library.specs.Inner.Names.{names_by, names_seen}
-use Rattle.omf_library.proofs.needed.names.names_of.Given as goal
+use Rattle.omf_library.proofs.needed.names.take_names.Given as goal
 
 -- the names so far and those of the records to come are all
 abbrev pub invariant-loop-record : goal.invariant-loop-record
