@@ -1,8 +1,7 @@
 -- The publics of modules before they have places, and those that externals refer to.
 use Rattle.std.specs.Prelude.{◌≡◌, ◌<◌, ◌≤◌, ℕ, ◌+◌, length, List, [], ◌∷◌, ◌++◌, map, flat_map, filter_map, All, Bool, true, false, Option, Some, None, option_and_then, unwrap_or, slice_get, bytes_eq, if◌then◌else◌}
 use Rattle.std.specs.List.{enumerate_from}
-use Rattle.std.specs.BTreeMap.{BTreeMap, get_by}
-use denote.Ref.{Bor}
+use Rattle.std.specs.BTreeMap.{get_by}
 use Rattle.omf_names.specs.Names.{name_cmp}
 use Rattle.omf_records.specs.Values.{At, Rec, Contents, Publics, PublicItem}
 use Rattle.omf_frame.specs.Types.{is_local}

@@ -1,6 +1,6 @@
 //! Derivation of the places of externals from the publics of several modules.
 
-ghost use Rattle.std.specs.Prelude.{◌≡◌, ◌<◌, ◌^◌, Err, IfErr, IfOk, Ok, length, List, Bool, true, false, filter_map, map, zip, Option};
+ghost use Rattle.std.specs.Prelude.{◌≡◌, ◌<◌, ◌^◌, Err, IfErr, IfOk, IfSome, Ok, OnOk, length, List, Bool, true, false, filter_map, map, zip, Option};
 ghost use Rattle.std.specs.List.{AllZip};
 ghost use Rattle.omf_records.specs.Values.{Rec};
 ghost use Rattle.omf_records.specs.Inner.Seen.{map_ok};
@@ -13,7 +13,7 @@ ghost use Rattle.omf_placement.specs.Inner.Derived.{derived, external_places, gi
 ghost use Rattle.omf_placement.specs.Inner.GivenTable.{IsGivenTable};
 ghost use Rattle.omf_placement.specs.Derivation.{IsDerived, IsPlaceOf};
 ghost use Rattle.omf_placement.specs.Inner.Deriving.{IsFound, IsTried, with_own};
-ghost use Rattle.omf_placement.specs.Inner.Linkage.{AreFound, IsLinkage, IsSourceTable, NamedSource, definer, definers, found_by, of_source};
+ghost use Rattle.omf_placement.specs.Inner.Linkage.{AreFound, IsLinkage, IsSourceTable, NamedSource, definer, definers, found_by, of_source, sources};
 ghost use Rattle.omf_placement.specs.Inner.PublicTable.{summed};
 ghost use Rattle.omf_placement.specs.Weak.{with_weak};
 
@@ -61,38 +61,47 @@ impl Model for Linkage {
     ghost view = { λ l. record { links = l.of_module.items; repeats = l.repeats; is_weak = l.is_weak } };
 }
 
-/// The publics with a name: those of its own module for a local external, else those of all modules.
-fn visible_definer<'a>(
-    all: &SourceTable<'a>,
-    own: &SourceTable<'a>,
+/// The local publics with a name of the module with this number. Their table is made where it is first needed.
+fn local_definer<'a>(
+    alloc: Global,
+    own: &mut Option<SourceTable<'a>>,
+    module: &'a Checked,
+    number: usize,
     name: &'a [u8],
-    local: bool,
-) -> Option<Definer>
-    ensures { (among : Bool → List NamedSource) → IsSourceTable all.now (among false) → IsSourceTable own.now (among true) → result ≡ definer (filter_map (of_source name.now) (among local)) }
+) -> Result<Option<Definer>, AllocError>
+    requires { IfSome own.old (λ t. IsSourceTable t (sources true number (recs_of «module».now.bytes))) }
+    ensures definer { IfOk result (λ d. d ≡ definer (filter_map (of_source name.now) (sources true number (recs_of «module».entry.now.bytes)))) }
+    ensures own { OnOk result (IfSome own.new (λ t. IsSourceTable t (sources true number (recs_of «module».entry.now.bytes)))) }
 {
-    if local {
-        own.definer(name)
-    } else {
-        all.definer(name)
+    if let Some(table) = own {
+        return Ok(table.definer(name));
     }
+    let table = SourceTable::of_locals(alloc, module, number)?;
+    let definer = table.definer(name);
+    *own = Some(table);
+    Ok(definer)
 }
 
-/// The publics that the externals of a module refer to.
+/// The publics that the externals of the module with this number refer to: those of its own for a local one, else those of all modules.
 fn links_of<'a>(
     alloc: Global,
     all: &SourceTable<'a>,
-    own: &SourceTable<'a>,
     module: &'a Checked,
+    number: usize,
 ) -> Result<Links, AllocError>
-    ensures links { (among : Bool → List NamedSource) → IsSourceTable all.now (among false) → IsSourceTable own.now (among true) → IfOk result (λ l. l ≡ definers among (recs_of «module».entry.now.bytes)) }
+    ensures links { (among : Bool → List NamedSource) → IsSourceTable all.now (among false) → among true ≡ sources true number (recs_of «module».entry.now.bytes) → IfOk result (λ l. l ≡ definers among (recs_of «module».entry.now.bytes)) }
     ensures few { IfOk result (λ l. length (externals (recs_of «module».entry.now.bytes)) < 32768) }
 {
-    let mut of_external = Vec::new(alloc);
+    let mut own = None;
+    let mut of_external = Vec::with_capacity(alloc, usize::from(module.externals()))?;
     for i in 1..module.externals() + 1 {
-        let local = module.local(i).unwrap_or(false);
-        let definer = match module.external(i) {
-            Some(name) => visible_definer(all, own, name.0, local),
-            None => unreachable!(),
+        let Some(name) = module.external(i) else {
+            unreachable!()
+        };
+        let definer = if module.local(i).unwrap_or(false) {
+            local_definer(alloc, &mut own, module, number, name.0)?
+        } else {
+            all.definer(name.0)
         };
         of_external.push(definer)?;
     }
@@ -111,10 +120,9 @@ impl Linkage {
     {
         let all = SourceTable::of(alloc, modules)?;
         let is_weak = has_pairs(alloc, modules)?;
-        let mut of_module = Vec::new(alloc);
+        let mut of_module = Vec::with_capacity(alloc, modules.len())?;
         for (j, module) in modules.iter().enumerate() {
-            let own = SourceTable::of_locals(alloc, module, j)?;
-            of_module.push(links_of(alloc, &all, &own, module)?)?;
+            of_module.push(links_of(alloc, &all, module, j)?)?;
         }
         Ok(Linkage {
             of_module,
@@ -182,7 +190,7 @@ fn linked_places(
     requires { length links.now < 65536 }
     ensures { (among : Bool → List PlacedPublic) (entries : List Entry) (m : List Rec) → IsGivenTable given.now.by_external entries → AreFound places.now links.now among m → IsFound (external_places among entries number m) (map_ok (λ v. v.items) result) }
 {
-    let mut found = Vec::new(alloc);
+    let mut found = Vec::with_capacity(alloc, links.of_external.len())?;
     for (before, definer) in links.of_external.iter().enumerate() {
         let external = before as u16 + 1;
         found.push(linked_place(places, given, *definer, number, external)?)?;
@@ -205,7 +213,7 @@ fn try_resolve(
 {
     let first_given = GivenTable::of(alloc, given)?;
     let of_module = linkage.of_module.as_slice();
-    let mut resolved = Vec::new(alloc);
+    let mut resolved = Vec::with_capacity(alloc, places.len())?;
     for (j, _place) in places.iter().enumerate() {
         let links = &of_module[j];
         let externals = linked_places(alloc, links, places, &first_given, j as u32)?;
@@ -223,7 +231,7 @@ fn with_externals(
     requires { length externals.items ≡ length places.items }
     ensures { IfOk result (λ v. v.items ≡ map with_own (zip places.items (map (λ e. e.items) externals.items))) }
 {
-    let mut placements = Vec::new(alloc);
+    let mut placements = Vec::with_capacity(alloc, places.len())?;
     let mut left = externals.into_iter();
     for place in places {
         let Some(own) = left.next() else {

@@ -1,6 +1,6 @@
 //! The publics of several modules, by name, before they have places.
 
-ghost use Rattle.std.specs.Prelude.{◌≡◌, [], ◌∷◌, OnOk, IfOk, List, filter_map, length, true};
+ghost use Rattle.std.specs.Prelude.{◌≡◌, [], ◌∷◌, All, OnOk, IfOk, List, filter_map, length, true};
 ghost use Rattle.omf_image.specs.Limits.{profile_limits};
 ghost use Rattle.omf_check.specs.Module.{recs_of, typed_modules};
 ghost use Rattle.omf_check.specs.Sound.{ModuleHolds};
@@ -229,8 +229,7 @@ impl<'a> SourceTable<'a> {
         module: &'a Checked,
         number: usize,
     ) -> Result<SourceTable<'a>, AllocError>
-        ensures table { IfOk result (λ t. IsSourceTable t (sources true number (recs_of «module».entry.now.bytes))) }
-        ensures holds { IfOk result (λ t. ModuleHolds profile_limits (recs_of «module».entry.now.bytes)) }
+        ensures { IfOk result (λ t. IsSourceTable t (sources true number (recs_of «module».entry.now.bytes))) }
     {
         let mut table = SourceTable {
             by_name: BTreeMap::new(alloc),
@@ -242,7 +241,8 @@ impl<'a> SourceTable<'a> {
 
     /// The publics of all modules that are not local.
     pub(crate) fn of(alloc: Global, modules: &'a [Checked]) -> Result<SourceTable<'a>, AllocError>
-        ensures { IfOk result (λ t. IsSourceTable t (all_sources (typed_modules modules.entry.now))) }
+        ensures table { IfOk result (λ t. IsSourceTable t (all_sources (typed_modules modules.entry.now))) }
+        ensures hold { OnOk result (All (ModuleHolds profile_limits) (typed_modules modules.entry.now)) }
     {
         let mut table = SourceTable {
             by_name: BTreeMap::new(alloc),

@@ -1,9 +1,8 @@
-use Rattle.std.proofs.Common.{◌≡◌, ◌∙◌, List, ap, length, sym}
-use Rattle.std.specs.Prelude.{map, zip, Ok}
+use Rattle.std.proofs.Common.{◌≡◌, ◌∙◌, List, ap, sym}
+use Rattle.std.specs.Prelude.{map, Ok}
 use Rattle.std.proofs.lemmas.List.{length-map}
 use Rattle.omf_check.specs.Module.{typed_modules}
 use Rattle.omf_placement.specs.Placement.{Places}
-use Rattle.omf_placement.specs.Inner.Deriving.{with_own}
 use Rattle.omf_placement.specs.Derive.{placed_modules}
 use Rattle.omf_placement.specs.Inner.Derived.{resolved}
 use Rattle.omf_placement.proofs.LinkageLaws.{as-many, filled}

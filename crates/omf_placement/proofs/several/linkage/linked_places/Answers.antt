@@ -12,7 +12,7 @@ use Rattle.omf_placement.proofs.NamedLaws.{entry-suc, named-count}
 use Rattle.omf_placement.proofs.several.linkage.linked_places.Goals as goal
 
 pub loop-before-init : goal.loop-before-init
-loop-before-init c = λ among entries m g a. ap (λ ps. map (λ p. Ok p) ps ++ outcomes_from among entries c.args.number m 1) c.new-found.ensures.items
+loop-before-init c = λ among entries m g a. ap (λ ps. map (λ p. Ok p) ps ++ outcomes_from among entries c.args.number m 1) c.in_ok-found.ensures.items
 
 pub loop-before-preserved : goal.loop-before-preserved
 loop-before-preserved c = λ among entries m g a.
@@ -38,7 +38,7 @@ returns-in_err-linked_place c = λ among entries m g a.
     let named : entry (named_externals m) (k + 1) ≡ Some t.item = ap (entry (named_externals m)) (omega arith) ∙ entry-suc (named_externals m) k ∙ t.at in
     let r = c.in_err-linked_place.ensures entries (filter_map (of_name t.item.0) (among t.item.1)) g t.same in
     let fails : external_place (among t.item.1) entries j (k + 1) t.item.0 ≡ Err f = sym r in
-    let same : c.from_residual.result ≡ Err f = search rules in
+    let same : c.from_residual-in_err-linked_place.result ≡ Err f = search rules in
     err-found (external_places among entries j m) f _ (ap (map_ok (λ v. v.items)) same)
     (one-fails among entries j m (k + 1) t.item (omega arith) named c.loop-before.found.items f fails (c.loop-before.invariant among entries m g a))
 

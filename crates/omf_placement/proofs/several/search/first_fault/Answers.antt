@@ -1,4 +1,4 @@
-use Rattle.std.proofs.Common.{◌≡◌, ◌∷◌, ◌++◌, [], refl, sym, subst}
+use Rattle.std.proofs.Common.{◌∷◌, ◌++◌, [], refl, sym, subst}
 use Rattle.std.specs.Prelude.{IsOk, None}
 use Rattle.omf_placement.specs.Derive.{placed_modules, seen_publics}
 use Rattle.omf_placement.specs.Inner.Derived.{external_places}

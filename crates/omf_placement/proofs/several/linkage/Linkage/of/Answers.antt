@@ -1,9 +1,7 @@
-use Rattle.std.proofs.Common.{◌≡◌, ◌+◌, ◌<◌, ◌∷◌, ◌++◌, ◌∙◌, ap, drop, length, subst, sym}
+use Rattle.std.proofs.Common.{◌≡◌, ◌+◌, ◌<◌, ◌∷◌, ◌++◌, ◌∙◌, ap, drop, length, refl, subst, sym}
 use Rattle.std.specs.Prelude.{All}
 use Rattle.std.proofs.lemmas.List.Elements.{All-cons, All-nil}
-use Rattle.omf_image.specs.Limits.{profile_limits}
 use Rattle.omf_check.specs.Module.{records_in, typed_modules}
-use Rattle.omf_check.specs.Sound.{ModuleHolds}
 use Rattle.omf_check.specs.Tables.{externals}
 use Rattle.omf_check.specs.WellFormed.{recs}
 use Rattle.omf_placement.specs.Inner.Linkage.{linkage, seen_sources}
@@ -13,8 +11,7 @@ use Rattle.omf_placement.proofs.several.linkage.Linkage.of.Goals as goal
 
 pub loop-j-init : goal.loop-j-init
 loop-j-init c = record {
-  links = ap (λ xs. xs ++ linkage (typed_modules c.args.modules.now)) c.new-of_module.ensures.items;
-  hold = λ h. h;
+  links = ap (λ xs. xs ++ linkage (typed_modules c.args.modules.now)) c.in_ok-of_module.ensures.items;
   few = λ h. h;
 }
 
@@ -27,8 +24,7 @@ loop-j-preserved c =
     let next : typed_modules (drop j ms) ≡ m ∷ typed_modules (drop (j + 1) ms) = next_one ms j c.index-modules-j.result c.index-modules-j.is c.loop-j-test.true in
     record {
       links = linked-more tm j m (typed_modules (drop j ms)) (typed_modules (drop (j + 1) ms)) next c.loop-j.of_module.items c.push.new.self.items c.in_ok-links_of.field-0
-          c.in_ok-push.ensures.items (c.in_ok-links_of.ensures.links (seen_sources tm j m) c.in_ok-all.ensures c.in_ok-own.ensures.table) c.loop-j.invariant.links;
-      hold = λ h. c.loop-j.invariant.hold (subst (All (ModuleHolds profile_limits)) (sym next) (All-cons (ModuleHolds profile_limits) m _ c.in_ok-own.ensures.holds h));
+          c.in_ok-push.ensures.items (c.in_ok-links_of.ensures.links (seen_sources tm j m) c.in_ok-all.ensures.table refl) c.loop-j.invariant.links;
       few = λ h. c.loop-j.invariant.few (subst (All (λ x. length (externals x) < 32768)) (sym next) (All-cons (λ x. length (externals x) < 32768) m _ c.in_ok-links_of.ensures.few h));
     }
 
@@ -37,9 +33,9 @@ returns c =
     let ms = c.args.modules.now in
     let none = none_left ms c.loop-j.j c.loop-j-test.false in
     record {
-      apart = λ f. c.in_ok-all.ensures.apart (sym c.repeats.ensures ∙ f);
+      apart = λ f. c.in_ok-all.ensures.table.apart (sym c.repeats.ensures ∙ f);
       strong = c.in_ok-is_weak.ensures;
       is = linked-end (typed_modules ms) c.loop-j.j (typed_modules (drop c.loop-j.j ms)) none c.loop-j.of_module.items c.loop-j.invariant.links;
-      hold = c.loop-j.invariant.hold (subst (All (ModuleHolds profile_limits)) (sym none) (All-nil (ModuleHolds profile_limits)));
+      hold = c.in_ok-all.ensures.hold;
       few = c.loop-j.invariant.few (subst (All (λ x. length (externals x) < 32768)) (sym none) (All-nil (λ x. length (externals x) < 32768)));
     }

@@ -1,9 +1,7 @@
 use Rattle.std.proofs.Common.{◌≡◌, ◌++◌, ◌<◌, drop, length}
 use Rattle.std.specs.Prelude.{All, map}
 use Rattle.std.specs.List.{enumerate_from}
-use Rattle.omf_image.specs.Limits.{profile_limits}
 use Rattle.omf_check.specs.Module.{typed_modules}
-use Rattle.omf_check.specs.Sound.{ModuleHolds}
 use Rattle.omf_check.specs.Tables.{externals}
 use Rattle.omf_placement.specs.Inner.Linkage.{definers, linkage, seen_sources}
 use Rattle.omf_placement.proofs.several.linkage.Linkage.of.Given as goal
@@ -12,6 +10,5 @@ use Rattle.omf_placement.proofs.several.linkage.Linkage.of.Given as goal
 abbrev pub invariant-loop-j : goal.invariant-loop-j
 invariant-loop-j l = let ms = typed_modules l.modules in let left = typed_modules (drop l.j l.modules) in record {
   links : l.of_module.items ++ map (λ m. definers (seen_sources ms m.0 m.1) m.1) (enumerate_from l.j left) ≡ linkage ms;
-  hold : All (ModuleHolds profile_limits) left → All (ModuleHolds profile_limits) ms;
   few : All (λ m. length (externals m) < 32768) left → All (λ m. length (externals m) < 32768) ms;
 }
