@@ -29,7 +29,7 @@ fn placements_of<'a>(
     requires { length segments.items ≡ length modules.now }
     ensures { (ls : List (Named PlacedAt)) → IsLowTable table.now.by_name ls → IfOk result (λ v. v.items ≡ map (with_frames frames ls) (zip (typed_modules modules.entry.now) (map (λ s. s.items) segments.items))) }
 {
-    let mut placements = Vec::new(alloc);
+    let mut placements = Vec::with_capacity(alloc, modules.len())?;
     let mut left = segments.into_iter();
     for module in modules {
         let Some(places) = left.next() else {

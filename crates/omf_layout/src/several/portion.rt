@@ -131,7 +131,7 @@ pub fn portions_of<'a>(
     requires { length modules.now < 2 ^ 32 }
     ensures { IfOk result (λ v. map with_names v.items ≡ portions (typed_modules modules.entry.now)) }
 {
-    let mut portions = Vec::new(alloc);
+    let mut portions = Vec::with_capacity(alloc, modules.len())?;
     for (number, module) in modules.iter().enumerate() {
         let each = attributes_of(alloc, module)?;
         add_portions(&mut portions, module, number as u32, &each)?;
