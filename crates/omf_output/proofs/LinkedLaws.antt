@@ -8,7 +8,6 @@ use Rattle.std.proofs.lemmas.List.Elements.{All-nil, All-cons, All-head, All-tai
 use Rattle.omf_check.specs.Module.{recs_of, records_in}
 use Rattle.std.proofs.lemmas.List.{length-map}
 use Rattle.omf_check.specs.Tables.{segments}
-use Rattle.omf_check.specs.Threads.{same}
 use Rattle.omf_check.specs.declared.segment.SegInfo.{SegInfo}
 use Rattle.omf_reloc.proofs.ReachLaws.{reach-decided}
 use Rattle.omf_reloc.specs.Reach.{reach_fault}

@@ -26,6 +26,11 @@ all-append : {A : Type 0} (test : A → Bool) (xs ys : List A) → list_all test
 all-append test [] ys = refl
 all-append test (x ∷ xs) ys = ap (λ b. test x && b) (all-append test xs ys) ∙ and-assoc (test x) (list_all test xs) (list_all test ys)
 
+-- A test by a value that is there only where it holds.
+pub failed-if : {A : Type 0} (b : Bool) (x : A) → cond b (Some x) None ≡ None → b ≡ false
+failed-if true x e = absurd cc
+failed-if false x e = refl
+
 module _ (mv : Movers) where
   -- The fixups that belong to the last data record.
   abbrev pending : Option ℕ → List (ℕ × PlainFixup) → Bool

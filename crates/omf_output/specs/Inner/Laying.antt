@@ -1,5 +1,5 @@
 -- Data records put in bytes from address 0 on, and their fixups applied there, one piece after the other.
-use Rattle.std.specs.Prelude.{ℕ, ◌+◌, ◌≤◌, List, [], ◌∷◌, ◌++◌, length, take, drop, map, flat_map, fold, All, Bool, false, Option, Some, None, ⊤}
+use Rattle.std.specs.Prelude.{ℕ, ◌+◌, ◌≤◌, List, [], ◌∷◌, ◌++◌, length, take, drop, map, flat_map, fold, All, Option, Some, None, ⊤}
 use Rattle.omf_records.specs.Values.{Contents, Plain, Iterated, Rec, width, location_offset}
 use Rattle.omf_image.specs.Inner.Expanding.{expanded}
 use Rattle.omf_image.specs.Limits.{profile_limits}

@@ -107,22 +107,6 @@ fn put_data(
     }
 }
 
-/// The same for a record that is not decoded yet. It is decoded only if it has data.
-fn put_undecoded(
-    alloc: Global,
-    image: &mut [u8],
-    placement: &Placement,
-    record: &Undecoded<'_>,
-) -> Result<(), AllocError>
-    requires { DataFit placement.now (length image.old) «record».now.kind «record».now.contents }
-    ensures { OnOk result (image.new ≡ with_data placement.now «record».now.kind «record».now.contents image.old) }
-{
-    match record.data() {
-        Some(rec) => put_data(alloc, image, placement, &rec),
-        None => Ok(()),
-    }
-}
-
 /// The segment of an LEDATA and the offset of its first byte there.
 type Source = (u16, u32);
 
@@ -155,23 +139,24 @@ fn source_in(rec: &Rec<'_>, last: Option<Source>) -> Option<Source>
     }
 }
 
-/// The same for a record that is not decoded yet. It is decoded only if it has data.
-fn undecoded_source(record: &Undecoded<'_>, last: Option<Source>) -> Option<Source>
-    ensures { result ≡ source_in «record».now.contents last }
+/// Puts the data of a record that is not decoded yet. It is decoded only if it has data. Returns the last data record, as `source_in`.
+fn put_undecoded(
+    alloc: Global,
+    image: &mut [u8],
+    placement: &Placement,
+    last: Option<Source>,
+    record: &Undecoded<'_>,
+) -> Result<Option<Source>, AllocError>
+    requires { DataFit placement.now (length image.old) «record».now.kind «record».now.contents }
+    ensures image { OnOk result (image.new ≡ with_data placement.now «record».now.kind «record».now.contents image.old) }
+    ensures last { IfOk result (λ s. s ≡ source_in «record».now.contents last) }
 {
     match record.data() {
-        Some(rec) => source_in(&rec, last),
-        None => last,
-    }
-}
-
-/// The same, up to and including this piece.
-fn source_after(piece: &Piece<'_>, last: Option<Source>) -> Option<Source>
-    ensures { result ≡ source_after (piece_seen piece.now) last }
-{
-    match piece {
-        Piece::Kept(record) => undecoded_source(record, last),
-        Piece::Fixed { .. } | Piece::End { .. } => last,
+        Some(rec) => {
+            put_data(alloc, image, placement, &rec)?;
+            Ok(source_in(&rec, last))
+        }
+        None => Ok(last),
     }
 }
 
@@ -187,26 +172,27 @@ fn fix(image: &mut [u8], placement: &Placement, source: Source, width: Width, fi
     }
 }
 
-/// Takes a piece: puts its data, or applies its fixup. `last` is the last data record before it.
+/// Takes a piece: puts its data, or applies its fixup. `last` is the last data record before it; returns the last up to and including it.
 fn take(
     alloc: Global,
     image: &mut [u8],
     placement: &Placement,
     last: Option<Source>,
     piece: &Piece<'_>,
-) -> Result<(), AllocError>
+) -> Result<Option<Source>, AllocError>
     requires { CanLay placement.now (length image.old) last (piece_seen piece.now) }
-    ensures { OnOk result (image.new ≡ laid_by placement.now last (piece_seen piece.now) image.old) }
+    ensures image { OnOk result (image.new ≡ laid_by placement.now last (piece_seen piece.now) image.old) }
+    ensures last { IfOk result (λ s. s ≡ source_after (piece_seen piece.now) last) }
 {
     match piece {
-        Piece::Kept(record) => put_undecoded(alloc, image, placement, record),
+        Piece::Kept(record) => put_undecoded(alloc, image, placement, last, record),
         Piece::Fixed { width, fixup } => {
             if let Some(source) = last {
                 fix(image, placement, source, *width, fixup);
             }
-            Ok(())
+            Ok(last)
         }
-        Piece::End { .. } => Ok(()),
+        Piece::End { .. } => Ok(last),
     }
 }
 
@@ -222,8 +208,7 @@ fn lay_module(
 {
     let mut last = None;
     for (_place, piece) in pieces_of(module) {
-        take(alloc, image, placement, last, &piece)?;
-        last = source_after(&piece, last);
+        last = take(alloc, image, placement, last, &piece)?;
     }
     Ok(())
 }

@@ -60,7 +60,7 @@ fn frame_of(up: bool, moves: bool) -> Frame
 fn places_of(alloc: Global, up: bool, moving: &[bool]) -> Result<Vec<Placed>, AllocError>
     ensures { IfOk result (λ v. v.items ≡ map (place_at up) moving.now) }
 {
-    let mut places = Vec::new(alloc);
+    let mut places = Vec::with_capacity(alloc, moving.len())?;
     for moves in moving {
         places.push(place_of(up, *moves))?;
     }
@@ -71,7 +71,7 @@ fn places_of(alloc: Global, up: bool, moving: &[bool]) -> Result<Vec<Placed>, Al
 fn frames_of(alloc: Global, up: bool, moving: &[bool]) -> Result<Vec<Frame>, AllocError>
     ensures { IfOk result (λ v. v.items ≡ map (frame_at up) moving.now) }
 {
-    let mut frames = Vec::new(alloc);
+    let mut frames = Vec::with_capacity(alloc, moving.len())?;
     for moves in moving {
         frames.push(frame_of(up, *moves))?;
     }
@@ -99,7 +99,7 @@ fn all_bases<'a>(
 ) -> Result<Vec<Movers>, AllocError>
     ensures { (ls : List Named) → IsLowTable table.now.by_name ls → IfOk result (λ v. v.items ≡ map (bases_in ls) (typed_modules modules.entry.now)) }
 {
-    let mut bases = Vec::new(alloc);
+    let mut bases = Vec::with_capacity(alloc, modules.len())?;
     for module in modules {
         bases.push(bases_of(alloc, table, module)?)?;
     }
@@ -119,7 +119,7 @@ fn based(alloc: Global, up: bool, bases: &Movers) -> Result<Placement, AllocErro
 fn all_based(alloc: Global, up: bool, bases: &[Movers]) -> Result<Vec<Placement>, AllocError>
     ensures { IfOk result (λ v. v.items ≡ map (based_by up) bases.now) }
 {
-    let mut placements = Vec::new(alloc);
+    let mut placements = Vec::with_capacity(alloc, bases.len())?;
     for of_module in bases {
         placements.push(based(alloc, up, of_module)?)?;
     }
@@ -157,7 +157,7 @@ fn externals_moving(
 ) -> Result<Vec<Moving>, AllocError>
     ensures { IfOk result (λ v. v.items ≡ externals_moving (low.now, high.now)) }
 {
-    let mut moving = Vec::new(alloc);
+    let mut moving = Vec::with_capacity(alloc, low.external_count())?;
     for before in 0..low.external_count() {
         moving.push(external_moving(low, high, before + 1))?;
     }
@@ -175,7 +175,7 @@ fn all_movers(
     requires high { length high.now ≡ length bases.items }
     ensures { IfOk result (λ v. v.items ≡ map completed (zip bases.items (zip low.now high.now))) }
 {
-    let mut movers = Vec::new(alloc);
+    let mut movers = Vec::with_capacity(alloc, bases.len())?;
     let mut j = 0;
     for of_module in bases {
         let externals = externals_moving(alloc, &low[j], &high[j])?;

@@ -1,6 +1,6 @@
 //! Whether a module moves with a program, and its relocation words.
 
-ghost use Rattle.std.specs.Prelude.{◌≡◌, ◌↔◌, ◌∷◌, [], ℕ, ◌==◌, true, None};
+ghost use Rattle.std.specs.Prelude.{◌≡◌, ◌↔◌, ◌∷◌, [], ℕ, ◌==◌, true, None, Some, if◌then◌else◌};
 ghost use Rattle.std.specs.List.{list_all};
 ghost use Rattle.omf_check.specs.Listed.{placed_from};
 ghost use Rattle.omf_check.specs.Module.{recs_of, records_in};
@@ -143,13 +143,19 @@ pub(crate) fn segment_after(piece: &Piece<'_>, last: Option<u16>) -> Option<u16>
     }
 }
 
-/// Whether the segment of a data record moves; any other record does.
-fn segment_moves(movers: &Movers, record: &Undecoded<'_>) -> bool
-    ensures { result ≡ segment_moves movers.now «record».now.contents }
+/// The segment of the last data record, up to and including this record; `None` if it has data of a segment that does not move.
+fn record_moves(movers: &Movers, last: Option<u16>, record: &Undecoded<'_>) -> Option<Option<u16>>
+    ensures { result ≡ (if segment_moves movers.now «record».now.contents then Some (data_segment «record».now.contents last) else None) }
 {
     match undecoded_segment(record, None) {
-        Some(segment) => movers.segment_moves(usize::from(segment)),
-        None => true,
+        Some(segment) => {
+            if movers.segment_moves(usize::from(segment)) {
+                Some(Some(segment))
+            } else {
+                None
+            }
+        }
+        None => Some(last),
     }
 }
 
@@ -163,14 +169,26 @@ fn fixup_moves(movers: &Movers, last: Option<u16>, width: Width, fixup: &PlainFi
     }
 }
 
-/// Whether a piece moves. `last` is the segment of the last data record before it.
-fn moves_after(movers: &Movers, last: Option<u16>, piece: &Piece<'_>) -> bool
-    ensures { result ≡ moves_after movers.now last (piece_seen piece.now) }
+/// The segment of the last data record, up to and including this piece; `None` if the piece does not move. `last` is that before it.
+fn moved_past(movers: &Movers, last: Option<u16>, piece: &Piece<'_>) -> Option<Option<u16>>
+    ensures { result ≡ (if moves_after movers.now last (piece_seen piece.now) then Some (segment_after (piece_seen piece.now) last) else None) }
 {
     match piece {
-        Piece::Kept(record) => segment_moves(movers, record),
-        Piece::Fixed { width, fixup } => fixup_moves(movers, last, *width, fixup),
-        Piece::End { start, .. } => start_moves(movers, start),
+        Piece::Kept(record) => record_moves(movers, last, record),
+        Piece::Fixed { width, fixup } => {
+            if fixup_moves(movers, last, *width, fixup) {
+                Some(last)
+            } else {
+                None
+            }
+        }
+        Piece::End { start, .. } => {
+            if start_moves(movers, start) {
+                Some(last)
+            } else {
+                None
+            }
+        }
     }
 }
 
@@ -182,10 +200,10 @@ pub fn movable(module: &Checked, movers: &Movers) -> Option<Place>
 {
     let mut last = None;
     for (place, piece) in pieces_of(module) {
-        if !moves_after(movers, last, &piece) {
-            return Some(place);
+        match moved_past(movers, last, &piece) {
+            Some(segment) => last = segment,
+            None => return Some(place),
         }
-        last = segment_after(&piece, last);
     }
     None
 }

@@ -36,8 +36,8 @@ loop-place-preserved c =
     let rest = c.next.new.self in
     let xs = c.loop-place._place-iterator in
     record {
-      same = step-same pl c.loop-place.last c.source_after-last.result x xs rest c.loop-place.image c.take.new.image _ c.in-Some.ensures.steps c.in_ok-take.ensures c.source_after-last.ensures c.loop-place.invariant.same;
-      can = subst (λ s. AllCanLay pl (length c.args.image.now) s (without_places rest)) (sym c.source_after-last.ensures)
+      same = step-same pl c.loop-place.last c.in_ok-last.last x xs rest c.loop-place.image c.take.new.image _ c.in-Some.ensures.steps c.in_ok-last.ensures.image c.in_ok-last.ensures.last c.loop-place.invariant.same;
+      can = subst (λ s. AllCanLay pl (length c.args.image.now) s (without_places rest)) (sym c.in_ok-last.ensures.last)
           (step-can pl (length c.args.image.now) c.loop-place.last x xs rest c.in-Some.ensures.steps c.loop-place.invariant.can).1;
     }
 
