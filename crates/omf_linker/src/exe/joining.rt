@@ -29,34 +29,34 @@ fn others(left: &[usize]) -> &[usize]
     }
 }
 
-/// The values at numbers, by a walk that meets the numbers in turn.
-fn walked<T: Drop>(alloc: Global, numbers: &[usize], values: Vec<T>) -> Result<Vec<T>, AllocError>
-    ensures { IfOk result (λ v. v.items ≡ walked 0 numbers.now values.items) }
+/// Moves the values at numbers to the end of others, by a walk that meets the numbers in turn.
+fn walk<T: Drop>(numbers: &[usize], values: Vec<T>, all: &mut Vec<T>) -> Result<(), AllocError>
+    ensures { OnOk result (all.new.items ≡ all.old.items ++ walked 0 numbers.now values.items) }
 {
-    let mut taken = Vec::new(alloc);
     let mut left = numbers;
     let mut number = 0;
     for value in values {
         if is_first(left, number) {
-            taken.push(value)?;
+            all.push(value)?;
             left = others(left);
         }
         number += 1;
     }
-    Ok(taken)
+    Ok(())
 }
 
-/// The values at these numbers, which rise.
+/// Moves the values at these numbers, which rise, to the end of others.
 #[tactic(auto, using(crate::proofs::TakenLaws::walk_is))]
-pub(crate) fn taken<T: Drop>(
-    alloc: Global,
+pub(crate) fn take_into<T: Drop>(
     numbers: &[usize],
     values: Vec<T>,
-) -> Result<Vec<T>, AllocError>
+    all: &mut Vec<T>,
+) -> Result<(), AllocError>
     requires { IsStrictlyIncreasing numbers.now }
-    ensures { IfOk result (λ v. v.items ≡ values_at numbers.now values.items) }
+    ensures { OnOk result (all.new.items ≡ all.old.items ++ values_at numbers.now values.items) }
 {
-    walked(alloc, numbers, values)
+    all.reserve(numbers.len())?;
+    walk(numbers, values, all)
 }
 
 /// Moves values to the end of others. If there are no others, their vector is replaced as a whole.
@@ -96,7 +96,6 @@ pub fn join_needed(
 {
     let numbers = needed_members(alloc, &given, &members)?;
     let mut modules = given;
-    let own = taken(alloc, &numbers, members)?;
-    move_all(own, &mut modules)?;
+    take_into(&numbers, members, &mut modules)?;
     Ok(Joined { modules, numbers })
 }

@@ -94,7 +94,7 @@ fn members_of<'a>(
     requires moved { length movers.now ≡ length modules.now }
     ensures { IfOk result (λ v. v.items ≡ members_from 0 modules.entry.now placements.entry.now movers.entry.now) }
 {
-    let mut members = Vec::new(alloc);
+    let mut members = Vec::with_capacity(alloc, modules.len())?;
     for (j, module) in modules.iter().enumerate() {
         let number = j as u32;
         members.push(Member {

@@ -14,7 +14,7 @@ use crate::exe::defaults::sought;
 use crate::exe::fault::{ComProgramFault, PlacingFault, ProgramFault};
 use crate::exe::files::{in_line, memory, of_input, of_ordering, of_sharing};
 use crate::exe::input::{Input, Origin};
-use crate::exe::joining::{join_needed, move_all, taken};
+use crate::exe::joining::{join_needed, move_all, take_into};
 use crate::exe::lines::Origins;
 use crate::exe::listing::modules_text;
 use crate::exe::making::{com_linked, map_linked, program_linked};
@@ -64,10 +64,10 @@ fn all_of(alloc: Global, input: Input) -> Result<ProgramModules, AllocError>
         members_from,
     } = input;
     let joined = join_needed(alloc, given, members)?;
-    let members_from = taken(alloc, &joined.numbers, members_from)?;
+    let mut origins = given_from;
+    take_into(&joined.numbers, members_from, &mut origins)?;
     let mut from = Vec::new(alloc);
-    put_origins(&given_from, &mut from)?;
-    put_origins(&members_from, &mut from)?;
+    put_origins(&origins, &mut from)?;
     let modules = joined.modules;
     Ok(ProgramModules { modules, from })
 }
