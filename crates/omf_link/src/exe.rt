@@ -11,6 +11,7 @@ use omf_linker::exe::{
 use omf_linker::host::write_or_tell;
 use omf_linker::link::InputFile;
 use std::alloc::{AllocError, Global};
+use std::mem::forget;
 
 /// The warning of a program without a stack.
 const NO_STACK: &str = "no stack: SS:SP is 0:0 from the load address\n";
@@ -88,7 +89,7 @@ fn bytes_of(
     Ok((file.bytes, !file.has_stack))
 }
 
-/// The program of modules, with what belongs to it.
+/// The program of modules, with what belongs to it. The memory of the linkage is not freed: the run ends soon.
 fn made(
     alloc: Global,
     modules: &ProgramModules,
@@ -99,6 +100,7 @@ fn made(
     let (bytes, lacks_stack) = bytes_of(alloc, &linked, files, output.is_com)?;
     let map = map_of(alloc, &linked, files, output.map.is_some())?;
     let repeated = linked.repeated(alloc, files, output.allows_twice)?;
+    forget(linked);
     Ok(MadeProgram {
         bytes,
         map,
@@ -140,7 +142,7 @@ fn write_program<K: Sink>(
     Ok(status)
 }
 
-/// Makes a program of files with these options, and writes it. Returns the status.
+/// Makes a program of files with these options, and writes it. The memory of the modules is not freed: the run ends. Returns the status.
 fn with_options<K: Sink>(
     rt: &HostRuntime,
     asked: &Asked,
@@ -152,7 +154,11 @@ fn with_options<K: Sink>(
         return Ok(Status::Failed);
     };
     match sources.modules(rt, options)? {
-        Ok(modules) => write_program(rt, &modules, &sources, output, writer),
+        Ok(modules) => {
+            let status = write_program(rt, &modules, &sources, output, writer);
+            forget(modules);
+            status
+        }
         Err(refusal) => refuse(rt, &refusal, &sources.missing, writer),
     }
 }
