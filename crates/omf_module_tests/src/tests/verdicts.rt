@@ -2,8 +2,8 @@
 
 ghost use Rattle.std.specs.Prelude.{◌<◌};
 
-use omf_check::{CheckFault, Checked, Profile, Session, check};
-use omf_frame::{Buffered, Bytes, Place, Reason, Source};
+use omf_check::{CheckFault, Checked, Profile, Session, check, check_with};
+use omf_frame::{Buffered, Bytes, Framer, Place, Reason, Source};
 use std::alloc::Global;
 use std::io::BufReader;
 
@@ -67,6 +67,15 @@ fn is_buffered(alloc: Global, bytes: &[u8], capacity: usize, answer: Answer) -> 
     }
 }
 
+/// Whether `check_with` gives this answer with a framer that has refused another input, and once more after it.
+fn is_answered_again(alloc: Global, bytes: &[u8], answer: Answer) -> bool {
+    let mut framer = Framer::new(alloc);
+    let refused = check_with(alloc, &mut framer, &mut Bytes::new(b"\x01"), ANY);
+    let first = check_with(alloc, &mut framer, &mut Bytes::new(bytes), ANY);
+    let second = check_with(alloc, &mut framer, &mut Bytes::new(bytes), ANY);
+    refused.is_err() && length_of(first) == answer && length_of(second) == answer
+}
+
 /// How many bytes a session takes of a piece, and whether it has taken a whole record.
 pub fn taken(session: &mut Session, piece: &[u8]) -> Result<(usize, bool), CheckFault> {
     match session.feed(piece) {
@@ -110,7 +119,7 @@ fn by_pieces(alloc: Global, bytes: &[u8], size: usize) -> Answer
 }
 
 /// Whether `check` gives a verdict over bytes and leaves this number of them, and gives it over small buffers, and a session in pieces of
-/// one size gives it too.
+/// one size and a framer of other checks give it too.
 pub fn is_answered(alloc: Global, bytes: &[u8], verdict: Verdict, left: usize, size: usize) -> bool
     requires { 0 < size }
 {
@@ -119,4 +128,5 @@ pub fn is_answered(alloc: Global, bytes: &[u8], verdict: Verdict, left: usize, s
         && is_buffered(alloc, bytes, 4, answer)
         && is_buffered(alloc, bytes, 21, answer)
         && by_pieces(alloc, bytes, size) == answer
+        && is_answered_again(alloc, bytes, answer)
 }
