@@ -31,6 +31,9 @@ struct Report {
     credit: Option<u64>,
 }
 
+/// What it costs to pass a full block, beside what is read there: it takes about as long as to read this many characters.
+const PASS: u64 = 48;
+
 /// What the two searches of a name find: the page of a member, or none.
 #[derive(Clone, Copy)]
 struct Both {
@@ -43,7 +46,8 @@ impl Report {
     fn search(&mut self, dictionary: Dictionary<'_>, rule: Rule, name: &[u8]) -> Option<Sought> {
         let credit = self.credit?;
         let sought = dictionary.search(rule, name);
-        self.credit = credit.checked_sub(sought.cost);
+        let passes = (sought.passed as u64).saturating_mul(PASS);
+        self.credit = credit.checked_sub(sought.cost.saturating_add(passes));
         Some(sought)
     }
 
