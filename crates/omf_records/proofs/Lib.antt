@@ -7,6 +7,7 @@ pub mod Recast
 pub mod ShortestLaws
 pub mod ValueLaws
 pub mod DirectLaws
+pub mod PassingLaws
 pub mod Heads
 pub mod LaidOut
 pub mod ReasonLaws

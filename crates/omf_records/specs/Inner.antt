@@ -9,6 +9,7 @@ pub mod LawProofs
 pub mod Many
 pub mod Meets
 pub mod Parts
+pub mod Passing
 pub mod Readers
 pub mod Reading
 pub mod Reads

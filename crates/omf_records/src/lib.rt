@@ -34,6 +34,7 @@ mod item;
 pub mod laws;
 mod location;
 mod method;
+mod passing;
 mod put;
 mod record;
 pub mod rows;

@@ -1,0 +1,140 @@
+//! Going past a FIXUP without keeping it, if it uses no thread and has no fault (TIS OMF 1.1, "FIXUPP").
+ghost use Rattle.std.specs.Prelude.{◌≡◌, ◌≤◌, ◌+◌, ◌*◌, ⊤, [], true, false, nat_lt, IfSome, get_or};
+ghost use Rattle.omf_records.specs.Entries.{wrong_location, wrong_methods};
+ghost use Rattle.omf_records.specs.Inner.EntryReaders.{datum_reader, displacement_reader, subrecord_reader};
+ghost use Rattle.omf_records.specs.Inner.Names.{has_frame_datum};
+ghost use Rattle.omf_records.specs.Inner.Passing.{IsEntry, IsSound, IsWithin, Passes, PassesNext};
+ghost use Rattle.omf_records.specs.Values.{frame_bits, frame_by_thread, target_by_thread, target_bits};
+
+use crate::bits::{FixByte, Locat};
+use crate::field::{index, number};
+use crate::here::Here;
+use crate::subrecord::{Subrecord, has_displacement, has_frame_datum};
+use crate::unread::Unread;
+use omf_frame::Index;
+
+/// Whether these two bytes begin a FIXUP, and its location is within data of `len` bytes.
+#[inline(always)]
+fn is_within(high: u8, low: u8, len: usize) -> bool
+    ensures high { result ≡ true → 128 ≤ high }
+    ensures location { result ≡ true → wrong_location (high * 256 + low) ≡ [] }
+    ensures within { result ≡ true → IsWithin len (high * 256 + low) }
+{
+    if high < 128 {
+        return false;
+    }
+    match Locat::new(u16::from(high) * 256 + u16::from(low)) {
+        Ok(location) => {
+            let size = location.location_type().size();
+            usize::from(location.offset() + u16::from(size)) <= len
+        }
+        Err(_) => false,
+    }
+}
+
+/// Whether a fix data byte is valid and names no thread.
+#[inline(always)]
+fn is_own(fix: u8) -> bool
+    ensures methods { result ≡ true → wrong_methods fix ≡ [] }
+    ensures frame { result ≡ true → frame_by_thread fix ≡ false }
+    ensures target { result ≡ true → target_by_thread fix ≡ false }
+{
+    match FixByte::new(fix) {
+        Ok(_) => fix / 128 % 2 != 1 && fix / 8 % 2 != 1,
+        Err(_) => false,
+    }
+}
+
+/// Whether an index is that of an entry of a table of `count` entries.
+#[inline(always)]
+fn is_entry(index: Index, count: usize) -> bool
+    ensures low { result ≡ true → 1 ≤ index }
+    ensures high { result ≡ true → index ≤ count }
+{
+    index.0 >= 1 && usize::from(index.0) <= count
+}
+
+/// Goes past the index at `here`, if it is that of an entry of a table of `count` entries.
+#[inline(always)]
+fn pass_index<'a>(here: Here<'a>, count: usize) -> Option<Here<'a>>
+    ensures { IfSome result (Passes (IsEntry count) here.entry.wide ((datum_reader true).read here.entry.within here.entry.bytes.now)) }
+{
+    match index(here) {
+        Ok((entry, after)) => {
+            if is_entry(entry, count) {
+                Some(after)
+            } else {
+                None
+            }
+        }
+        Err(_) => None,
+    }
+}
+
+/// Goes past the index of a frame at `here`, if there is one. It must be that of an entry.
+#[inline(always)]
+fn pass_frame<'a>(here: Here<'a>, fix: u8, counts: &[usize; 4]) -> Option<Here<'a>>
+    requires { frame_by_thread fix ≡ false }
+    ensures { IfSome result (Passes (λ d. nat_lt (frame_bits fix) 3 ≡ true → IsEntry (get_or counts.now (frame_bits fix) 0) d) here.entry.wide ((datum_reader (has_frame_datum fix)).read here.entry.within here.entry.bytes.now)) }
+{
+    if has_frame_datum(fix) {
+        pass_index(here, counts[usize::from(fix / 16 % 4)])
+    } else {
+        Some(here)
+    }
+}
+
+/// Goes past the displacement at `here`, if there is one.
+#[inline(always)]
+fn pass_displacement<'a>(here: Here<'a>, is_there: bool) -> Option<Here<'a>>
+    ensures { IfSome result (Passes (λ d. ⊤) here.entry.wide ((displacement_reader here.entry.wide is_there).read here.entry.within here.entry.bytes.now)) }
+{
+    if !is_there {
+        return Some(here);
+    }
+    match number(here) {
+        Ok((_, after)) => Some(after),
+        Err(_) => None,
+    }
+}
+
+/// Goes past the FIXUP at `here`, if it is sound.
+#[inline(always)]
+fn pass_fixup<'a>(here: Here<'a>, counts: &[usize; 4], len: usize) -> Option<Here<'a>>
+    ensures { IfSome result (Passes (IsSound counts.now len) here.entry.wide ((subrecord_reader here.entry.wide).read here.entry.within here.entry.bytes.now)) }
+{
+    match here.bytes() {
+        [high, low, fix, ..] => {
+            if !is_within(*high, *low, len) || !is_own(*fix) {
+                return None;
+            }
+            let Some(framed) = pass_frame(here.pass(3), *fix, counts) else {
+                return None;
+            };
+            let Some(aimed) = pass_index(framed, counts[usize::from(*fix % 4)]) else {
+                return None;
+            };
+            pass_displacement(aimed, has_displacement(*fix))
+        }
+        _ => None,
+    }
+}
+
+impl<'a> Unread<Subrecord<'a>> {
+    /// Goes on after the next subrecord, if it is a FIXUP that uses no thread and has no fault, where the tables of segments, groups
+    /// and externals have as many entries as `counts` says, and the last data record is an LEDATA with `len` bytes of data. Returns
+    /// false, and changes nothing, if it is not, and may do so if it is.
+    #[inline(always)]
+    pub fn pass_direct(&mut self, counts: &[usize; 4], len: usize) -> bool
+        ensures passed { result ≡ true → PassesNext counts.now len self.old self.new }
+        ensures items { result ≡ false → self.new ≡ self.old }
+    {
+        match pass_fixup(self.place(), counts, len) {
+            Some(after) => {
+                *self = Unread::new(after);
+                true
+            }
+            None => false,
+        }
+    }
+}
