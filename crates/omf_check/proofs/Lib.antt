@@ -31,6 +31,7 @@ pub mod LimitLaws
 pub mod SoundLaws
 pub mod ThreadLaws
 pub mod Walked
+pub mod PassedLaws
 pub mod Patience
 pub mod JudgingLaws
 pub mod AheadLaws

@@ -4,7 +4,7 @@ ghost use Rattle.std.specs.Prelude.{◌≡◌, ◌≤◌, ◌+◌, length, nat_l
 ghost use Rattle.omf_check.specs.Rules.{item_limit, judged_at};
 ghost use Rattle.omf_check.specs.Inner.Judging.{kept_entries, index_fault, frame_fault, target_fault, reference_fault, location_fault, subrecord_fault, start_fault};
 ghost use Rattle.omf_check.specs.Inner.Kept.{set_threads};
-ghost use Rattle.omf_check.specs.Inner.Walking.{walk_fault, fixups_fault};
+ghost use Rattle.omf_check.specs.Inner.Walking.{walk_fault, fixups_fault, table_counts, plain_length};
 ghost use Rattle.omf_check.specs.Tables.{items_in};
 ghost use Rattle.omf_records.specs.Inner.Names.{location_size};
 ghost use Rattle.omf_records.specs.Values.{Fixups, location_type, location_offset};
@@ -123,6 +123,31 @@ impl Tables {
         }
     }
 
+    /// The numbers of entries of the tables, by the number of a target method.
+    #[inline(always)]
+    fn counts(&self) -> [usize; 4]
+        ensures { result ≡ table_counts self.now }
+    {
+        [
+            self.segments.len(),
+            self.groups.len(),
+            self.externals.len(),
+            0,
+        ]
+    }
+
+    /// The number of bytes of the last data record that fixups may change: 0 if it is no LEDATA.
+    #[inline(always)]
+    fn plain_length(&self) -> usize
+        ensures { result ≡ plain_length self.now.last }
+    {
+        match self.last {
+            Some(LastData::Plain(len)) => len,
+            Some(LastData::Iterated) => 0,
+            None => 0,
+        }
+    }
+
     /// Reads and checks the subrecords of a FIXUPP. If none has a fault, counts them as items and keeps their threads. A fault of their
     /// layout precedes all others.
     fn take_subrecords(&mut self, subrecords: Unread<Subrecord<'_>>) -> Option<LayoutFault>
@@ -135,7 +160,13 @@ impl Tables {
         let mut in_force = self.threads;
         let mut beyond = None;
         let mut found = None;
+        let counts = self.counts();
+        let length = self.plain_length();
         'walk: loop {
+            if left > 0 && subrecords.pass_direct(&counts, length) {
+                left -= 1;
+                continue;
+            }
             let subrecord = match subrecords.read_next() {
                 Ok(Some(subrecord)) => subrecord,
                 Ok(None) => break,
