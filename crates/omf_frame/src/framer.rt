@@ -150,6 +150,7 @@ fn advance(bytes: &mut Vec<u8>, at: Place, piece: &[u8]) -> Result<usize, FrameF
 }
 
 /// The record in `bytes`, if it is complete.
+#[inline(always)]
 fn front(bytes: &[u8], number: u32, start: u64) -> Option<RawRecord<'_>>
     requires short { length bytes.now ≤ record_len bytes.now }
     requires sound { standing_fault (number == 0) bytes.now ≡ None }
@@ -179,6 +180,7 @@ fn front(bytes: &[u8], number: u32, start: u64) -> Option<RawRecord<'_>>
 }
 
 /// The record that these bytes begin with, if it is complete and has no framing fault.
+#[inline(always)]
 fn whole_front(bytes: &[u8], number: u32, start: u64) -> Option<RawRecord<'_>>
     ensures stands { is_some result ≡ is_none (frame_fault (number == 0) (present bytes.now)) }
     ensures kind { IfSome result (λ r. r.kind ≡ (front_record (present bytes.now)).kind) }

@@ -9,6 +9,7 @@ use crate::kinds::{is_header, is_taken, is_unsupported};
 use crate::sums::byte_sum;
 
 /// The number of bytes after the two length bytes.
+#[inline(always)]
 fn stated(low: u8, high: u8) -> usize
     ensures same { result ≡ low + 256 * high }
     ensures bound { result ≤ 65535 }
@@ -17,6 +18,7 @@ fn stated(low: u8, high: u8) -> usize
 }
 
 /// The size of a record in bytes, from its length bytes.
+#[inline(always)]
 pub fn len_of(low: u8, high: u8) -> usize
     ensures same { result ≡ 3 + (low + 256 * high) }
     ensures bound { result ≤ 65538 }
@@ -25,6 +27,7 @@ pub fn len_of(low: u8, high: u8) -> usize
 }
 
 /// The size in bytes of the record at the front; 3 until both length bytes are present.
+#[inline(always)]
 pub fn record_len(bytes: &[u8]) -> usize
     ensures same { result ≡ record_len bytes.now }
     ensures bound { result ≤ 65538 }
@@ -36,6 +39,7 @@ pub fn record_len(bytes: &[u8]) -> usize
 }
 
 /// Whether all bytes of the record are present.
+#[inline(always)]
 pub fn is_whole(bytes: &[u8]) -> bool
     ensures { result ≡ is_whole bytes.now }
 {
@@ -46,6 +50,7 @@ pub fn is_whole(bytes: &[u8]) -> bool
 }
 
 /// The fault of the type byte, with its offset in the record.
+#[inline(always)]
 #[tactic(auto, unfolding(crate::specs::Inner::Judging::type_fault))]
 pub fn type_fault(bytes: &[u8]) -> Option<(Reason, u32)>
     ensures { result ≡ type_fault bytes.now }
@@ -59,6 +64,7 @@ pub fn type_fault(bytes: &[u8]) -> Option<(Reason, u32)>
 }
 
 /// The fault of a complete record of a supported type, with its offset in the record.
+#[inline(always)]
 #[tactic(auto, unfolding(crate::specs::Inner::Judging::whole_fault))]
 pub fn whole_fault(is_first: bool, bytes: &[u8]) -> Option<(Reason, u32)>
     ensures { result ≡ whole_fault is_first bytes.now }

@@ -228,18 +228,26 @@ fn is_treated(treatment: Treatment, kind: u8) -> bool
     }
 }
 
-/// Whether a module may have records of this type.
+/// Whether a module may have records of this type: those of the types that are read or carried, by their bytes.
+#[inline(always)]
 pub fn is_taken(kind: u8) -> bool
     ensures { result ≡ is_taken kind }
 {
-    is_treated(Treatment::Read, kind) || is_treated(Treatment::Carried, kind)
+    matches!(
+        kind,
+        0x80 | 0x82 | 0x88 | 0x8A | 0x8B | 0x8C | 0x8E | 0x90 | 0x91 | 0x94 | 0x95 | 0x96 | 0x98 | 0x99 | 0x9A | 0x9C | 0x9D | 0xA0 | 0xA1 | 0xA2 | 0xA3 | 0xB0 | 0xB4 | 0xB5 | 0xB6 | 0xB7 | 0xB8 | 0xC4 | 0xC5 | 0xC6 | 0xCA | 0xCC
+    )
 }
 
 /// Whether the type is known, and a module with such a record is refused.
+#[inline(always)]
 pub fn is_unsupported(kind: u8) -> bool
     ensures { result ≡ is_unsupported kind }
 {
-    is_treated(Treatment::Refused, kind)
+    matches!(
+        kind,
+        0xB2 | 0xB3 | 0xBC | 0xC2 | 0xC3 | 0xC8 | 0xC9 | 0xCE | 0xF0 | 0xF1
+    )
 }
 
 /// Whether records of this type are local: LEXTDEF, LPUBDEF, LCOMDEF and LLNAMES.
@@ -250,6 +258,7 @@ pub fn is_local(kind: u8) -> bool
 }
 
 /// Whether a record of this type begins a module: THEADR (80H) or LHEADR (82H).
+#[inline(always)]
 pub fn is_header(kind: u8) -> bool
     ensures { result ≡ is_header kind }
 {
@@ -257,6 +266,7 @@ pub fn is_header(kind: u8) -> bool
 }
 
 /// Whether a record of this type ends a module: MODEND (8AH, 8BH).
+#[inline(always)]
 pub fn is_end(kind: u8) -> bool
     ensures { result ≡ is_end kind }
 {
