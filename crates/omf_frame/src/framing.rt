@@ -57,8 +57,8 @@ pub fn type_fault(bytes: &[u8]) -> Option<(Reason, u32)>
 {
     match bytes {
         [] => None,
-        [kind, ..] if is_unsupported(*kind) => Some((Reason::UnsupportedType, 0)),
         [kind, ..] if is_taken(*kind) => None,
+        [kind, ..] if is_unsupported(*kind) => Some((Reason::UnsupportedType, 0)),
         _ => Some((Reason::UnknownType, 0)),
     }
 }

@@ -8,6 +8,7 @@ pub mod ShortestLaws
 pub mod ValueLaws
 pub mod DirectLaws
 pub mod PassingLaws
+pub mod RoomLaws
 pub mod Heads
 pub mod LaidOut
 pub mod ReasonLaws

@@ -1,17 +1,30 @@
 //! Going past a FIXUP without keeping it, if it uses no thread and has no fault (TIS OMF 1.1, "FIXUPP").
-ghost use Rattle.std.specs.Prelude.{◌≡◌, ◌≤◌, ◌+◌, ◌*◌, ⊤, [], true, false, nat_lt, IfSome, get_or};
+ghost use Rattle.std.specs.Prelude.{◌≡◌, ◌≤◌, ◌+◌, ◌*◌, ◌/◌, ◌%◌, ⊤, [], true, false, nat_lt, IfSome, get_or};
 ghost use Rattle.omf_records.specs.Entries.{wrong_location, wrong_methods};
 ghost use Rattle.omf_records.specs.Inner.EntryReaders.{datum_reader, displacement_reader, subrecord_reader};
 ghost use Rattle.omf_records.specs.Inner.Names.{has_frame_datum};
-ghost use Rattle.omf_records.specs.Inner.Passing.{IsEntry, IsSound, IsWithin, Passes, PassesNext};
+ghost use Rattle.omf_records.specs.Inner.Passing.{IsEntry, IsSound, IsWithin, Passes, PassesNext, rooms};
 ghost use Rattle.omf_records.specs.Values.{frame_bits, frame_by_thread, target_by_thread, target_bits};
 
-use crate::bits::{FixByte, Locat};
+use crate::bits::FixByte;
 use crate::field::{index, number};
 use crate::here::Here;
 use crate::subrecord::{Subrecord, has_displacement, has_frame_datum};
 use crate::unread::Unread;
 use omf_frame::Index;
+
+/// The size in bytes of a location by bit M and its type, as one number of five bits; 0 if it is refused.
+const ROOMS: [u8; 32] = [
+    1, 2, 0, 0, 0, 2, 0, 0, 0, 4, 0, 0, 0, 4, 0, 0, 1, 2, 2, 4, 1, 2, 0, 0, 0, 4, 0, 6, 0, 4, 0, 0,
+];
+
+/// The size in bytes of the location of a FIXUP with this first byte; 0 if it is refused.
+#[inline(always)]
+fn room(high: u8) -> u8
+    ensures { result ≡ get_or rooms (high / 4 % 32) 0 }
+{
+    ROOMS[usize::from(high / 4 % 32)]
+}
 
 /// Whether these two bytes begin a FIXUP, and its location is within data of `len` bytes.
 #[inline(always)]
@@ -23,13 +36,11 @@ fn is_within(high: u8, low: u8, len: usize) -> bool
     if high < 128 {
         return false;
     }
-    match Locat::new(u16::from(high) * 256 + u16::from(low)) {
-        Ok(location) => {
-            let size = location.location_type().size();
-            usize::from(location.offset() + u16::from(size)) <= len
-        }
-        Err(_) => false,
+    let room = room(high);
+    if room == 0 {
+        return false;
     }
+    usize::from(u16::from(high % 4) * 256 + u16::from(low) + u16::from(room)) <= len
 }
 
 /// Whether a fix data byte is valid and names no thread.

@@ -1,5 +1,5 @@
 -- FIXUPs that use no thread and have no fault, and are passed without being kept.
-use Rattle.std.specs.Prelude.{◌≡◌, ◌≤◌, ◌<◌, ◌+◌, ◌*◌, ℕ, List, [], get_or, nat_lt, Bool, true, false, Option, Some, None, Result, Ok}
+use Rattle.std.specs.Prelude.{◌≡◌, ◌≤◌, ◌<◌, ◌+◌, ◌*◌, ℕ, List, [], ◌∷◌, get_or, nat_lt, Bool, true, false, Option, Some, None, Result, Ok}
 use Rattle.omf_frame.specs.Fault.{Fault}
 use Rattle.omf_records.specs.declared.here.Here.{Here}
 use Rattle.omf_records.specs.Entries.{wrong_location}
@@ -42,3 +42,7 @@ pub record PassesNext (counts : List ℕ) (size : ℕ) (old new : Pending Subrec
   pub next : At Subrecord
   pub gives : NextGives old (Ok (Some next)) new
   pub sound : IsSound counts size next.item
+
+-- The size in bytes of a location by bit M and its type, as one number of five bits; 0 if it is refused.
+abbrev pub rooms : List ℕ
+rooms = 1 ∷ 2 ∷ 0 ∷ 0 ∷ 0 ∷ 2 ∷ 0 ∷ 0 ∷ 0 ∷ 4 ∷ 0 ∷ 0 ∷ 0 ∷ 4 ∷ 0 ∷ 0 ∷ 1 ∷ 2 ∷ 2 ∷ 4 ∷ 1 ∷ 2 ∷ 0 ∷ 0 ∷ 0 ∷ 4 ∷ 0 ∷ 6 ∷ 0 ∷ 4 ∷ 0 ∷ 0 ∷ []
