@@ -2,5 +2,4 @@ pub mod Faulty
 pub mod FieldLaws
 pub mod Judging
 pub mod Standing
-pub mod Typed
 pub mod Names

@@ -1,8 +1,8 @@
 //! The types of records, and the width of their fields (TIS OMF 1.1, "Record types").
 
 ghost use Rattle.std.specs.Prelude.{◌≡◌};
-ghost use Rattle.omf_frame.specs.Inner.Names.{is_same, is_unsupported};
-ghost use Rattle.omf_frame.specs.Types.{row, type_of, type_name, is_local, is_treated, width_of, width_bytes};
+ghost use Rattle.omf_frame.specs.Inner.Names.{is_unsupported};
+ghost use Rattle.omf_frame.specs.Types.{row, type_of, type_name, is_local, width_of, width_bytes};
 ghost use Rattle.omf_frame.specs.Framing.{is_taken, is_header, is_end};
 
 use std::fmt;
@@ -16,18 +16,6 @@ pub enum Treatment {
     Carried,
     /// A module with one is refused.
     Refused,
-}
-
-impl Treatment {
-    fn is(self, other: Treatment) -> bool
-        ensures { result ≡ is_same self other }
-    {
-        match self {
-            Treatment::Read => matches!(other, Treatment::Read),
-            Treatment::Carried => matches!(other, Treatment::Carried),
-            Treatment::Refused => matches!(other, Treatment::Refused),
-        }
-    }
 }
 
 /// The type of a record (TIS OMF 1.1, "Record types"). A type has one or two type bytes.
@@ -218,16 +206,6 @@ pub fn type_name(kind: u8) -> &'static str
     }
 }
 
-/// Whether the type is known, and its records are treated so.
-fn is_treated(treatment: Treatment, kind: u8) -> bool
-    ensures { result ≡ is_treated treatment kind }
-{
-    match RecordType::of(kind) {
-        Some(record_type) => treatment.is(record_type.treatment()),
-        None => false,
-    }
-}
-
 /// Whether a module may have records of this type: those of the types that are read or carried, by their bytes.
 #[inline(always)]
 pub fn is_taken(kind: u8) -> bool
@@ -235,7 +213,37 @@ pub fn is_taken(kind: u8) -> bool
 {
     matches!(
         kind,
-        0x80 | 0x82 | 0x88 | 0x8A | 0x8B | 0x8C | 0x8E | 0x90 | 0x91 | 0x94 | 0x95 | 0x96 | 0x98 | 0x99 | 0x9A | 0x9C | 0x9D | 0xA0 | 0xA1 | 0xA2 | 0xA3 | 0xB0 | 0xB4 | 0xB5 | 0xB6 | 0xB7 | 0xB8 | 0xC4 | 0xC5 | 0xC6 | 0xCA | 0xCC
+        0x80 | 0x82
+            | 0x88
+            | 0x8A
+            | 0x8B
+            | 0x8C
+            | 0x8E
+            | 0x90
+            | 0x91
+            | 0x94
+            | 0x95
+            | 0x96
+            | 0x98
+            | 0x99
+            | 0x9A
+            | 0x9C
+            | 0x9D
+            | 0xA0
+            | 0xA1
+            | 0xA2
+            | 0xA3
+            | 0xB0
+            | 0xB4
+            | 0xB5
+            | 0xB6
+            | 0xB7
+            | 0xB8
+            | 0xC4
+            | 0xC5
+            | 0xC6
+            | 0xCA
+            | 0xCC
     )
 }
 

@@ -2,7 +2,7 @@
 
 use Rattle.omf_frame.specs.Framing.{is_end_of_input}
 use denote.Enum.Declared.{tag_of}
-use Rattle.std.specs.Prelude.{ℕ, List, flat_map, filter, IsTrue, All, Bool, ◌==◌, not, length, Option, Some, None, option_and_then, if◌then◌else◌, is_some, slice_get}
+use Rattle.std.specs.Prelude.{ℕ, List, flat_map, filter, IsTrue, All, Bool, ◌==◌, Option, Some, None, option_and_then, if◌then◌else◌, is_some, slice_get}
 use Rattle.omf_frame.specs.declared.kinds.RecordType.{RecordType}
 use Rattle.omf_frame.specs.Types.{row, record_types, is_treated}
 use Rattle.omf_frame.specs.contracts.kinds.Treatment.{the_type}
