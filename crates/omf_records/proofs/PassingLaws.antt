@@ -1,20 +1,18 @@
 -- A FIXUP that uses no thread is read field by field, where its first two bytes and its fix data byte are valid.
-use Rattle.std.proofs.Common.{◌≡◌, ℕ, ◌+◌, ◌*◌, ◌<◌, ◌≤◌, Bool, true, false, List, [], ◌∷◌, ◌++◌, length, drop, get_or, Option, Some, None, refl, sym, ap, subst, ◌∙◌, arith, Result, Ok, Err}
+use Rattle.std.proofs.Common.{◌≡◌, ℕ, ◌+◌, ◌*◌, ◌<◌, ◌≤◌, Bool, true, false, List, [], ◌∷◌, length, drop, get_or, Option, Some, None, sym, ap, ◌∙◌, arith, Ok}
 use Rattle.std.specs.Prelude.{not, nat_lt, ◌&&◌, ◌||◌, IfSome, ⊤}
 use Rattle.std.proofs.lemmas.Bool.{cond-false, le-ltb, ltb-true, lt-ltb}
-use Rattle.omf_frame.specs.Fault.{Fault}
-use Rattle.omf_frame.specs.declared.fault.Reason.{Reason}
 use Rattle.omf_records.specs.Inner.Names.{wrong_head, has_frame_datum, has_target_datum, has_no_displacement}
 use Rattle.omf_records.specs.declared.here.Here.{Here}
 use Rattle.omf_records.specs.Inner.Each.{each_turn, with_first}
 use Rattle.omf_records.specs.Entries.{wrong_methods, wrong_location, is_frame_method}
 use Rattle.omf_records.specs.Inner.EntryReaders.{datum_reader, displacement_reader, part_reader, subrecord_reader, subrecord_shrinks}
-use Rattle.omf_records.specs.Inner.Reads.{After, after, and_then, each}
+use Rattle.omf_records.specs.Inner.Reads.{after, and_then}
 use Rattle.omf_records.specs.Inner.Readers.{refuse_first}
 use Rattle.omf_records.specs.Inner.Unread.{Pending}
 use Rattle.omf_records.specs.Inner.Passing.{Passes, IsEntry, IsWithin, IsSound, PassesNext}
-use Rattle.omf_records.specs.Values.{At, Reference, Subrecord, Fixup, frame_by_thread, frame_bits, target_by_thread, target_bits}
-use Rattle.omf_records.proofs.DirectLaws.{locat, fix, numbered, targeted, framed, named, refused, whole, headed, items_at, no-reason}
+use Rattle.omf_records.specs.Values.{At, Subrecord, Fixup, frame_by_thread, frame_bits, target_by_thread, target_bits}
+use Rattle.omf_records.proofs.DirectLaws.{fix, numbered, targeted, framed, named, refused, whole, headed, items_at, no-reason}
 
 both : (a b : Bool) → a ≡ false → b ≡ true → (not a && b) ≡ true
 both true b e h = absurd cc
@@ -85,7 +83,7 @@ passes wide at bytes h l f tail parts counts size high place within methods own_
     record {
       value = Fixup (h * 256 + l) (record { fix = record { within = at + 2; item = f }; frame = p1.value; target = p2.value; displacement = p3.value });
       is = ap (λ (b : List ℕ). (subrecord_reader wide).read at b) parts
-        ∙ all-passed wide at h l f tail high place methods own_frame own_target kind w e p1.value h1.within h1.bytes.now p1.is p2.value h2.within h2.bytes.now p2.is p3.value h3.within h3.bytes.now read3;
+          ∙ all-passed wide at h l f tail high place methods own_frame own_target kind w e p1.value h1.within h1.bytes.now p1.is p2.value h2.within h2.bytes.now p2.is p3.value h3.within h3.bytes.now read3;
       same = p3.same ∙ still;
       holds = (within, record { own_frame = own_frame; own_target = own_target; kind = kind; frame = p1.holds; target = p2.holds });
     }

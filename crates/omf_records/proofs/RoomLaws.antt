@@ -1,7 +1,7 @@
 -- The sizes of locations by the first byte of a FIXUP.
-use Rattle.std.proofs.Common.{◌≡◌, ℕ, ◌+◌, ◌*◌, ◌/◌, ◌%◌, ◌<◌, ◌≤◌, Bool, true, false, cond, List, [], get_or, is_some, refl, sym, ap, subst, ◌∙◌, arith}
+use Rattle.std.proofs.Common.{◌≡◌, ℕ, ◌+◌, ◌*◌, ◌/◌, ◌%◌, ◌<◌, ◌≤◌, Bool, true, false, [], get_or, is_some, refl, ap, subst, ◌∙◌, arith}
 use Rattle.std.specs.Prelude.{◌==◌, ◌&&◌, ◌||◌}
-use Rattle.std.proofs.lemmas.Bool.{cond-true, agree_below, agree_below_at, and_parts, eqb-true, ne_eqb}
+use Rattle.std.proofs.lemmas.Bool.{cond-true, agree_below_at, and_parts, eqb-true, ne_eqb}
 use Rattle.omf_frame.specs.declared.fault.Reason.TheVariants as reason
 use Rattle.omf_records.specs.Location.{location_of, row_of}
 use Rattle.omf_records.specs.Entries.{unless, wrong_location}

@@ -1,9 +1,8 @@
 -- FIXUPs that use no thread and have no fault, and are passed without being kept.
-use Rattle.std.specs.Prelude.{◌≡◌, ◌≤◌, ◌<◌, ◌+◌, ◌*◌, ℕ, List, [], ◌∷◌, get_or, nat_lt, Bool, true, false, Option, Some, None, Result, Ok}
+use Rattle.std.specs.Prelude.{◌≡◌, ◌≤◌, ◌<◌, ◌+◌, ℕ, List, [], ◌∷◌, get_or, nat_lt, Bool, true, false, Option, Some, None, Result, Ok}
 use Rattle.omf_frame.specs.Fault.{Fault}
 use Rattle.omf_records.specs.declared.here.Here.{Here}
-use Rattle.omf_records.specs.Entries.{wrong_location}
-use Rattle.omf_records.specs.Inner.Names.{location_size, has_frame_datum}
+use Rattle.omf_records.specs.Inner.Names.{location_size}
 use Rattle.omf_records.specs.Inner.Reads.{After, after}
 use Rattle.omf_records.specs.Inner.Unread.{Pending, NextGives}
 use Rattle.omf_records.specs.Values.{At, Reference, Subrecord, Thread, Fixup, location_type, location_offset, frame_by_thread, frame_bits, target_by_thread, target_bits}

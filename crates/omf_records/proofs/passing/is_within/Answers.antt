@@ -1,6 +1,5 @@
-use Rattle.std.proofs.Common.{◌∙◌, ◌≡◌, ◌≤◌, get_or, arith}
+use Rattle.std.proofs.Common.{◌∙◌, arith}
 use Rattle.std.proofs.lemmas.Bool.{leb-true}
-use Rattle.omf_records.specs.Inner.Passing.{rooms}
 use Rattle.omf_records.proofs.RoomLaws.{right-location, right-end}
 use Rattle.omf_records.proofs.passing.is_within.Goals as goal
 
