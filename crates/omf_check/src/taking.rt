@@ -39,6 +39,7 @@ fn wanted(framer: &Framer, size: u64, ahead: &[u8]) -> usize
 }
 
 /// Judges a record, and then keeps its bytes.
+#[inline(always)]
 fn accept<K: Keeper>(
     tables: &mut Tables,
     keeper: &mut K,
@@ -98,6 +99,7 @@ pub(crate) fn step<K: Keeper>(
 
 /// Judges the next record where the reader shows it, if it is there whole, and moves past it. Returns its size in bytes, or 0. A
 /// record that is refused is taken from the reader too.
+#[inline(always)]
 fn step_ahead<S: Source, K: Keeper>(
     framer: &mut Framer,
     tables: &mut Tables,

@@ -347,6 +347,7 @@ impl Framer {
     /// the second record, within a record, after MODEND and after a fault.
     ///
     /// It shows what `raw` would after `feed` of these bytes, and copies nothing.
+    #[inline(always)]
     pub fn raw_ahead<'a>(&self, ahead: &'a [u8]) -> Option<RawRecord<'a>>
         ensures stands { is_some result ≡ shows_record self.now ahead.now }
         ensures between { OnSome result (IsBetween self.now) }
@@ -374,6 +375,7 @@ impl Framer {
 
     /// Goes on after the record that `raw_ahead` shows, as `next` would after `feed` of these bytes. Returns its size in bytes. The
     /// record's number must be below 2^32 - 1.
+    #[inline(always)]
     pub fn pass(&mut self, ahead: &[u8]) -> usize
         requires between { IsBetween self.old }
         requires sound { frame_fault (self.old.number == 0) (present ahead.now) ≡ None }

@@ -6,7 +6,6 @@ ghost use Rattle.omf_records.specs.Inner.Names.{has_frame_datum};
 ghost use Rattle.omf_records.specs.Inner.Passing.{IsEntry, IsSound, IsWithin, Passes, PassesNext, rooms};
 ghost use Rattle.omf_records.specs.Values.{frame_bits, frame_by_thread, target_by_thread, target_bits};
 
-use crate::bits::FixByte;
 use crate::field::{index, number};
 use crate::here::Here;
 use crate::subrecord::{Subrecord, has_displacement, has_frame_datum};
@@ -50,10 +49,11 @@ fn is_own(fix: u8) -> bool
     ensures frame { result ≡ true → frame_by_thread fix ≡ false }
     ensures target { result ≡ true → target_by_thread fix ≡ false }
 {
-    match FixByte::new(fix) {
-        Ok(_) => fix / 128 % 2 != 1 && fix / 8 % 2 != 1,
-        Err(_) => false,
+    if fix / 128 % 2 == 1 || fix / 8 % 2 == 1 {
+        return false;
     }
+    let frame = fix / 16 % 8;
+    fix % 4 != 3 && (frame < 3 || frame == 4 || frame == 5)
 }
 
 /// Whether an index is that of an entry of a table of `count` entries.
