@@ -1,28 +1,26 @@
 -- A sound FIXUP has no fault and sets no thread, so a pass over the subrecords may go past it.
-use Rattle.std.proofs.Common.{◌≡◌, ℕ, ◌+◌, ◌-◌, ◌<◌, ◌≤◌, Bool, true, false, List, [], ◌∷◌, get_or, Option, Some, None, Result, refl, sym, ap, subst, ◌∙◌, arith, inl, inr}
-use Rattle.std.specs.Prelude.{nat_lt, nat_le, ◌==◌, ◌&&◌, unwrap_or, option_map}
-use Rattle.std.proofs.lemmas.Bool.{cond-false, cond-true, le-leb, lt-ltb, eqb-true, eqb-false, cases_Bool, and_from}
+use Rattle.std.proofs.Common.{◌≡◌, ℕ, ◌+◌, ◌-◌, ◌<◌, ◌≤◌, Bool, true, false, List, get_or, Option, Some, None, Result, refl, sym, ap, subst, ◌∙◌, arith, inl, inr}
+use Rattle.std.specs.Prelude.{nat_lt, nat_le, ◌==◌, unwrap_or, option_map}
+use Rattle.std.proofs.lemmas.Bool.{cond-false, le-leb, lt-ltb, eqb-true, eqb-false, cases_Bool, and_from}
 use Rattle.omf_frame.specs.Fault.{Fault}
 use Rattle.omf_frame.specs.declared.fault.Reason.{Reason}
 use Rattle.omf_frame.specs.declared.fault.Reason.TheVariants as reason
 use Rattle.omf_records.specs.declared.location.LocationType.{LocationType}
 use Rattle.omf_records.specs.declared.location.LocationType.TheVariants as types
-use Rattle.omf_records.specs.Location.{location, location_of, row_of}
+use Rattle.omf_records.specs.Location.{location, location_of}
 use Rattle.omf_records.specs.Inner.Names.{location_size}
 use Rattle.omf_records.specs.Inner.Passing.{IsEntry, IsWithin, IsSound, PassesNext}
 use Rattle.omf_records.specs.Inner.Unread.{Pending}
-use Rattle.omf_records.specs.Values.{At, Subrecord, Thread, Fixup, Reference, location_type, location_offset, frame_by_thread, frame_bits, target_by_thread, target_bits}
-use Rattle.omf_records.specs.declared.method.Kind.TheVariants as kinds
+use Rattle.omf_records.specs.Values.{At, Subrecord, Thread, Fixup, location_type, location_offset, frame_by_thread, frame_bits, target_by_thread, target_bits}
 use Rattle.omf_records.specs.Methods.{kind_of, frame_code}
 use Rattle.omf_check.specs.declared.last_data.LastData.{LastData}
 use Rattle.omf_check.specs.declared.last_data.LastData.TheVariants as last
 use Rattle.omf_check.specs.declared.threads.Threads.{Threads}
 use Rattle.omf_check.specs.Inner.Kept.{Kept, set_thread}
-use Rattle.omf_check.specs.Inner.Names.{frame_from, target_from}
 use Rattle.omf_check.specs.Tables.{is_defined}
-use Rattle.omf_check.specs.Threads.{setting, frame_by}
-use Rattle.omf_check.specs.Rules.{undefined, judged_at}
-use Rattle.omf_check.specs.Inner.Judging.{fault_unless, lesser, kept_entries, index_fault, frame_fault, target_fault, frame_cell, target_cell, reference_fault, location_fault, subrecord_fault}
+use Rattle.omf_check.specs.Threads.{frame_by}
+use Rattle.omf_check.specs.Rules.{judged_at}
+use Rattle.omf_check.specs.Inner.Judging.{fault_unless, lesser, frame_fault, target_fault, frame_cell, target_cell, reference_fault, location_fault, subrecord_fault}
 use Rattle.omf_check.specs.Inner.Walking.{table_counts, plain_length}
 use Rattle.omf_check.proofs.Lesser.{lesser_none}
 use Rattle.omf_check.proofs.Walked.{Takes, takes_more}

@@ -1,4 +1,4 @@
-use Rattle.std.proofs.Common.{sym, ◌∙◌, ap, is_some}
+use Rattle.std.proofs.Common.{sym, ◌∙◌}
 use Rattle.omf_image.specs.Limits.{profile_limits}
 use Rattle.omf_check.proofs.Walked.{walked_bounded}
 use Rattle.omf_check.proofs.table.Tables.take.Goals as goal

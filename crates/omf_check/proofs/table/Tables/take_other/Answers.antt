@@ -1,4 +1,4 @@
-use Rattle.std.proofs.Common.{◌≡◌, ◌∙◌, ℕ, Bool, false, is_some, ap, sym, subst}
+use Rattle.std.proofs.Common.{◌≡◌, ◌∙◌, ℕ, false, ap, sym, subst}
 use Rattle.std.specs.Prelude.{Result, Ok, IfOk}
 use Rattle.omf_records.specs.Layout.{Meets}
 use Rattle.omf_records.specs.Records.{contents}

@@ -1,4 +1,4 @@
-use Rattle.std.proofs.Common.{◌≡◌, ℕ, ◌+◌, ◌-◌, length, Some, None, Result, Ok, List, refl, ap, sym, subst, ◌∙◌}
+use Rattle.std.proofs.Common.{◌≡◌, ℕ, ◌+◌, ◌-◌, length, Some, None, Ok, List, refl, ap, sym, subst, ◌∙◌}
 use Rattle.omf_records.specs.Inner.Passing.{PassesNext}
 use Rattle.omf_check.specs.Inner.Walking.{plain_length}
 use Rattle.std.specs.Prelude.{nat_lt}
