@@ -132,9 +132,9 @@ fn pass_fixup<'a>(here: Here<'a>, counts: &[usize; 4], len: usize) -> Option<Her
 }
 
 impl<'a> Unread<Subrecord<'a>> {
-    /// Goes on after the next subrecord, if it is a FIXUP that uses no thread and has no fault, where the tables of segments, groups
-    /// and externals have as many entries as `counts` says, and the last data record is an LEDATA with `len` bytes of data. Returns
-    /// false, and changes nothing, if it is not, and may do so if it is.
+    /// Goes on after the next subrecord, if it is a FIXUP that uses no thread and has no fault. `counts` has the numbers of segments,
+    /// groups and externals, and then 0; `len` is the number of data bytes of the last data record, 0 if it is no LEDATA. Returns false,
+    /// and changes nothing, if the subrecord is another, and may do so if it is such a FIXUP.
     #[inline(always)]
     pub fn pass_direct(&mut self, counts: &[usize; 4], len: usize) -> bool
         ensures passed { result ≡ true → PassesNext counts.now len self.old self.new }
