@@ -62,7 +62,7 @@ fn is_entry(index: Index, count: usize) -> bool
     ensures low { result ≡ true → 1 ≤ index }
     ensures high { result ≡ true → index ≤ count }
 {
-    index.0 >= 1 && usize::from(index.0) <= count
+    usize::from(index.0).wrapping_sub(1) < count
 }
 
 /// Goes past the index at `here`, if it is that of an entry of a table of `count` entries.
