@@ -1,0 +1,3 @@
+pub mod LastLaws
+pub mod UnplacedLaws
+pub mod PatternLaws

@@ -1,1 +1,4 @@
 pub mod Places
+pub mod Pattern
+pub mod Laws
+pub mod Inner

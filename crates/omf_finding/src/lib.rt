@@ -1,6 +1,9 @@
 //! Where a module's segments are in a program: patterns of a segment's bytes, and the places where they lie.
 #![tactic(auto)]
 
+pub mod laws;
 mod matching;
+mod pattern;
 
 pub use matching::places;
+pub use pattern::PatternByte;

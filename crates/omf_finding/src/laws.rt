@@ -1,0 +1,14 @@
+//! Laws about the definitions, each the contract of an empty function.
+
+ghost use Rattle.std.specs.Prelude.{List};
+ghost use Rattle.omf_records.specs.Values.{Rec};
+ghost use Rattle.omf_check.specs.Sound.{ModuleHolds};
+ghost use Rattle.omf_image.specs.Limits.{profile_limits};
+ghost use Rattle.omf_placement.specs.Placement.{Places};
+ghost use Rattle.omf_finding.specs.Laws.{HasPattern};
+
+/// At each placement, the image of a well-formed module has a byte exactly where its pattern has one, and at each closed byte the pattern's
+/// own.
+pub fn images_have_the_pattern()
+    ensures { (pl : Places) (m : List Rec) → ModuleHolds profile_limits m → HasPattern pl m }
+{}
