@@ -1,3 +1,5 @@
 pub mod LastLaws
 pub mod UnplacedLaws
 pub mod PatternLaws
+pub mod MarkLaws
+pub mod WalkLaws

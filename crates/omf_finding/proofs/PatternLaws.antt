@@ -18,8 +18,8 @@ use Rattle.omf_reloc.specs.Laws.{location_end, AreInside}
 use Rattle.omf_reloc.specs.Plain.{Piece, Kept, Fixed, End, PlainFixup, pieces, fixups_of_data}
 use Rattle.omf_reloc.proofs.PatchLaws.{stays_inside}
 use Rattle.omf_finding.specs.Laws.{HasPattern}
-use Rattle.omf_finding.specs.Pattern.{Unplaced, unplaced, unplaced_contents, touches, is_open, pattern_of, pattern_at, pattern}
-use Rattle.omf_finding.specs.declared.pattern.PatternByte.{PatternByte}
+use Rattle.omf_finding.specs.Pattern.{Unplaced, unplaced, unplaced_contents, touches, is_open, pattern_by, pattern_at, pattern}
+use Rattle.omf_finding.specs.declared.patterning.PatternByte.{PatternByte}
 use Rattle.omf_finding.proofs.LastLaws.{last_from, last-cons}
 use Rattle.omf_finding.proofs.UnplacedLaws.{Inside, all-inside}
 
@@ -85,7 +85,7 @@ at-place false xs ys i open_one size same = both-none
 
 -- All of a module's, one beside the other.
 abbrev IsPlacedAs : Unplaced → Laid → Type 0
-IsPlacedAs u l = (segment x : ℕ) → Beside (pattern_of segment x u) (byte_of segment x l)
+IsPlacedAs u l = (segment x : ℕ) → Beside (pattern_by segment x u) (byte_of segment x l)
 
 zip-append : (us vs : List Unplaced) (ks ls : List Laid) → AllZip IsPlacedAs us ks → AllZip IsPlacedAs vs ls → AllZip IsPlacedAs (us ++ vs) (ks ++ ls)
 zip-append [] vs [] ls h g = g
@@ -136,15 +136,15 @@ or-beside (Some p) o None c h g = absurd (let e : false ≡ true = h.same in cc)
 or-beside (Some p) o (Some b) c h g = h
 
 last-beside : (segment x : ℕ) (us : List Unplaced) (ls : List Laid) (o : Option PatternByte) (c : Option ℕ) → AllZip IsPlacedAs us ls → Beside o c
-    → Beside (last_from (pattern_of segment x) o us) (last_from (byte_of segment x) c ls)
+    → Beside (last_from (pattern_by segment x) o us) (last_from (byte_of segment x) c ls)
 last-beside segment x [] [] o c h g = g
 last-beside segment x [] (l ∷ ls) o c h g = absurd h
 last-beside segment x (u ∷ us) [] o c h g = absurd h
 last-beside segment x (u ∷ us) (l ∷ ls) o c h g =
-    subst (λ a. Beside a (last_from (byte_of segment x) c (l ∷ ls))) (sym (last-cons (pattern_of segment x) o u us))
-    (subst (λ a. Beside (last_from (pattern_of segment x) (option_or (pattern_of segment x u) o) us) a) (sym (last-cons (byte_of segment x) c l ls))
-    (last-beside segment x us ls (option_or (pattern_of segment x u) o) (option_or (byte_of segment x l) c) h.1
-    (or-beside (pattern_of segment x u) o (byte_of segment x l) c (h.0 segment x) g)))
+    subst (λ a. Beside a (last_from (byte_of segment x) c (l ∷ ls))) (sym (last-cons (pattern_by segment x) o u us))
+    (subst (λ a. Beside (last_from (pattern_by segment x) (option_or (pattern_by segment x u) o) us) a) (sym (last-cons (byte_of segment x) c l ls))
+    (last-beside segment x us ls (option_or (pattern_by segment x u) o) (option_or (byte_of segment x l) c) h.1
+    (or-beside (pattern_by segment x u) o (byte_of segment x l) c (h.0 segment x) g)))
 
 pub have-pattern : (pl : Places) (m : List Rec) → ModuleHolds profile_limits m → HasPattern pl m
 have-pattern pl m holds =

@@ -10,7 +10,7 @@ use Rattle.omf_image.specs.Overlay.{Laid, byte_of}
 use Rattle.omf_image.specs.declared.limits.Limits.{Limits}
 use Rattle.omf_reloc.specs.Laws.{location_end}
 use Rattle.omf_reloc.specs.Plain.{Piece, Kept, PlainFixup, pieces, fixups_of_data}
-use Rattle.omf_finding.specs.declared.pattern.PatternByte.{PatternByte}
+use Rattle.omf_finding.specs.declared.patterning.PatternByte.{PatternByte}
 
 -- A data record that is not placed: the bytes that it lays, those of an LIDATA expanded; and its fixups.
 pub record Unplaced : Type 0 where
@@ -38,12 +38,12 @@ abbrev pub is_open : List (ℕ × PlainFixup) → ℕ → Bool
 is_open fixups x = list_any (touches x) fixups
 
 -- What one data record has at offset x of a segment, if it covers that place.
-abbrev pub pattern_of : ℕ → ℕ → Unplaced → Option PatternByte
-pattern_of segment x u = option_map (λ b. record { value = b; is_open = is_open u.fixups (x - u.laid.offset) }) (byte_of segment x u.laid)
+abbrev pub pattern_by : ℕ → ℕ → Unplaced → Option PatternByte
+pattern_by segment x u = option_map (λ b. record { value = b; is_open = is_open u.fixups (x - u.laid.offset) }) (byte_of segment x u.laid)
 
 -- What the last data record has that covers the place.
 abbrev pub pattern_at : List Unplaced → ℕ → ℕ → Option PatternByte
-pattern_at us segment x = last (filter_map (pattern_of segment x) us)
+pattern_at us segment x = last (filter_map (pattern_by segment x) us)
 
 abbrev pub pattern : Limits → List Rec → ℕ → ℕ → Option PatternByte
 pattern limits m segment x = pattern_at (unplaced limits (pieces m)) segment x

@@ -3,7 +3,7 @@
 
 pub mod laws;
 mod matching;
-mod pattern;
+mod patterning;
 
 pub use matching::places;
-pub use pattern::PatternByte;
+pub use patterning::{Pattern, PatternByte, pattern_of};

@@ -9,7 +9,7 @@ use Rattle.omf_image.specs.Overlay.{Laid, byte_at, AreLaidOver}
 use Rattle.omf_reloc.specs.Inner.ReachSteps.{place_behind}
 use Rattle.omf_reloc.specs.Inner.Walking.{CanExpand, HasOffsets}
 use Rattle.omf_reloc.specs.Plain.{Piece, Kept, Fixed, End, PlainFixup}
-use Rattle.omf_finding.specs.declared.pattern.PatternByte.{PatternByte}
+use Rattle.omf_finding.specs.declared.patterning.PatternByte.{PatternByte}
 
 -- The two images of a pattern.
 pub record Marks : Type 0 where
@@ -46,8 +46,11 @@ abbrev pub marked_all : Option (ℕ × ℕ) → List PlainFixup → List Laid
 marked_all None fixups = []
 marked_all (Some place) fixups = map (marked place) fixups
 
+abbrev pub marks_contents : ℕ → Contents → List Laid
+marks_contents kind c = map unmarked (raw_contents kind c)
+
 abbrev pub marks_of : Option (ℕ × ℕ) → Piece → List Laid
-marks_of place (Kept r) = map unmarked (raw_contents r.kind r.contents)
+marks_of place (Kept r) = marks_contents r.kind r.contents
 marks_of place (Fixed kind fixups) = marked_all place fixups
 marks_of place (End kind byte start) = []
 
