@@ -3,3 +3,5 @@ pub mod UnplacedLaws
 pub mod PatternLaws
 pub mod MarkLaws
 pub mod WalkLaws
+pub mod FoundLaws
+pub mod IsFoundLaws

@@ -1,4 +1,5 @@
 pub mod Places
 pub mod Pattern
+pub mod Found
 pub mod Laws
 pub mod Inner
