@@ -92,9 +92,9 @@ module _ (program : List ℕ) (base : ℕ) where
     pub run-lies : (first : ℕ) (bytes : List ℕ) → 0 < length bytes → AreBytesOver byte (spanned first bytes) bytes → SegmentAgrees image segment address program base → lies_in program base (address + first) bytes ≡ true
     run-lies first bytes some over agrees =
         agrees-lies (address + first) bytes some (λ i b e.
-            let low = slice_get_within bytes i b e in
-            let place : address + (first + i) ≡ address + first + i = omega arith in
-            sym (ap (program_byte program base) place) ∙ agrees (first + i) b (over.each i low ∙ e))
+        let low = slice_get_within bytes i b e in
+        let place : address + (first + i) ≡ address + first + i = omega arith in
+        sym (ap (program_byte program base) place) ∙ agrees (first + i) b (over.each i low ∙ e))
 
     covered : (runs : List Run) → All RunAgrees runs → (x b : ℕ) → Covers runs x → byte x ≡ Some b → program_byte program base (address + x) ≡ Some b
     covered [] h x b c e = absurd c

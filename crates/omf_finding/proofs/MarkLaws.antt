@@ -69,21 +69,21 @@ one-by : (e : Bool) (a o size x : ℕ) (bytes : List ℕ) → o + size ≤ lengt
 one-by false a o size x bytes inside = refl
 one-by true a o size x bytes inside = elim (leb_tells (a + o) x) [
   | inl t ↦
-    let from : a + o ≤ x = t.1 in
-    let low : nat_le a x ≡ true = le-leb a x (omega (arith, from)) in
-    let begun : nat_le o (x - a) ≡ true = le-leb o (x - a) (omega (arith, from)) in
-    elim (leb_tells (o + size) (x - a)) [
-      | inl u ↦
-        let high : nat_lt (x - a) (o + size) ≡ false = not-le (suc (x - a)) (o + size) (omega (arith, u.1)) in
-        rw (le-leb (a + o) x from, replicate-past size (x - (a + o)) 1 (omega (arith, from, u.1)), begun, high, and-none (is_some (cond (nat_le a x) (slice_get bytes (x - a)) None))) refl
-      | inr u ↦
-        let within : nat_lt (x - a) (o + size) ≡ true = le-leb (suc (x - a)) (o + size) (omega (arith, u.1)) in
-        rw (le-leb (a + o) x from, replicate-get size (x - (a + o)) 1 (omega (arith, from, u.1)), begun, within, low, some-at bytes (x - a) (omega (arith, u.1, inside))) refl
-    ]
+      let from : a + o ≤ x = t.1 in
+      let low : nat_le a x ≡ true = le-leb a x (omega (arith, from)) in
+      let begun : nat_le o (x - a) ≡ true = le-leb o (x - a) (omega (arith, from)) in
+      elim (leb_tells (o + size) (x - a)) [
+        | inl u ↦
+            let high : nat_lt (x - a) (o + size) ≡ false = not-le (suc (x - a)) (o + size) (omega (arith, u.1)) in
+            rw (le-leb (a + o) x from, replicate-past size (x - (a + o)) 1 (omega (arith, from, u.1)), begun, high, and-none (is_some (cond (nat_le a x) (slice_get bytes (x - a)) None))) refl
+        | inr u ↦
+            let within : nat_lt (x - a) (o + size) ≡ true = le-leb (suc (x - a)) (o + size) (omega (arith, u.1)) in
+            rw (le-leb (a + o) x from, replicate-get size (x - (a + o)) 1 (omega (arith, from, u.1)), begun, within, low, some-at bytes (x - a) (omega (arith, u.1, inside))) refl
+      ]
   | inr t ↦ elim (leb_tells a x) [
     | inl u ↦
-      let late : nat_le o (x - a) ≡ false = not-le o (x - a) (omega (arith, t.1, u.1)) in
-      rw (t.0, late, and-none (is_some (cond (nat_le a x) (slice_get bytes (x - a)) None))) refl
+        let late : nat_le o (x - a) ≡ false = not-le o (x - a) (omega (arith, t.1, u.1)) in
+        rw (t.0, late, and-none (is_some (cond (nat_le a x) (slice_get bytes (x - a)) None))) refl
     | inr u ↦ rw (t.0, u.0) refl
   ]
 ]
@@ -174,7 +174,7 @@ all-records segment x [] o k c h e = e
 all-records segment x (u ∷ us) o k c h e =
     ap₂ byte_with (last-cons (byte_of segment x) o u.laid (map (λ u. u.laid) us)) (last-append (byte_of segment x) k (marks_with u) (flat_map marks_with us))
     ∙ all-records segment x us (option_or (byte_of segment x u.laid) o) (last_from (byte_of segment x) k (marks_with u)) (option_or (pattern_by segment x u) c) (All-tail Inside u us h)
-        (one-record segment x u o k c (All-head Inside u us h) e)
+    (one-record segment x u o k c (All-head Inside u us h) e)
     ∙ sym (last-cons (pattern_by segment x) c u us)
 
 -- ---- piece by piece

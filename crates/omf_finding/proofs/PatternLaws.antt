@@ -64,6 +64,7 @@ both-some v w open_one same = record { same = refl; closed = λ u e. ap Some (fr
         value_or : Option PatternByte → ℕ
         value_or None = 0
         value_or (Some p) = p.value
+
         open_or : Option PatternByte → Bool
         open_or None = false
         open_or (Some p) = p.is_open

@@ -96,5 +96,5 @@ module _ (m : List Rec) (holds : ModuleHolds profile_limits m) where
   pub walk-last : (w : Walk) → IsWalked m w [] → (segment x : ℕ) → byte_with (byte_at w.values segment x) (byte_at w.marks segment x) ≡ pattern profile_limits m segment x
   walk-last w h segment x =
       ap₂ byte_with (bytes_in_turn [] [] (flat_map raw_of (single_pieces m)) w.values (λ s y. refl) (h.values w.values refl) segment x)
-          (bytes_in_turn [] [] (all_marks None (single_pieces m)) w.marks (λ s y. refl) (h.marks w.marks refl) segment x)
+      (bytes_in_turn [] [] (all_marks None (single_pieces m)) w.marks (λ s y. refl) (h.marks w.marks refl) segment x)
       ∙ marks-are-pattern m holds segment x

@@ -5,6 +5,7 @@ mod found;
 pub mod laws;
 mod matching;
 mod patterning;
+pub mod rows;
 
 pub use found::is_found;
 pub use matching::places;

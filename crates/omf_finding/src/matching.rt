@@ -30,9 +30,7 @@ fn all_agree(pattern: &[Option<u8>], bytes: &[u8]) -> bool
 fn lies_at(pattern: &[Option<u8>], program: &[u8], at: usize) -> bool
     ensures { result ≡ lies_at pattern.now program.now at }
 {
-    at <= program.len()
-        && pattern.len() <= program.len() - at
-        && all_agree(pattern, &program[at..])
+    at <= program.len() && pattern.len() <= program.len() - at && all_agree(pattern, &program[at..])
 }
 
 /// The offsets of a program at which a pattern lies, in ascending order. An open byte is `None`.

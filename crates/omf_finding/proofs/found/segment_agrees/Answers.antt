@@ -27,9 +27,9 @@ returns-then-not-lies_in-clause-wrong c =
     let not : false ≡ lies_in c.args.program.now c.args.base (c.args.address + c.in-Some.first) c.in-Some.bytes.now =
     sym c.if-not-lies_in.true ∙ c.lies_in.ensures ∙ ap (λ (a : ℕ). lies_in c.args.program.now c.args.base a c.in-Some.bytes.now) place in
     λ _ agrees.
-        let is = run-lies c.args.program.now c.args.base image c.args.segment c.args.address c.in-Some.first c.in-Some.bytes.now some c.in-Some.ensures.1 agrees in
-        let wrong : false ≡ true = not ∙ is in
-        cc
+    let is = run-lies c.args.program.now c.args.base image c.args.segment c.args.address c.in-Some.first c.in-Some.bytes.now some c.in-Some.ensures.1 agrees in
+    let wrong : false ≡ true = not ∙ is in
+    cc
 
 pub loop-first-preserved : goal.loop-first-preserved
 loop-first-preserved c =
@@ -51,4 +51,4 @@ pub returns-clause-found : goal.returns-clause-found
 returns-clause-found c =
     let image = c.args.image.now in
     λ _. left-none c.args.program.now c.args.base image c.args.segment c.args.address (drop c.loop-first.k (runs_of image c.args.segment))
-        (none_left image c.args.segment c.loop-first.k c.in_default.ensures) c.loop-first.invariant.left
+    (none_left image c.args.segment c.loop-first.k c.in_default.ensures) c.loop-first.invariant.left
