@@ -44,13 +44,13 @@ module _ (program : List ℕ) (base : ℕ) where
   at-address : (address : ℕ) → base ≤ address → program_byte program base address ≡ slice_get program (address - base)
   at-address address low = ap (λ t. cond t (slice_get program (address - base)) None) (le-leb base address low)
 
-  below-base : (address b : ℕ) → program_byte program base address ≡ Some b → base ≤ address
+  pub below-base : (address b : ℕ) → program_byte program base address ≡ Some b → base ≤ address
   below-base address b e = elim (leb_tells base address) [
     | inl t ↦ t.1
     | inr t ↦ absurd (let none : program_byte program base address ≡ None = ap (λ c. cond c (slice_get program (address - base)) None) t.0 in let q : None ≡ Some b = sym none ∙ e in cc)
   ]
 
-  from-drop : (address i : ℕ) → base ≤ address → slice_get (drop (address - base) program) i ≡ program_byte program base (address + i)
+  pub from-drop : (address i : ℕ) → base ≤ address → slice_get (drop (address - base) program) i ≡ program_byte program base (address + i)
   from-drop address i low =
       let e : address - base + i ≡ address + i - base = omega (arith, low) in
       get-drop (address - base) i program ∙ ap (slice_get program) e ∙ sym (at-address (address + i) (omega (arith, low)))

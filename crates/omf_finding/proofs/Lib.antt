@@ -5,3 +5,4 @@ pub mod MarkLaws
 pub mod WalkLaws
 pub mod FoundLaws
 pub mod IsFoundLaws
+pub mod RunLaws

@@ -5,10 +5,16 @@ ghost use Rattle.omf_records.specs.Values.{Rec};
 ghost use Rattle.omf_check.specs.Sound.{ModuleHolds};
 ghost use Rattle.omf_image.specs.Limits.{profile_limits};
 ghost use Rattle.omf_placement.specs.Placement.{Places};
-ghost use Rattle.omf_finding.specs.Laws.{HasPattern};
+ghost use Rattle.omf_finding.specs.Laws.{HasPattern, FoundAreListed};
 
 /// At each placement, the image of a well-formed module has a byte exactly where its pattern has one, and at each closed byte the pattern's
 /// own.
 pub fn images_have_the_pattern()
     ensures { (pl : Places) (m : List Rec) → ModuleHolds profile_limits m → HasPattern pl m }
+{}
+
+/// Each interval of the pattern of a module that is found is in a list of `places`: at its segment's address and its first offset, less
+/// the base.
+pub fn found_are_listed()
+    ensures { FoundAreListed }
 {}

@@ -6,6 +6,7 @@ pub mod laws;
 mod matching;
 mod patterning;
 pub mod rows;
+mod tests;
 
 pub use found::is_found;
 pub use matching::places;

@@ -1,6 +1,6 @@
 //! Patterns: what is known of a module's image before it is placed.
 
-ghost use Rattle.std.specs.Prelude.{◌≡◌, ◌+◌, ◌^◌, ◌≤◌, ℕ, [], ◌∷◌, OnOk, IfOk, IfSome, None, Some, replicate, vec_len};
+ghost use Rattle.std.specs.Prelude.{◌≡◌, ◌+◌, ◌^◌, ◌≤◌, ℕ, [], ◌∷◌, OnOk, IfOk, IfSome, None, Some, option_map, replicate, vec_len};
 ghost use Rattle.omf_records.specs.Inner.Seen.{odd_if, kind_seen, contents_seen};
 ghost use Rattle.omf_records.specs.Values.{width};
 ghost use Rattle.omf_image.specs.Inner.Expanding.{expanded};
@@ -11,11 +11,12 @@ ghost use Rattle.omf_reloc.specs.Inner.PieceSeen.{piece_seen};
 ghost use Rattle.omf_reloc.specs.Inner.ReachSteps.{data_place};
 ghost use Rattle.omf_reloc.specs.Inner.Walking.{CanExpand, Expands};
 ghost use Rattle.omf_finding.specs.Pattern.{pattern};
+ghost use Rattle.omf_finding.specs.Run.{closed_byte, cells, IsPatternRun};
 ghost use Rattle.omf_finding.specs.Inner.Walking.{byte_in, byte_with, unmarked, marked_all, raw_contents, raw_of, marks_of, IsNext, FitsContents, CanMark, CanTake, marks_contents};
 
 use omf_check::{Checked, Undecoded};
 use omf_frame::Index;
-use omf_image::{Image, Limits, expand};
+use omf_image::{Image, Limits, Run, expand};
 use omf_records::{At, Blocks, Rec};
 use omf_reloc::{Piece, PlainFixup, pieces_of};
 use std::alloc::{AllocError, Global};
@@ -60,6 +61,19 @@ fn byte_with(value: Option<u8>, mark: Option<u8>) -> Option<PatternByte>
     }
 }
 
+/// A closed byte; `None` for an open one, and where there is none.
+fn closed_byte(byte: Option<PatternByte>) -> Option<u8>
+    ensures { result ≡ closed_byte byte }
+{
+    match byte {
+        Some(PatternByte {
+            value,
+            is_open: false,
+        }) => Some(value),
+        _ => None,
+    }
+}
+
 impl Pattern {
     /// The byte at an offset of a segment; `None` if no data record covers it.
     pub fn get(&self, segment: u16, offset: u32) -> Option<PatternByte>
@@ -69,6 +83,47 @@ impl Pattern {
             self.values.get(segment, offset),
             self.marks.get(segment, offset),
         )
+    }
+
+    /// The bytes of an interval of a segment.
+    fn cells(
+        &self,
+        alloc: Global,
+        segment: u16,
+        run: Run,
+    ) -> Result<Vec<Option<u8>>, AllocError>
+        requires { run.first + run.len ≤ 2 ^ 32 }
+        ensures { IfOk result (λ v. v.items ≡ cells (byte_in self.now segment) run.first run.len) }
+    {
+        let mut cells = Vec::new(alloc);
+        for i in 0..run.len {
+            let offset = run.first + i as u32;
+            cells.push(closed_byte(self.get(segment, offset)))?;
+        }
+        Ok(cells)
+    }
+
+    /// The first offset and the bytes of the k-th interval of a segment that data records cover, from 0 and in ascending order, as `places`
+    /// searches for them: an open byte is `None`. `None` after the last.
+    ///
+    /// # Errors
+    ///
+    /// `AllocError` if out of memory.
+    pub fn run(
+        &self,
+        alloc: Global,
+        segment: u16,
+        k: usize,
+    ) -> Result<Option<(u32, Vec<Option<u8>>)>, AllocError>
+        ensures { IfOk result (λ r. IsPatternRun self.now segment k (option_map (λ shown. (shown.0, shown.1.items)) r)) }
+    {
+        match self.values.run_at(segment, k) {
+            Some(run) => {
+                let cells = self.cells(alloc, segment, run)?;
+                Ok(Some((run.first, cells)))
+            }
+            None => Ok(None),
+        }
     }
 }
 
