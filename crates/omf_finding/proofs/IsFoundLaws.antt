@@ -1,9 +1,10 @@
 -- A module is in a program exactly if its image agrees with it, segment by segment.
-use Rattle.std.proofs.Common.{◌≡◌, ℕ, ◌+◌, ◌-◌, ◌<◌, ◌≤◌, true, cond, List, [], ◌∷◌, length, refl, sym, ap, subst, ◌∙◌, arith}
+use Rattle.std.proofs.Common.{◌≡◌, ℕ, ◌+◌, ◌-◌, ◌<◌, ◌≤◌, true, false, cond, List, [], ◌∷◌, length, refl, sym, ap, subst, ◌∙◌, arith}
 use Rattle.std.specs.Prelude.{All, Option, Some, None, IsSome, slice_get, nat_le}
 use Rattle.std.specs.Option.{option_or, option_and_then}
 use Rattle.std.proofs.lemmas.Bool.{leb-true, le-leb, and_parts}
 use Rattle.std.proofs.lemmas.List.Elements.{All-nil, All-cons, All-head, All-tail}
+use Rattle.omf_frame.specs.Bytes.{is_one_of}
 use Rattle.omf_records.specs.Values.{Rec}
 use Rattle.omf_image.specs.Limits.{profile_limits}
 use Rattle.omf_image.specs.Overlay.{Laid, byte_of, byte_at}
@@ -58,18 +59,18 @@ module _ (pl : Places) (m : List Rec) (holds : ModuleHolds profile_limits m) whe
       from-some (is_defined (length (segments m)) segment ≡ true) segment x (laid profile_limits pl (pieces m)) None (λ n. absurd cc)
       (each-defined segment x (laid profile_limits pl (pieces m)) (all-inside pl m holds).each_piece) (is-some (image profile_limits pl m segment x) b e)
 
-  module _ (program : List ℕ) (base : ℕ) (reaches : Reaches pl m) (bytes : List Laid) (same : (segment x : ℕ) → byte_at bytes segment x ≡ image profile_limits pl m segment x) where
+  module _ (absent program : List ℕ) (base : ℕ) (reaches : Reaches pl m) (bytes : List Laid) (same : (segment x : ℕ) → byte_at bytes segment x ≡ image profile_limits pl m segment x) where
     count : length pl.segments ≡ length (segments m)
     count = ((reach-decided pl m).decided.0 reaches).fits.segment_count
 
     there : (segment x : ℕ) (place : Placed) → entry pl.segments segment ≡ Some place → byte_there pl program base segment x ≡ program_byte program base (place.address + x)
     there segment x place e = ap (option_and_then (λ (p : Placed). program_byte program base (p.address + x))) e
 
-    pub agree-found : FirstAgree bytes pl.segments program base (length pl.segments) → IsFound m pl program base
+    pub agree-found : FirstAgree bytes pl.segments absent program base (length pl.segments) → IsFound m pl absent program base
     agree-found h = record { reaches = reaches; bytes = found }
       where
-        found : (segment x b : ℕ) → image profile_limits pl m segment x ≡ Some b → byte_there pl program base segment x ≡ Some b
-        found segment x b e =
+        found : (segment x b : ℕ) → is_one_of absent segment ≡ false → image profile_limits pl m segment x ≡ Some b → byte_there pl program base segment x ≡ Some b
+        found segment x b none e =
             let both = and_parts (nat_le 1 segment) (nat_le segment (length (segments m))) (segment-defined segment x b e) in
             let one = leb-true 1 segment both.0 in
             let most = leb-true segment (length (segments m)) both.1 in
@@ -78,11 +79,11 @@ module _ (pl : Places) (m : List Rec) (holds : ModuleHolds profile_limits m) whe
             let place = some-of (slice_get pl.segments k) (within_some pl.segments k low) in
             let back : k + 1 ≡ segment = omega (arith, one) in
             let at : entry pl.segments segment ≡ Some place.0 = ap (λ t. cond t (slice_get pl.segments (segment - 1)) None) both.0 ∙ place.1 in
-            there segment x place.0 at ∙ h k place.0 low place.1 x b (ap (λ (n : ℕ). byte_at bytes n x) back ∙ same segment x ∙ e)
+            there segment x place.0 at ∙ h k place.0 low place.1 (ap (is_one_of absent) back ∙ none) x b (ap (λ (n : ℕ). byte_at bytes n x) back ∙ same segment x ∙ e)
 
-    pub found-agree : IsFound m pl program base → FirstAgree bytes pl.segments program base (length pl.segments)
-    found-agree h k place low e x b s =
+    pub found-agree : IsFound m pl absent program base → FirstAgree bytes pl.segments absent program base (length pl.segments)
+    found-agree h k place low e none x b s =
         let one : nat_le 1 (k + 1) ≡ true = le-leb 1 (k + 1) (omega arith) in
         let back : k + 1 - 1 ≡ k = omega arith in
         let at : entry pl.segments (k + 1) ≡ Some place = ap (λ t. cond t (slice_get pl.segments (k + 1 - 1)) None) one ∙ ap (slice_get pl.segments) back ∙ e in
-        sym (there (k + 1) x place at) ∙ h.bytes (k + 1) x b (sym (same (k + 1) x) ∙ s)
+        sym (there (k + 1) x place at) ∙ h.bytes (k + 1) x b none (sym (same (k + 1) x) ∙ s)

@@ -8,6 +8,7 @@ use Rattle.std.proofs.lemmas.Bool.Decides.{leb_tells}
 use Rattle.std.proofs.lemmas.List.{length-drop}
 use Rattle.std.proofs.lemmas.List.FromFn.{map-range_with_len_more, length-map-range_with_len}
 use Rattle.std.proofs.lemmas.Option.{slice_get_within}
+use Rattle.omf_frame.specs.Bytes.{is_one_of}
 use Rattle.omf_records.specs.Values.{Rec}
 use Rattle.omf_image.specs.Limits.{profile_limits}
 use Rattle.omf_image.specs.Overlay.{Laid, byte_at, IsRunAt}
@@ -96,7 +97,7 @@ agree-by : (is_open : Bool) (value b : ℕ) → (is_open ≡ false → value ≡
 agree-by true value b h = refl
 agree-by false value b h = eq-eqb value b (h refl)
 
-module _ (m : List Rec) (pl : Places) (program : List ℕ) (base : ℕ) (holds : ModuleHolds profile_limits m) (found : IsFound m pl program base) (segment : ℕ) (place : Placed) (at : entry pl.segments segment ≡ Some place) where
+module _ (m : List Rec) (pl : Places) (absent program : List ℕ) (base : ℕ) (holds : ModuleHolds profile_limits m) (found : IsFound m pl absent program base) (segment : ℕ) (none : is_one_of absent segment ≡ false) (place : Placed) (at : entry pl.segments segment ≡ Some place) where
   abbrev byte : ℕ → Option PatternByte
   byte x = pattern profile_limits m segment x
 
@@ -104,7 +105,7 @@ module _ (m : List Rec) (pl : Places) (program : List ℕ) (base : ℕ) (holds :
   have = have-pattern pl m holds
 
   there : (x b : ℕ) → image profile_limits pl m segment x ≡ Some b → program_byte program base (place.address + x) ≡ Some b
-  there x b e = sym (ap (option_and_then (λ (p : Placed). program_byte program base (p.address + x))) at) ∙ found.bytes segment x b e
+  there x b e = sym (ap (option_and_then (λ (p : Placed). program_byte program base (p.address + x))) at) ∙ found.bytes segment x b none e
 
   meets : (x : ℕ) → is_some (byte x) ≡ true → Meets (byte x) (program_byte program base (place.address + x))
   meets x some =
@@ -141,4 +142,4 @@ module _ (m : List Rec) (pl : Places) (program : List ℕ) (base : ℕ) (holds :
       }
 
 pub found-listed : FoundAreListed
-found-listed m pl program base segment first len place holds found at some covered = lies-listed m pl program base holds found segment place at first len some covered
+found-listed m pl absent program base segment first len place holds found none at some covered = lies-listed m pl absent program base holds found segment none place at first len some covered

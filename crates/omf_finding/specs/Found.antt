@@ -1,6 +1,7 @@
 -- A module is in a program at a placement.
-use Rattle.std.specs.Prelude.{◌≡◌, ◌≤◌, ℕ, ◌+◌, ◌-◌, List, ◌&&◌, Bool, nat_le, Option, Some, None, slice_get, if◌then◌else◌}
+use Rattle.std.specs.Prelude.{◌≡◌, ◌≤◌, ℕ, ◌+◌, ◌-◌, List, ◌&&◌, Bool, nat_le, false, Option, Some, None, slice_get, if◌then◌else◌}
 use Rattle.std.specs.Option.{option_and_then}
+use Rattle.omf_frame.specs.Bytes.{is_one_of}
 use Rattle.omf_records.specs.Values.{Rec}
 use Rattle.omf_image.specs.Limits.{profile_limits}
 use Rattle.omf_check.specs.Tables.{entry}
@@ -16,7 +17,8 @@ program_byte program base address = if nat_le base address then slice_get progra
 abbrev pub byte_there : Places → List ℕ → ℕ → ℕ → ℕ → Option ℕ
 byte_there pl program base segment x = option_and_then (λ p. program_byte program base (p.address + x)) (entry pl.segments segment)
 
--- The placement reaches, and each byte of the image is the program's at its address.
-pub record IsFound (m : List Rec) (pl : Places) (program : List ℕ) (base : ℕ) : Type 0 where
+-- The placement reaches, and each byte of the image is the program's at its address, but for the segments that are said to be absent: a
+-- linker may leave out what nothing refers to.
+pub record IsFound (m : List Rec) (pl : Places) (absent program : List ℕ) (base : ℕ) : Type 0 where
   pub reaches : Reaches pl m
-  pub bytes : (segment x b : ℕ) → image profile_limits pl m segment x ≡ Some b → byte_there pl program base segment x ≡ Some b
+  pub bytes : (segment x b : ℕ) → is_one_of absent segment ≡ false → image profile_limits pl m segment x ≡ Some b → byte_there pl program base segment x ≡ Some b

@@ -6,6 +6,7 @@ use Rattle.omf_placement.specs.declared.frame.Placed.{Placed}
 use Rattle.omf_finding.specs.Found.{IsFound}
 use Rattle.omf_finding.specs.Places.{places}
 use Rattle.omf_finding.specs.Run.{cells}
+use Rattle.omf_frame.specs.Bytes.{is_one_of}
 use Rattle.omf_records.specs.Values.{Rec}
 use Rattle.omf_image.specs.Limits.{profile_limits}
 use Rattle.omf_placement.specs.Placement.{Places}
@@ -22,9 +23,9 @@ pub record LiesAtItsPlace (bytes : List (Option ℕ)) (program : List ℕ) (base
   pub above : base ≤ address
   pub listed : Contains (places bytes program) (address - base)
 
--- If a module is found at a placement, each interval of its pattern, whole or in part, is at the address that the placement gives it. So a
+-- If a module is found at a placement, each interval of its pattern in a segment that is not absent, whole or in part, is at the address that the placement gives it. So a
 -- search by `places` misses no module that is there.
 abbrev pub FoundAreListed : Type 0
-FoundAreListed = (m : List Rec) (pl : Places) (program : List ℕ) (base segment first len : ℕ) (place : Placed) → ModuleHolds profile_limits m → IsFound m pl program base
+FoundAreListed = (m : List Rec) (pl : Places) (absent program : List ℕ) (base segment first len : ℕ) (place : Placed) → ModuleHolds profile_limits m → IsFound m pl absent program base → is_one_of absent segment ≡ false
     → entry pl.segments segment ≡ Some place → 0 < len → ((i : ℕ) → i < len → is_some (pattern profile_limits m segment (first + i)) ≡ true)
     → LiesAtItsPlace (cells (pattern profile_limits m segment) first len) program base (place.address + first)

@@ -1,7 +1,9 @@
 //! Whether a module is in a program at a placement.
 
-ghost use Rattle.std.specs.Prelude.{◌≡◌, ◌≤◌, ℕ, length, true, false, IfOk};
+ghost use Rattle.std.specs.Prelude.{◌≡◌, ◌≤◌, ℕ, length, true, false, IfOk, IfErr};
 ghost use Rattle.omf_image.specs.Limits.{profile_limits};
+ghost use Rattle.omf_frame.specs.Bytes.{is_one_of};
+ghost use Rattle.omf_reloc.specs.Reach.{Reaches};
 ghost use Rattle.omf_check.specs.Module.{recs_of};
 ghost use Rattle.omf_check.specs.Sound.{ModuleHolds};
 ghost use Rattle.omf_check.specs.Tables.{segments};
@@ -40,15 +42,29 @@ fn segment_agrees(image: &Image, segment: u16, address: u32, program: &[u8], bas
     true
 }
 
-/// Each byte of an image whose segments lie at these places is the program's.
-fn image_agrees(image: &Image, places: &[Placed], program: &[u8], base: u32) -> bool
+/// Whether a segment is one of those that are absent.
+fn is_absent(absent: &[u16], segment: u16) -> bool
+    ensures { result ≡ is_one_of absent.now segment }
+{
+    absent.iter().any(|other| *other == segment)
+}
+
+/// Each byte of an image whose segments lie at these places is the program's, but for absent segments.
+fn image_agrees(
+    image: &Image,
+    places: &[Placed],
+    absent: &[u16],
+    program: &[u8],
+    base: u32,
+) -> bool
     requires { length places.now ≤ 65535 }
-    ensures found { result ≡ true → FirstAgree image.now places.now program.now base (length places.now) }
-    ensures wrong { result ≡ false → FirstAgree image.now places.now program.now base (length places.now) → ⊥ }
+    ensures found { result ≡ true → FirstAgree image.now places.now absent.now program.now base (length places.now) }
+    ensures wrong { result ≡ false → FirstAgree image.now places.now absent.now program.now base (length places.now) → ⊥ }
 {
     for n in 0..places.len() {
         let segment = n as u16 + 1;
-        if !segment_agrees(image, segment, places[n].address, program, base) {
+        if !is_absent(absent, segment)
+            && !segment_agrees(image, segment, places[n].address, program, base) {
             return false;
         }
     }
@@ -65,8 +81,8 @@ fn segment_count(module: &Checked) -> u16
     module.segments()
 }
 
-/// Whether a module is in a program at a placement: the placement reaches, and each byte of the image is the program's at its address. The
-/// program's first byte is at `base`.
+/// Whether a module is in a program at a placement: the placement reaches, and each byte of the image is the program's at its address, but
+/// for the segments that are named as absent. The program's first byte is at `base`.
 ///
 /// # Errors
 ///
@@ -75,15 +91,17 @@ pub fn is_found(
     alloc: Global,
     module: &Checked,
     placement: &Placement,
+    absent: &[u16],
     program: &[u8],
     base: u32,
 ) -> Result<bool, AllocError>
-    ensures found { IfOk result (λ found. found ≡ true → IsFound (recs_of «module».now.bytes) placement.now program.now base) }
-    ensures wrong { IfOk result (λ found. found ≡ false → IsFound (recs_of «module».now.bytes) placement.now program.now base → ⊥) }
+    ensures found { IfOk result (λ found. found ≡ true → IsFound (recs_of «module».now.bytes) placement.now absent.now program.now base) }
+    ensures wrong { IfOk result (λ found. found ≡ false → IsFound (recs_of «module».now.bytes) placement.now absent.now program.now base → ⊥) }
+    ensures memory { IfErr result (λ e. Reaches placement.now (recs_of «module».now.bytes)) }
 {
     let _count = segment_count(module);
     match reach_and_relocate(alloc, module, placement) {
-        Ok(image) => Ok(image_agrees(&image, placement.segments(), program, base)),
+        Ok(image) => Ok(image_agrees(&image, placement.segments(), absent, program, base)),
         Err(RelocateFault::Reach(_fault)) => Ok(false),
         Err(RelocateFault::Memory) => Err(AllocError),
     }

@@ -24,7 +24,7 @@ fn module_in(alloc: Global) -> Option<Checked> {
 }
 
 /// Whether the module is found at an address, where the program's second byte is at 10020H.
-fn finds(alloc: Global, address: u32) -> Option<bool> {
+fn finds(alloc: Global, address: u32, absent: &[u16]) -> Option<bool> {
     let module = module_in(alloc)?;
     let frame = Frame {
         base: 0x10000,
@@ -32,7 +32,7 @@ fn finds(alloc: Global, address: u32) -> Option<bool> {
     };
     let mut placement = Placement::new(alloc);
     placement.push_segment(address, frame).ok()?;
-    is_found(alloc, &module, &placement, &PROGRAM, 0x1001F).ok()
+    is_found(alloc, &module, &placement, absent, &PROGRAM, 0x1001F).ok()
 }
 
 /// The places of the first run of the module's pattern.
@@ -55,14 +55,20 @@ fn has_two_places(alloc: Global) -> bool {
 
 #[test]
 fn a_module_is_found_where_it_lies(rt: HostRuntime) {
-    assert!(rt; finds(rt.alloc(), 0x10020) == Some(true));
+    assert!(rt; finds(rt.alloc(), 0x10020, &[]) == Some(true));
 }
 
 #[test]
 fn a_module_is_not_found_elsewhere(rt: HostRuntime) {
-    assert!(rt; finds(rt.alloc(), 0x10024) == Some(false));
-    assert!(rt; finds(rt.alloc(), 0x1001F) == Some(false));
-    assert!(rt; finds(rt.alloc(), 0x20020) == Some(false));
+    assert!(rt; finds(rt.alloc(), 0x10024, &[]) == Some(false));
+    assert!(rt; finds(rt.alloc(), 0x1001F, &[]) == Some(false));
+    assert!(rt; finds(rt.alloc(), 0x20020, &[]) == Some(false));
+}
+
+#[test]
+fn an_absent_segment_is_not_looked_at(rt: HostRuntime) {
+    assert!(rt; finds(rt.alloc(), 0x10024, &[1]) == Some(true));
+    assert!(rt; finds(rt.alloc(), 0x10024, &[2]) == Some(false));
 }
 
 #[test]
