@@ -1,13 +1,13 @@
 -- An image beside a program, run by run.
-use Rattle.std.proofs.Common.{◌≡◌, inl, inr, ℕ, zero, suc, ◌+◌, ◌-◌, ◌<◌, ◌≤◌, Bool, true, false, cond, List, [], ◌∷◌, ◌++◌, length, take, drop, refl, sym, ap, subst, ◌∙◌, arith}
-use Rattle.std.specs.Prelude.{All, Option, Some, None, is_some, IsSome, slice_get, nat_le, ◌==◌, ◌&&◌, Contains}
+use Rattle.std.proofs.Common.{◌≡◌, inl, inr, ℕ, zero, suc, ◌+◌, ◌-◌, ◌<◌, ◌≤◌, Bool, true, false, cond, List, [], ◌∷◌, length, take, drop, refl, sym, ap, subst, ◌∙◌, arith}
+use Rattle.std.specs.Prelude.{All, Option, Some, None, is_some, slice_get, nat_le, ◌==◌}
 use Rattle.std.specs.Cmp.Lexicographic.{pointwise}
 use Rattle.std.proofs.lemmas.Bool.{leb-true, le-leb, and_parts, and_from, eqb-true, eq-eqb}
 use Rattle.std.proofs.lemmas.Bool.Decides.{leb_tells}
 use Rattle.std.proofs.lemmas.List.Elements.{All-nil, All-cons, All-head, All-tail}
-use Rattle.std.proofs.lemmas.Option.{slice_get_past, slice_get_within}
-use Rattle.omf_image.specs.Inner.Joined.{runs_of, run_end}
-use Rattle.omf_image.specs.Overlay.{Laid, byte_at, byte_of, AreBytesOver, spanned}
+use Rattle.std.proofs.lemmas.Option.{slice_get_within}
+use Rattle.omf_image.specs.Inner.Joined.{runs_of}
+use Rattle.omf_image.specs.Overlay.{Laid, byte_at, AreBytesOver, spanned}
 use Rattle.omf_image.specs.declared.run.Run.{Run}
 use Rattle.omf_image.proofs.RunLaws.{IsIn, Covers, runs_cover}
 use Rattle.omf_finding.specs.Found.{program_byte}

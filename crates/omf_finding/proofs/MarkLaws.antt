@@ -1,26 +1,25 @@
 -- The bytes of data records and the marks of their fixups, laid in file order, are the pattern.
-use Rattle.std.proofs.Common.{◌≡◌, inl, inr, ℕ, zero, suc, ◌+◌, ◌-◌, ◌<◌, ◌≤◌, Bool, true, false, cond, get_or, List, [], ◌∷◌, ◌++◌, append_assoc, length, refl, sym, ap, ap₂, subst, ◌∙◌, arith}
+use Rattle.std.proofs.Common.{◌≡◌, inl, inr, ℕ, zero, suc, ◌+◌, ◌-◌, ◌<◌, ◌≤◌, Bool, true, false, cond, List, [], ◌∷◌, ◌++◌, append_assoc, length, refl, sym, ap, ap₂, subst, ◌∙◌, arith}
 use Rattle.std.specs.Prelude.{All, map, flat_map, replicate, Option, Some, None, option_map, is_some, slice_get, nat_le, nat_lt, ◌==◌, ◌&&◌, ◌||◌}
 use Rattle.std.specs.Option.{option_or}
-use Rattle.std.specs.List.{list_any}
-use Rattle.std.proofs.lemmas.Bool.{leb-true, le-leb, and_parts, and_from}
+use Rattle.std.proofs.lemmas.Bool.{le-leb}
 use Rattle.std.proofs.lemmas.Bool.Decides.{leb_tells}
 use Rattle.std.proofs.lemmas.List.{map-append, length-replicate, get_or-replicate}
-use Rattle.std.proofs.lemmas.List.Elements.{All-nil, All-cons, All-head, All-tail}
+use Rattle.std.proofs.lemmas.List.Elements.{All-head, All-tail}
 use Rattle.std.proofs.lemmas.Option.{slice_get_past, slice_get-get_or}
 use Rattle.omf_records.specs.Inner.Names.{location_size}
-use Rattle.omf_records.specs.Values.{Rec, Contents, Names, Plain, Iterated, DataItem, width, location_offset, location_type}
+use Rattle.omf_records.specs.Values.{Rec, Contents, Names, Plain, Iterated, width, location_offset, location_type}
 use Rattle.omf_image.specs.Inner.Expanding.{expanded}
 use Rattle.omf_image.specs.Limits.{profile_limits}
 use Rattle.omf_image.specs.Overlay.{Laid, byte_of, byte_at}
 use Rattle.omf_check.specs.Sound.{ModuleHolds}
 use Rattle.omf_reloc.specs.Inner.Pieces.{single_pieces}
-use Rattle.omf_reloc.specs.Inner.ReachSteps.{place_behind, data_place}
+use Rattle.omf_reloc.specs.Inner.ReachSteps.{data_place}
 use Rattle.omf_reloc.specs.Laws.{location_end, AreInside}
 use Rattle.omf_reloc.specs.Plain.{Piece, Kept, Fixed, End, PlainFixup, pieces, fixups_of_data}
 use Rattle.omf_finding.specs.Pattern.{Unplaced, unplaced, unplaced_contents, touches, is_open, pattern_by, pattern_at, pattern}
 use Rattle.omf_finding.specs.declared.patterning.PatternByte.{PatternByte}
-use Rattle.omf_finding.specs.Inner.Walking.{is_marked, byte_with, raw_contents, raw_of, unmarked, marked, marked_all, marks_contents, marks_of, all_marks}
+use Rattle.omf_finding.specs.Inner.Walking.{is_marked, byte_with, raw_contents, raw_of, unmarked, marked, marked_all, all_marks}
 use Rattle.omf_finding.proofs.LastLaws.{last_from, last-cons, last-append}
 use Rattle.omf_finding.proofs.UnplacedLaws.{Inside, unplaced-same, all-inside}
 

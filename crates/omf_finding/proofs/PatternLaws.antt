@@ -1,24 +1,24 @@
 -- The image of a module at a placement, beside its pattern.
-use Rattle.std.proofs.Common.{◌≡◌, ◌⊎◌, inl, inr, ℕ, suc, ◌+◌, ◌-◌, ◌<◌, ◌≤◌, Bool, true, false, cond, get_or, List, [], ◌∷◌, ◌++◌, length, refl, sym, ap, ap₂, subst, ◌∙◌, arith}
+use Rattle.std.proofs.Common.{◌≡◌, ◌⊎◌, inl, inr, ℕ, suc, ◌-◌, ◌<◌, ◌≤◌, Bool, true, false, cond, get_or, List, [], ◌∷◌, ◌++◌, length, refl, sym, ap, subst, ◌∙◌, arith}
 use Rattle.std.specs.Prelude.{All, Option, Some, None, option_map, is_some, slice_get, slice_index, nat_le, nat_lt, ◌==◌, ◌&&◌, ◌||◌}
 use Rattle.std.specs.Option.{option_or}
-use Rattle.std.specs.List.{AllZip, list_any}
-use Rattle.std.proofs.lemmas.Bool.{leb-true, le-leb, and_parts, and_from}
+use Rattle.std.specs.List.{AllZip}
+use Rattle.std.proofs.lemmas.Bool.{le-leb, and_from}
 use Rattle.std.proofs.lemmas.Bool.Decides.{leb_tells}
 use Rattle.std.proofs.lemmas.List.Elements.{All-nil, All-cons, All-head, All-tail}
-use Rattle.std.proofs.lemmas.Option.{slice_get_past, slice_get_within, slice_get-get_or, get_or_from_slice_get}
-use Rattle.omf_records.specs.Values.{Rec, Contents, Plain, Iterated, DataItem, width, location_offset}
+use Rattle.std.proofs.lemmas.Option.{slice_get_past, slice_get-get_or}
+use Rattle.omf_records.specs.Values.{Rec, Contents, Plain, Iterated, width, location_offset}
 use Rattle.omf_image.specs.Inner.Expanding.{expanded}
 use Rattle.omf_image.specs.Limits.{profile_limits}
 use Rattle.omf_image.specs.Overlay.{Laid, byte_of}
 use Rattle.omf_check.specs.Sound.{ModuleHolds}
 use Rattle.omf_placement.specs.Placement.{Places}
 use Rattle.omf_reloc.specs.Image.{laid, laid_contents, patched, image}
-use Rattle.omf_reloc.specs.Laws.{location_end, AreInside}
+use Rattle.omf_reloc.specs.Laws.{location_end}
 use Rattle.omf_reloc.specs.Plain.{Piece, Kept, Fixed, End, PlainFixup, pieces, fixups_of_data}
 use Rattle.omf_reloc.proofs.PatchLaws.{stays_inside}
 use Rattle.omf_finding.specs.Laws.{HasPattern}
-use Rattle.omf_finding.specs.Pattern.{Unplaced, unplaced, unplaced_contents, touches, is_open, pattern_by, pattern_at, pattern}
+use Rattle.omf_finding.specs.Pattern.{Unplaced, unplaced, unplaced_contents, touches, is_open, pattern_by, pattern}
 use Rattle.omf_finding.specs.declared.patterning.PatternByte.{PatternByte}
 use Rattle.omf_finding.proofs.LastLaws.{last_from, last-cons}
 use Rattle.omf_finding.proofs.UnplacedLaws.{Inside, all-inside}

@@ -1,9 +1,9 @@
 -- The bytes of a run of a pattern; and a module that is in a program is found at the places of its pattern.
 use Rattle.std.proofs.Common.{◌≡◌, inl, inr, ℕ, zero, suc, ◌+◌, ◌-◌, ◌<◌, ◌≤◌, Bool, true, false, cond, List, [], ◌∷◌, ◌++◌, length, drop, refl, sym, ap, ap₂, subst, ◌∙◌, arith}
-use Rattle.std.specs.Prelude.{Option, Some, None, option_map, IsSome, is_some, map, slice_get, nat_le, Contains, filter, ◌&&◌}
+use Rattle.std.specs.Prelude.{Option, Some, None, is_some, slice_get, nat_le, Contains, filter}
 use Rattle.std.specs.List.{range_with_len, list_all, zip}
 use Rattle.std.specs.Option.{option_and_then}
-use Rattle.std.proofs.lemmas.Bool.{leb-true, le-leb, and_parts, and_from, eq-eqb}
+use Rattle.std.proofs.lemmas.Bool.{le-leb, and_from, eq-eqb}
 use Rattle.std.proofs.lemmas.Bool.Decides.{leb_tells}
 use Rattle.std.proofs.lemmas.List.{length-drop}
 use Rattle.std.proofs.lemmas.List.FromFn.{map-range_with_len_more, length-map-range_with_len}
@@ -11,7 +11,7 @@ use Rattle.std.proofs.lemmas.Option.{slice_get_within}
 use Rattle.omf_frame.specs.Bytes.{is_one_of}
 use Rattle.omf_records.specs.Values.{Rec}
 use Rattle.omf_image.specs.Limits.{profile_limits}
-use Rattle.omf_image.specs.Overlay.{Laid, byte_at, IsRunAt}
+use Rattle.omf_image.specs.Overlay.{byte_at, IsRunAt}
 use Rattle.omf_image.specs.declared.run.Run.{Run}
 use Rattle.omf_image.proofs.RunLaws.{contains_here, contains_more}
 use Rattle.omf_check.specs.Sound.{ModuleHolds}
@@ -19,10 +19,10 @@ use Rattle.omf_check.specs.Tables.{entry}
 use Rattle.omf_placement.specs.Placement.{Places}
 use Rattle.omf_placement.specs.declared.frame.Placed.{Placed}
 use Rattle.omf_reloc.specs.Image.{image}
-use Rattle.omf_finding.specs.Found.{program_byte, byte_there, IsFound}
+use Rattle.omf_finding.specs.Found.{program_byte, IsFound}
 use Rattle.omf_finding.specs.Laws.{HasPattern, LiesAtItsPlace, FoundAreListed}
 use Rattle.omf_finding.specs.Pattern.{pattern}
-use Rattle.omf_finding.specs.Places.{agrees, lies_at, places}
+use Rattle.omf_finding.specs.Places.{agrees, lies_at}
 use Rattle.omf_finding.specs.Run.{closed_byte, cells, IsPatternRun}
 use Rattle.omf_finding.specs.declared.patterning.PatternByte.{PatternByte}
 use Rattle.omf_finding.specs.Inner.Walking.{Marks, byte_in}
@@ -82,9 +82,9 @@ places-from test a zero x low high e = absurd (omega (arith, low, high))
 places-from test a (suc n) x low high e = elim (leb_tells (a + 1) x) [
   | inl t ↦ filter-more test (test a) a x (filter test (range_with_len (a + 1) n)) (places-from test (a + 1) n x t.1 (omega (arith, high)) e)
   | inr t ↦
-    let same : a ≡ x = omega (arith, low, t.1) in
-    let rest = filter test (range_with_len (a + 1) n) in
-    subst (λ (b : Bool). Contains (cond b (a ∷ rest) rest) x) (sym (ap test same ∙ e)) (subst (λ (y : ℕ). Contains (y ∷ rest) x) (sym same) (contains_here x rest))
+      let same : a ≡ x = omega (arith, low, t.1) in
+      let rest = filter test (range_with_len (a + 1) n) in
+      subst (λ (b : Bool). Contains (cond b (a ∷ rest) rest) x) (sym (ap test same ∙ e)) (subst (λ (y : ℕ). Contains (y ∷ rest) x) (sym same) (contains_here x rest))
 ]
 
 -- ---- a module that is in a program is found at the places of its pattern
@@ -113,9 +113,9 @@ module _ (m : List Rec) (pl : Places) (absent program : List ℕ) (base : ℕ) (
       let b = some-of (image profile_limits pl m segment x) (have.same_places segment x ∙ some) in
       let own : q.0.is_open ≡ false → q.0.value ≡ b.0 =
       λ e.
-          let known : byte x ≡ Some (record { value = q.0.value; is_open = false }) = q.1 ∙ ap (λ (o : Bool). let p : PatternByte = record { value = q.0.value; is_open = o } in Some p) e in
-          let both : Some q.0.value ≡ Some b.0 = sym (have.closed_bytes segment x q.0.value known) ∙ b.1 in
-          cc
+      let known : byte x ≡ Some (record { value = q.0.value; is_open = false }) = q.1 ∙ ap (λ (o : Bool). let p : PatternByte = record { value = q.0.value; is_open = o } in Some p) e in
+      let both : Some q.0.value ≡ Some b.0 = sym (have.closed_bytes segment x q.0.value known) ∙ b.1 in
+      cc
       in
       record { value = b.0; is = there x b.0 b.1; agree = ap (λ (o : Option PatternByte). agrees (closed_byte o) b.0) q.1 ∙ agree-by q.0.is_open q.0.value b.0 own }
 
@@ -127,8 +127,8 @@ module _ (m : List Rec) (pl : Places) (absent program : List ℕ) (base : ℕ) (
       let above : base ≤ start = omega (arith, above0) in
       let each : (i : ℕ) → i < n → Meets (byte (first + i)) (slice_get (drop (start - base) program) i) =
       λ i low.
-          let to : place.address + (first + i) ≡ start + i = omega arith in
-          subst (Meets (byte (first + i))) (ap (program_byte program base) to ∙ sym (from-drop program base start i above)) (meets (first + i) (covered i low))
+      let to : place.address + (first + i) ≡ start + i = omega arith in
+      subst (Meets (byte (first + i))) (ap (program_byte program base) to ∙ sym (from-drop program base start i above)) (meets (first + i) (covered i low))
       in
       let within = meets-within byte first n (drop (start - base) program) some each in
       let size = length-map-range_with_len (λ x. closed_byte (byte x)) first n in

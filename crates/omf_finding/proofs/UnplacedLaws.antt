@@ -1,20 +1,19 @@
 -- The data records that are not placed: they are the same where each fixup is a piece of its own, and the locations of their fixups are
 -- inside their data.
-use Rattle.std.proofs.Common.{◌≡◌, ℕ, ◌+◌, ◌≤◌, List, [], ◌∷◌, ◌++◌, length, refl, sym, ap, ap₂, subst, ◌∙◌, arith}
-use Rattle.std.specs.Prelude.{All, map, flat_map, Option, Some, None}
+use Rattle.std.proofs.Common.{◌≡◌, ℕ, ◌≤◌, List, [], ◌∷◌, ◌++◌, length, refl, sym, ap, ap₂, subst, ◌∙◌, arith}
+use Rattle.std.specs.Prelude.{All, flat_map, Option, Some, None}
 use Rattle.std.proofs.lemmas.List.Elements.{All-nil, All-cons, All-head, All-tail, All-append}
 use Rattle.omf_records.specs.Values.{Rec, Contents, Names, Plain, Iterated, DataItem, width}
 use Rattle.omf_image.specs.Inner.Expanding.{expanded}
 use Rattle.omf_image.specs.Limits.{profile_limits}
-use Rattle.omf_image.specs.Overlay.{Laid}
 use Rattle.omf_image.specs.declared.limits.Limits.{Limits}
 use Rattle.omf_check.specs.Sound.{ModuleHolds}
 use Rattle.omf_reloc.specs.Inner.Pieces.{one_by_one, single_pieces}
 use Rattle.omf_reloc.specs.Laws.{location_end, AreInside}
 use Rattle.omf_reloc.specs.Plain.{Piece, Kept, Fixed, End, PlainFixup, pieces, fixups_of_data}
-use Rattle.omf_reloc.proofs.HoldLaws.{KeptHolds, PlainFixupHolds, PieceHolds, PiecesHold, data_after, data_kept, pieces-hold}
+use Rattle.omf_reloc.proofs.HoldLaws.{PiecesHold, data_after, data_kept, pieces-hold}
 use Rattle.omf_reloc.proofs.SingleLaws.{singles, fixups-same}
-use Rattle.omf_finding.specs.Pattern.{Unplaced, unplaced, unplaced_contents, unplaced_piece}
+use Rattle.omf_finding.specs.Pattern.{Unplaced, unplaced, unplaced_contents}
 
 contents-same : (limits : Limits) (kind : ℕ) (c : Contents) (ps qs : List Piece) → fixups_of_data ps ≡ fixups_of_data qs → unplaced_contents limits kind c ps ≡ unplaced_contents limits kind c qs
 contents-same limits kind (Plain d) ps qs e =

@@ -1,8 +1,7 @@
 -- What is known during the walk that makes a pattern: what is laid so far, and what is left to lay, are all.
-use Rattle.std.proofs.Common.{◌≡◌, ℕ, ◌+◌, ◌≤◌, ◌^◌, List, [], ◌∷◌, ◌++◌, length, refl, sym, ap, ap₂, subst, ◌∙◌, arith}
+use Rattle.std.proofs.Common.{◌≡◌, ℕ, List, [], ◌∷◌, length, refl, sym, ap, ap₂, subst, ◌∙◌, arith}
 use Rattle.std.specs.Prelude.{flat_map, Option, Some, None, IfSome}
-use Rattle.omf_records.specs.Inner.Names.{location_size}
-use Rattle.omf_records.specs.Values.{Rec, Contents, Names, Plain, Iterated, DataItem, location_offset, location_type}
+use Rattle.omf_records.specs.Values.{Rec, Contents, Names, Plain, Iterated, DataItem}
 use Rattle.omf_image.specs.Limits.{profile_limits}
 use Rattle.omf_image.specs.Overlay.{Laid, byte_at, AreLaidOver}
 use Rattle.omf_image.proofs.TurnLaws.{bytes_in_turn}
@@ -15,7 +14,7 @@ use Rattle.omf_reloc.proofs.HoldLaws.{KeptHolds, PlainFixupHolds, PiecesHold, da
 use Rattle.omf_reloc.proofs.WalkLaws.{length-short}
 use Rattle.omf_reloc.proofs.WalkedLaws.{laid-on}
 use Rattle.omf_finding.specs.Pattern.{pattern}
-use Rattle.omf_finding.specs.Inner.Walking.{Walk, Marks, byte_in, byte_with, raw_of, marks_of, all_marks, IsNext, CanTake, CanMark}
+use Rattle.omf_finding.specs.Inner.Walking.{Walk, byte_with, raw_of, marks_of, all_marks, IsNext, CanTake, CanMark}
 use Rattle.omf_finding.proofs.MarkLaws.{marks-are-pattern}
 
 abbrev place_at : DataItem → Option (ℕ × ℕ)

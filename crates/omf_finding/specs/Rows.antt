@@ -1,5 +1,5 @@
 -- Definitions of the worked examples.
-use Rattle.std.specs.Prelude.{ℕ, List, [], ◌∷◌, map, Option, Some, None, true, false}
+use Rattle.std.specs.Prelude.{ℕ, List, map, Option, Some, true, false}
 use Rattle.std.specs.List.{range_with_len}
 use Rattle.omf_image.specs.Limits.{profile_limits}
 use Rattle.omf_reloc.specs.Modules.{module_of}

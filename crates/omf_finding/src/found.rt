@@ -50,13 +50,7 @@ fn is_absent(absent: &[u16], segment: u16) -> bool
 }
 
 /// Each byte of an image whose segments lie at these places is the program's, but for absent segments.
-fn image_agrees(
-    image: &Image,
-    places: &[Placed],
-    absent: &[u16],
-    program: &[u8],
-    base: u32,
-) -> bool
+fn image_agrees(image: &Image, places: &[Placed], absent: &[u16], program: &[u8], base: u32) -> bool
     requires { length places.now ≤ 65535 }
     ensures found { result ≡ true → FirstAgree image.now places.now absent.now program.now base (length places.now) }
     ensures wrong { result ≡ false → FirstAgree image.now places.now absent.now program.now base (length places.now) → ⊥ }
@@ -64,7 +58,8 @@ fn image_agrees(
     for n in 0..places.len() {
         let segment = n as u16 + 1;
         if !is_absent(absent, segment)
-            && !segment_agrees(image, segment, places[n].address, program, base) {
+            && !segment_agrees(image, segment, places[n].address, program, base)
+        {
             return false;
         }
     }

@@ -66,10 +66,12 @@ fn closed_byte(byte: Option<PatternByte>) -> Option<u8>
     ensures { result ≡ closed_byte byte }
 {
     match byte {
-        Some(PatternByte {
-            value,
-            is_open: false,
-        }) => Some(value),
+        Some(
+            PatternByte {
+                value,
+                is_open: false,
+            },
+        ) => Some(value),
         _ => None,
     }
 }
@@ -86,12 +88,7 @@ impl Pattern {
     }
 
     /// The bytes of an interval of a segment.
-    fn cells(
-        &self,
-        alloc: Global,
-        segment: u16,
-        run: Run,
-    ) -> Result<Vec<Option<u8>>, AllocError>
+    fn cells(&self, alloc: Global, segment: u16, run: Run) -> Result<Vec<Option<u8>>, AllocError>
         requires { run.first + run.len ≤ 2 ^ 32 }
         ensures { IfOk result (λ v. v.items ≡ cells (byte_in self.now segment) run.first run.len) }
     {

@@ -1,13 +1,13 @@
 -- The steps of the walk that makes a pattern: the bytes of data records, and marks: 0 for each byte of a data record, and then 1 for each
 -- byte of a location. Only private functions use these definitions.
-use Rattle.std.specs.Prelude.{◌≡◌, ℕ, ◌+◌, ◌==◌, ◌^◌, ◌≤◌, ⊤, List, [], ◌∷◌, ◌++◌, length, map, flat_map, replicate, Bool, Option, Some, None, option_map, unwrap_or, IfSome}
+use Rattle.std.specs.Prelude.{◌≡◌, ℕ, ◌+◌, ◌==◌, ◌^◌, ◌≤◌, ⊤, List, [], ◌∷◌, ◌++◌, length, map, replicate, Bool, Option, Some, None, option_map, unwrap_or, IfSome}
 use Rattle.omf_records.specs.Values.{Contents, Plain, Iterated, width, location_offset, location_type}
 use Rattle.omf_records.specs.Inner.Names.{location_size}
 use Rattle.omf_image.specs.Inner.Expanding.{expanded}
 use Rattle.omf_image.specs.Limits.{profile_limits}
 use Rattle.omf_image.specs.Overlay.{Laid, byte_at, AreLaidOver}
 use Rattle.omf_reloc.specs.Inner.ReachSteps.{place_behind}
-use Rattle.omf_reloc.specs.Inner.Walking.{CanExpand, HasOffsets}
+use Rattle.omf_reloc.specs.Inner.Walking.{CanExpand}
 use Rattle.omf_reloc.specs.Plain.{Piece, Kept, Fixed, End, PlainFixup}
 use Rattle.omf_finding.specs.declared.patterning.PatternByte.{PatternByte}
 

@@ -1,4 +1,4 @@
-use Rattle.std.proofs.Common.{arith, ap, drop, sym, subst, ◌∙◌, ◌≡◌, ◌+◌, ℕ, Bool, true, false}
+use Rattle.std.proofs.Common.{arith, ap, drop, sym, ◌∙◌, ◌≡◌, ◌+◌, ℕ, true, false}
 use Rattle.omf_image.specs.Inner.Joined.{runs_of}
 use Rattle.omf_image.specs.Overlay.{spanned}
 use Rattle.omf_image.proofs.ShownLaws.{number_low, number_fits, some_bytes, run_next, none_left}

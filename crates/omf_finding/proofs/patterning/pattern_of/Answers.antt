@@ -1,5 +1,4 @@
-use Rattle.std.proofs.Common.{◌≡◌, ◌∙◌, ap, sym, subst, ℕ}
-use Rattle.omf_image.specs.Limits.{profile_limits}
+use Rattle.std.proofs.Common.{◌∙◌, ap, subst}
 use Rattle.omf_check.specs.Module.{records_in}
 use Rattle.omf_check.specs.WellFormed.{recs}
 use Rattle.omf_reloc.specs.Inner.PieceSeen.{piece_seen}

@@ -1,4 +1,4 @@
-use Rattle.std.proofs.Common.{◌∙◌, ◌+◌, ap, refl, List, [], ◌∷◌, ◌++◌, Option, ℕ}
+use Rattle.std.proofs.Common.{◌∙◌, ◌+◌, ap, refl, [], ◌∷◌, ◌++◌, Option, ℕ}
 use Rattle.omf_finding.specs.Inner.Walking.{byte_in}
 use Rattle.omf_finding.specs.Run.{closed_byte}
 use Rattle.omf_finding.proofs.RunLaws.{cells-next}

@@ -1,4 +1,4 @@
-use Rattle.std.proofs.Common.{◌≡◌, ◌∙◌, ap, sym, subst, arith, List, ℕ, length, [], ◌∷◌}
+use Rattle.std.proofs.Common.{ap, sym, subst, arith, List, ℕ, length, [], ◌∷◌}
 use Rattle.std.specs.Prelude.{OnOk}
 use Rattle.omf_image.specs.Overlay.{Laid, AreLaidOver}
 use Rattle.omf_records.specs.Inner.Seen.{kind_seen, contents_seen}
