@@ -6,3 +6,5 @@ pub mod WalkLaws
 pub mod FoundLaws
 pub mod IsFoundLaws
 pub mod RunLaws
+pub mod SaidLaws
+pub mod AmongLaws
