@@ -1,8 +1,8 @@
 -- From an offset back to addresses.
-use Rattle.std.proofs.Common.{◌≡◌, ◌⊎◌, inl, inr, ℕ, zero, suc, ◌+◌, ◌-◌, ◌^◌, ◌<◌, ◌≤◌, Bool, true, false, cond, List, [], ◌∷◌, refl, sym, ap, subst, ◌∙◌, arith}
-use Rattle.std.specs.Prelude.{Option, Some, None, nat_le, nat_lt, Contains, filter, filter_map}
+use Rattle.std.proofs.Common.{◌≡◌, ◌⊎◌, inl, inr, ℕ, suc, ◌+◌, ◌-◌, ◌^◌, ◌≤◌, Bool, true, false, cond, List, [], ◌∷◌, sym, ap, subst, ◌∙◌, arith}
+use Rattle.std.specs.Prelude.{Option, Some, None, nat_lt, Contains, filter, filter_map}
 use Rattle.std.specs.List.{cons_option}
-use Rattle.std.proofs.lemmas.Bool.{leb-true, le-leb}
+use Rattle.std.proofs.lemmas.Bool.{le-leb}
 use Rattle.std.proofs.lemmas.Bool.Decides.{leb_tells}
 use Rattle.omf_frame.specs.Bytes.{difference}
 use Rattle.omf_image.proofs.RunLaws.{contains_first, contains_more, contains_here, contains_none}
@@ -65,14 +65,14 @@ module _ (test : ℕ → Bool) where
 difference-from : (a b c : ℕ) → difference a b ≡ Some c → a ≡ c + b
 difference-from a b c e = elim (leb_tells b a) [
   | inl t ↦
-    let d : difference a b ≡ Some (a - b) = ap (λ (k : Bool). cond k (Some (a - b)) None) (le-leb b a t.1) in
-    let both : Some (a - b) ≡ Some c = sym d ∙ e in
-    let same : a - b ≡ c = cc in
-    omega (arith, same, t.1)
+      let d : difference a b ≡ Some (a - b) = ap (λ (k : Bool). cond k (Some (a - b)) None) (le-leb b a t.1) in
+      let both : Some (a - b) ≡ Some c = sym d ∙ e in
+      let same : a - b ≡ c = cc in
+      omega (arith, same, t.1)
   | inr t ↦
-    let d : difference a b ≡ None = ap (λ (k : Bool). cond k (Some (a - b)) None) t.0 in
-    let both : None ≡ Some c = sym d ∙ e in
-    absurd cc
+      let d : difference a b ≡ None = ap (λ (k : Bool). cond k (Some (a - b)) None) t.0 in
+      let both : None ≡ Some c = sym d ∙ e in
+      absurd cc
 ]
 
 difference-to : (a b c : ℕ) → a ≡ c + b → difference a b ≡ Some c
