@@ -1,0 +1,10 @@
+pub mod LastLaws
+pub mod UnplacedLaws
+pub mod PatternLaws
+pub mod MarkLaws
+pub mod WalkLaws
+pub mod FoundLaws
+pub mod IsFoundLaws
+pub mod RunLaws
+pub mod SaidLaws
+pub mod AmongLaws

@@ -1,0 +1,24 @@
+-- A module is in a program at a placement.
+use Rattle.std.specs.Prelude.{◌≡◌, ℕ, ◌+◌, ◌-◌, List, nat_le, false, Option, Some, None, slice_get, if◌then◌else◌}
+use Rattle.std.specs.Option.{option_and_then}
+use Rattle.omf_frame.specs.Bytes.{is_one_of}
+use Rattle.omf_records.specs.Values.{Rec}
+use Rattle.omf_image.specs.Limits.{profile_limits}
+use Rattle.omf_check.specs.Tables.{entry}
+use Rattle.omf_placement.specs.Placement.{Places}
+use Rattle.omf_reloc.specs.Image.{image}
+use Rattle.omf_reloc.specs.Reach.{Reaches}
+
+-- The byte of a program at an address, if the program has that address. Its first byte is at `base`.
+abbrev pub program_byte : List ℕ → ℕ → ℕ → Option ℕ
+program_byte program base address = if nat_le base address then slice_get program (address - base) else None
+
+-- The byte of a program at the address of offset x of a segment: that of the segment's entry, and x.
+abbrev pub byte_there : Places → List ℕ → ℕ → ℕ → ℕ → Option ℕ
+byte_there pl program base segment x = option_and_then (λ p. program_byte program base (p.address + x)) (entry pl.segments segment)
+
+-- The placement reaches, and each byte of the image is the program's at its address, but for the segments that are said to be absent: a
+-- linker may leave out what nothing refers to.
+pub record IsFound (m : List Rec) (pl : Places) (absent program : List ℕ) (base : ℕ) : Type 0 where
+  pub reaches : Reaches pl m
+  pub bytes : (segment x b : ℕ) → is_one_of absent segment ≡ false → image profile_limits pl m segment x ≡ Some b → byte_there pl program base segment x ≡ Some b

@@ -1,0 +1,19 @@
+-- How an image is compared with a program. Only private functions use these definitions.
+use Rattle.std.specs.Prelude.{◌≡◌, ◌<◌, ℕ, ◌+◌, ◌-◌, List, drop, Bool, ◌&&◌, nat_le, ◌==◌, false, Some, slice_get}
+use Rattle.std.specs.List.{starts_with}
+use Rattle.omf_frame.specs.Bytes.{is_one_of}
+use Rattle.omf_image.specs.Overlay.{Laid, byte_at}
+use Rattle.omf_placement.specs.declared.frame.Placed.{Placed}
+use Rattle.omf_finding.specs.Found.{program_byte}
+
+-- Bytes are those of a program from an address on.
+abbrev pub lies_in : List ℕ → ℕ → ℕ → List ℕ → Bool
+lies_in program base address bytes = nat_le base address && starts_with (λ a b. a == b) (drop (address - base) program) bytes
+
+-- Each byte of a segment that lies at an address is the program's.
+abbrev pub SegmentAgrees : List Laid → ℕ → ℕ → List ℕ → ℕ → Type 0
+SegmentAgrees image segment address program base = (x b : ℕ) → byte_at image segment x ≡ Some b → program_byte program base (address + x) ≡ Some b
+
+-- The same of the first n segments, but for those that are absent.
+abbrev pub FirstAgree : List Laid → List Placed → List ℕ → List ℕ → ℕ → ℕ → Type 0
+FirstAgree image places absent program base n = (k : ℕ) (place : Placed) → k < n → slice_get places k ≡ Some place → is_one_of absent (k + 1) ≡ false → SegmentAgrees image (k + 1) place.address program base

@@ -1,0 +1,9 @@
+pub mod Places
+pub mod Pattern
+pub mod Run
+pub mod Candidates
+pub mod Said
+pub mod Found
+pub mod Rows
+pub mod Laws
+pub mod Inner

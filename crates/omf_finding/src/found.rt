@@ -1,0 +1,103 @@
+//! Whether a module is in a program at a placement.
+
+ghost use Rattle.std.specs.Prelude.{◌≡◌, ◌≤◌, ℕ, length, true, false, IfOk, IfErr};
+ghost use Rattle.omf_image.specs.Limits.{profile_limits};
+ghost use Rattle.omf_frame.specs.Bytes.{is_one_of};
+ghost use Rattle.omf_reloc.specs.Reach.{Reaches};
+ghost use Rattle.omf_check.specs.Module.{recs_of};
+ghost use Rattle.omf_check.specs.Sound.{ModuleHolds};
+ghost use Rattle.omf_check.specs.Tables.{segments};
+ghost use Rattle.omf_finding.specs.Found.{IsFound};
+ghost use Rattle.omf_finding.specs.Inner.Agreeing.{lies_in, SegmentAgrees, FirstAgree};
+
+use omf_check::Checked;
+use omf_image::Image;
+use omf_reloc::{Placed, Placement, RelocateFault, reach_and_relocate};
+use std::alloc::{AllocError, Global};
+
+/// Bytes are those of a program from an address on.
+fn lies_in(program: &[u8], base: u32, address: u64, bytes: &[u8]) -> bool
+    ensures { result ≡ lies_in program.now base address bytes.now }
+{
+    let base = u64::from(base);
+    if address < base {
+        return false;
+    }
+    let start = usize::try_from(address - base).unwrap_or(usize::MAX);
+    program[start.min(program.len())..].starts_with(bytes)
+}
+
+/// Each byte of a segment that lies at an address is the program's.
+fn segment_agrees(image: &Image, segment: u16, address: u32, program: &[u8], base: u32) -> bool
+    ensures found { result ≡ true → SegmentAgrees image.now segment address program.now base }
+    ensures wrong { result ≡ false → SegmentAgrees image.now segment address program.now base → ⊥ }
+{
+    let mut k = 0;
+    while let Some((first, bytes)) = image.run_with_bytes(segment, k) {
+        if !lies_in(program, base, u64::from(address) + u64::from(first), bytes) {
+            return false;
+        }
+        k += 1;
+    }
+    true
+}
+
+/// Whether a segment is one of those that are absent.
+fn is_absent(absent: &[u16], segment: u16) -> bool
+    ensures { result ≡ is_one_of absent.now segment }
+{
+    absent.iter().any(|other| *other == segment)
+}
+
+/// Each byte of an image whose segments lie at these places is the program's, but for absent segments.
+fn image_agrees(image: &Image, places: &[Placed], absent: &[u16], program: &[u8], base: u32) -> bool
+    requires { length places.now ≤ 65535 }
+    ensures found { result ≡ true → FirstAgree image.now places.now absent.now program.now base (length places.now) }
+    ensures wrong { result ≡ false → FirstAgree image.now places.now absent.now program.now base (length places.now) → ⊥ }
+{
+    for n in 0..places.len() {
+        let segment = n as u16 + 1;
+        if !is_absent(absent, segment)
+            && !segment_agrees(image, segment, places[n].address, program, base)
+        {
+            return false;
+        }
+    }
+    true
+}
+
+/// The number of segments of a module, which is well-formed.
+fn segment_count(module: &Checked) -> u16
+    ensures count { result ≡ length (segments (recs_of «module».now.bytes)) }
+    ensures bounded { result ≤ 32767 }
+    ensures holds { ModuleHolds profile_limits (recs_of «module».now.bytes) }
+{
+    let _records = module.undecoded();
+    module.segments()
+}
+
+/// Whether a module is in a program at a placement: the placement reaches, and each byte of the image is the program's at its address, but
+/// for the segments that are named as absent. The program's first byte is at `base`.
+///
+/// # Errors
+///
+/// `AllocError` if out of memory, and the placement reaches.
+pub fn is_found(
+    alloc: Global,
+    module: &Checked,
+    placement: &Placement,
+    absent: &[u16],
+    program: &[u8],
+    base: u32,
+) -> Result<bool, AllocError>
+    ensures found { IfOk result (λ found. found ≡ true → IsFound (recs_of «module».now.bytes) placement.now absent.now program.now base) }
+    ensures wrong { IfOk result (λ found. found ≡ false → IsFound (recs_of «module».now.bytes) placement.now absent.now program.now base → ⊥) }
+    ensures memory { IfErr result (λ e. Reaches placement.now (recs_of «module».now.bytes)) }
+{
+    let _count = segment_count(module);
+    match reach_and_relocate(alloc, module, placement) {
+        Ok(image) => Ok(image_agrees(&image, placement.segments(), absent, program, base)),
+        Err(RelocateFault::Reach(_fault)) => Ok(false),
+        Err(RelocateFault::Memory) => Err(AllocError),
+    }
+}
