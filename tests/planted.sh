@@ -1,6 +1,7 @@
 #!/usr/bin/env bash
 # Tries the wrong bodies in tests/planted/CRATE/*.edit: the prover must refuse each. They have the form of crates/CRATE/must-fail/*.edit, but are
-# not in the gate, since the edits of a crate cost one more proof of it. On a copy of the repository; with names, the edits of these crates alone.
+# not in the gate, since the edits of a crate cost one more proof of it. So run it after a change of one of these crates. It works on a copy of the
+# repository; with names, it tries the edits of these crates alone.
 #
 #     tests/planted.sh [CRATE ..]
 set -euo pipefail
