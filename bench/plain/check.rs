@@ -1,6 +1,7 @@
 //! The verdict of `omf check`, in plain Rust without a proof. bench/measure.sh builds it by `rustc` and measures it beside `omf`.
 //!
-//! It reads a module from the standard input, keeps no byte of records that it has judged, and prints the line of `omf check`.
+//! It reads a module from the standard input, keeps no byte of records that it has judged, and prints the line of `omf check`. It goes past
+//! fixups that use no thread and have no fault without decoding them (`Passing`).
 use std::fs::File;
 use std::io::Read;
 use std::os::fd::FromRawFd;
@@ -67,6 +68,49 @@ const LOCATIONS: [(usize, bool); 16] = {
     table[13] = (4, true);
     table
 };
+
+/// Of the bits 2 to 6 of a fixup's first byte (location type, and above it whether it is segment-relative): the size of the location, or
+/// `NO_LOCATION` where there is no such type or where a self-relative fixup may not have it.
+const SIZES: [usize; 32] = {
+    let mut table = [NO_LOCATION; 32];
+    let mut it = 0;
+    while it < 32 {
+        let (size, may_be_self_relative) = LOCATIONS[it % 16];
+        if size != 0 && (it >= 16 || may_be_self_relative) {
+            table[it] = size;
+        }
+        it += 1;
+    }
+    table
+};
+/// Longer than the data of any record.
+const NO_LOCATION: usize = 1 << 16;
+
+/// What a fix data byte announces, as bits of `FIXES`.
+const FRAME_DATUM: u8 = 1;
+const DISPLACEMENT: u8 = 2;
+/// It uses a thread, or a method that does not exist.
+const NOT_PLAIN: u8 = 4;
+const FIXES: [u8; 256] = {
+    let mut table = [0; 256];
+    let mut it = 0;
+    while it < 256 {
+        let (frame, target) = (it >> 4 & 7, it & 3);
+        if it & 0x88 != 0 || frame == 3 || frame > 5 || target == 3 {
+            table[it] |= NOT_PLAIN;
+        }
+        if frame < 3 {
+            table[it] |= FRAME_DATUM;
+        }
+        if it & 4 == 0 {
+            table[it] |= DISPLACEMENT;
+        }
+        it += 1;
+    }
+    table
+};
+/// The length of the longest fixup: location, fix data byte, two indices of two bytes, a displacement of four.
+const LONGEST_FIXUP: usize = 11;
 
 /// A fault in a record: the offset of its byte, and the number of the reason. The first one counts, by offset and then by number.
 #[derive(Clone, Copy, PartialEq, Eq, PartialOrd, Ord)]
@@ -187,6 +231,52 @@ impl<'a> Fields<'a> {
         let left = self.bytes.len() - self.at;
         self.at = self.bytes.len();
         left
+    }
+}
+
+/// An index, and its length, that begins with these two bytes.
+#[inline(always)]
+fn index_of(low: u8, next: u8) -> (u32, usize) {
+    if low < 0x80 { (u32::from(low), 1) } else { (u32::from(low & 0x7F) << 8 | u32::from(next), 2) }
+}
+
+/// What fixups are compared with, so that those without a thread and without a fault need not be decoded.
+struct Passing {
+    /// The numbers of segments, groups and externals, by method.
+    counts: [u32; 4],
+    /// The length of the data of the last data record: 0 if there is none, or if it is iterated.
+    data_length: usize,
+    displacement_length: usize,
+}
+
+impl Passing {
+    fn is_defined(&self, method: u8, index: u32) -> bool {
+        index.wrapping_sub(1) < self.counts[usize::from(method & 3)]
+    }
+
+    /// The length of the fixup at the front of a window that is long enough for any; none if it uses a thread or has a fault.
+    #[inline(always)]
+    fn length_of(&self, window: &[u8; LONGEST_FIXUP]) -> Option<usize> {
+        let [high, low, fix, ..] = *window;
+        let end = (usize::from(high & 3) << 8 | usize::from(low)) + SIZES[usize::from(high >> 2 & 31)];
+        let announced = FIXES[usize::from(fix)];
+        if high < 0x80 || end > self.data_length || announced & NOT_PLAIN != 0 {
+            return None;
+        }
+        let mut at = 3;
+        if announced & FRAME_DATUM != 0 {
+            let (index, length) = index_of(window[3], window[4]);
+            if !self.is_defined(fix >> 4, index) {
+                return None;
+            }
+            at += length;
+        }
+        let (index, length) = index_of(window[at], window[at + 1]);
+        if !self.is_defined(fix, index) {
+            return None;
+        }
+        at += length;
+        Some(if announced & DISPLACEMENT != 0 { at + self.displacement_length } else { at })
     }
 }
 
@@ -312,9 +402,39 @@ impl Tables {
         self.reference(fields, wide, false)
     }
 
+    fn passing(&self, wide: bool) -> Passing {
+        let data_length = match self.data {
+            Some((false, length)) => length,
+            _ => 0,
+        };
+        Passing {
+            counts: [self.segments.len() as u32, self.groups as u32, self.externals as u32, 0],
+            data_length,
+            displacement_length: if wide { 4 } else { 2 },
+        }
+    }
+
+    /// Goes past fixups that use no thread and have no fault. It stops before the first other subrecord, and before the last bytes.
+    fn pass_fixups(&mut self, fields: &mut Fields, passing: &Passing) {
+        while self.items < ITEM_LIMIT {
+            let Some(window) = fields.bytes[fields.at..].first_chunk() else { return };
+            let Some(length) = passing.length_of(window) else { return };
+            fields.at += length;
+            self.items += 1;
+        }
+    }
+
     fn fixups(&mut self, fields: &mut Fields, wide: bool) -> Option<()> {
-        let before = self.items;
-        while !fields.is_at_end() {
+        if fields.is_at_end() {
+            self.count(fields);
+            return Some(());
+        }
+        let passing = self.passing(wide);
+        loop {
+            self.pass_fixups(fields, &passing);
+            if fields.is_at_end() {
+                return Some(());
+            }
             let at = fields.here();
             if self.items == ITEM_LIMIT {
                 fields.breaks(at, reason::TOO_MANY);
@@ -323,10 +443,6 @@ impl Tables {
             let first = fields.byte()?;
             if first & 0x80 == 0 { self.set_thread(fields, at, first)? } else { self.fixup(fields, at, first, wide)? }
         }
-        if self.items == before {
-            self.count(fields);
-        }
-        Some(())
     }
 
     fn block(fields: &mut Fields, wide: bool, levels: u32) -> Option<u64> {
