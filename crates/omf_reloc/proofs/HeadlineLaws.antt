@@ -7,7 +7,6 @@ use Rattle.omf_frame.specs.declared.fault.Place.{Place}
 use Rattle.omf_frame.specs.declared.fault.Reason.{Reason}
 use Rattle.omf_image.specs.Limits.{profile_limits}
 use Rattle.omf_check.specs.Checking.{Decides}
-use Rattle.omf_check.specs.Module.{Module, records_in}
 use Rattle.omf_check.specs.Refusal.{IsRefused}
 use Rattle.omf_check.specs.WellFormed.{IsAccepted, recs}
 use Rattle.omf_check.specs.declared.profile.Profile.{Profile}
@@ -28,9 +27,6 @@ use Rattle.omf_reloc.proofs.InsideLaws.{all-inside}
 use Rattle.omf_reloc.specs.HeadlineLaws.{AcceptedAreSafe, IsSame}
 use Rattle.omf_reloc.specs.declared.headline.Answer.{Answer}
 use Rattle.omf_reloc.specs.declared.headline.Answer.TheVariants.{Refused, DoesNotReach, Relocated}
-
-pub begins : (profile : Profile) (input : List ℕ) (m : Module) → Decides profile input (Ok m) → BeginsWith profile input (records_in m.bytes)
-begins profile input m d = d.1.0
 
 refuses : (profile : Profile) (input : List ℕ) (why : Reason) (at : Place) → IsRefused profile profile_limits input why at
     → IsRefused profile profile_limits input why at × ((records : List Raw) → IsAccepted profile profile_limits input records → ⊥)

@@ -7,21 +7,24 @@
 //!     Answer::Relocated { image, start } => {} // the module's image and its start address
 //! }
 //! ```
+//!
+//! `relocate_at` is its second half, for a module that is checked already.
 
-ghost use Rattle.std.specs.Prelude.{◌≡◌, ℕ, List, Some, IfOk, IfErr};
-ghost use Rattle.omf_frame.specs.Device.{HasFailed};
-ghost use Rattle.omf_reloc.specs.Headline.{Headline};
+ghost use Rattle.std.specs.Prelude.{◌≡◌, ◌≤◌, ℕ, List, Some, IfOk, IfErr};
+ghost use Rattle.omf_check.specs.Module.{records_in, recs_of};
+ghost use Rattle.omf_reloc.specs.Headline.{Headline, IsAnswerAt, IsAside, IsReadAs, ReadsPatiently};
+ghost use Rattle.omf_reloc.specs.Reach.{Reaches};
 
 pub mod laws;
 
 use crate::fault::{ReachFault, RelocateFault};
 use crate::reached::reach_and_relocate;
 use crate::starting::start;
-use omf_check::{CheckFault, Profile, check};
+use omf_check::{CheckFault, Checked, Profile, check};
 use omf_frame::{Place, Reason, Source};
 use omf_image::Image;
 use omf_placement::Placement;
-use std::alloc::Global;
+use std::alloc::{AllocError, Global};
 use thiserror::Error;
 
 /// The answer to an input and a placement.
@@ -45,6 +48,20 @@ pub enum Answer {
     },
 }
 
+/// The answer to a checked module and a placement.
+#[derive(Drop)]
+pub enum AnswerAt {
+    /// The placement does not reach: the first reason why not.
+    DoesNotReach(ReachFault),
+    /// The placement reaches.
+    Relocated {
+        /// The image of the module.
+        image: Image,
+        /// The selector and the offset of the start address; None if the module has none.
+        start: Option<(u16, u32)>,
+    },
+}
+
 /// Why there is no answer.
 #[derive(Clone, Copy, Debug, PartialEq, Eq, Error)]
 pub enum NoAnswer {
@@ -56,11 +73,37 @@ pub enum NoAnswer {
     Read,
 }
 
-/// Checks the module that the input begins with, and relocates it at a placement: `check`, `reach_and_relocate` and `start`.
+/// Relocates a checked module at a placement: its image and its start address if the placement reaches, or the first reason why it does
+/// not (TIS OMF 1.1, "FIXUPP", "MODEND").
 ///
 /// # Errors
 ///
-/// `Read` if the reader failed, `Memory` if memory ran out.
+/// `AllocError` if memory ran out. The placement then reaches.
+pub fn relocate_at(
+    alloc: Global,
+    module: &Checked,
+    placement: &Placement,
+) -> Result<AnswerAt, AllocError>
+    ensures answer { IfOk result (IsAnswerAt placement.now (records_in «module».now.bytes)) }
+    ensures memory { IfErr result (λ e. Reaches placement.now (recs_of «module».now.bytes)) }
+{
+    match reach_and_relocate(alloc, module, placement) {
+        Ok(image) => {
+            let start = start(module, placement);
+            Ok(AnswerAt::Relocated { image, start })
+        }
+        Err(RelocateFault::Reach(fault)) => Ok(AnswerAt::DoesNotReach(fault)),
+        Err(RelocateFault::Memory) => Err(AllocError),
+    }
+}
+
+/// Checks the module that the input begins with, and relocates it at a placement: `check`, and then `relocate_at`. It reads no further than
+/// `check` does.
+///
+/// # Errors
+///
+/// `Read` if the reader failed, or was interrupted 1,000 times in a row, before the answer was decided. `Memory` if memory ran out; then the
+/// bytes read have no fault except that they end too early, or they are a module that the placement reaches.
 pub fn check_and_relocate<S: Source>(
     alloc: Global,
     reader: &mut S,
@@ -68,7 +111,11 @@ pub fn check_and_relocate<S: Source>(
     placement: &Placement,
 ) -> Result<Answer, NoAnswer>
     ensures headline { (input : List ℕ) → (S.seen reader.old).bytes ≡ Some input → IfOk result (Headline profile input placement.now) }
-    ensures aside { IfErr result (λ why. why ≡ NoAnswer.Read → HasFailed (S.seen reader.old).failures (S.seen reader.new).failures) }
+    ensures aside { IfErr result (IsAside profile placement.now (S.seen reader.old) (S.seen reader.new)) }
+    // Of a reader whose bytes are not known too: the answer is the answer to the bytes that were read, and no more was read than it needs.
+    ensures read { IfOk result (IsReadAs profile placement.now (S.seen reader.old) (S.seen reader.new)) }
+    ensures patient { ReadsPatiently (S.seen reader.old) (S.seen reader.new) result }
+    ensures grows { (S.seen reader.old).failures ≤ (S.seen reader.new).failures }
 {
     let module = match check(alloc, reader, profile) {
         Ok(module) => module,
@@ -78,11 +125,11 @@ pub fn check_and_relocate<S: Source>(
             return Ok(Answer::Refused { reason, place });
         }
     };
-    let image = match reach_and_relocate(alloc, &module, placement) {
-        Ok(image) => image,
-        Err(RelocateFault::Memory) => return Err(NoAnswer::Memory),
-        Err(RelocateFault::Reach(fault)) => return Ok(Answer::DoesNotReach(fault)),
-    };
-    let start = start(&module, placement);
-    Ok(Answer::Relocated { image, start })
+    // by the clause of `bytes`, the module is well formed
+    let _bytes = module.bytes();
+    match relocate_at(alloc, &module, placement) {
+        Ok(AnswerAt::DoesNotReach(fault)) => Ok(Answer::DoesNotReach(fault)),
+        Ok(AnswerAt::Relocated { image, start }) => Ok(Answer::Relocated { image, start }),
+        Err(AllocError) => Err(NoAnswer::Memory),
+    }
 }

@@ -10,7 +10,8 @@
 //! // image.run_bytes(1, 0) are the bytes of its first covered interval
 //! ```
 //!
-//! `relocate` and `start` require that `reach` returned Ok for the same module and placement. `reach_and_relocate` does both in one pass.
+//! `relocate` and `start` require that `reach` returned Ok for the same module and placement. `reach_and_relocate` does `reach` and `relocate`
+//! in one pass, and `relocate_at` all three.
 #![tactic(auto)]
 
 mod addition;
@@ -30,7 +31,7 @@ mod starting;
 
 pub use addition::Additions;
 pub use fault::{Cause, Kind, ReachFault, RelocateFault};
-pub use headline::{Answer, NoAnswer, check_and_relocate};
+pub use headline::{Answer, AnswerAt, NoAnswer, check_and_relocate, relocate_at};
 pub use measuring::measure;
 pub use offset::outcome;
 pub use omf_check::{FrameMethod, TargetMethod};
