@@ -3,11 +3,11 @@ use Rattle.std.proofs.Common.{◌≡◌, ℕ, zero, suc, ◌+◌, ◌*◌, ◌-�
 use Rattle.std.specs.Prelude.{IsTrue, not, ◌||◌, ◌==◌, ◌⊎◌, slice_index, sum}
 use Rattle.std.proofs.lemmas.Bool.{leb-true, le-leb, eqb-true, eq-eqb}
 use Rattle.std.proofs.lemmas.List.{length-take, take-append-drop}
-use Rattle.omf_frame.specs.Inner.Names.{types_of, types_treated, is_unsupported, is_nonempty}
+use Rattle.omf_frame.specs.Inner.Names.{types_of, is_unsupported, is_nonempty}
 use Rattle.omf_frame.specs.declared.fault.Reason.{Reason}
 use Rattle.omf_frame.specs.declared.fault.Reason.TheVariants as reason
 use Rattle.omf_frame.specs.Bytes.{AreBytes}
-use Rattle.omf_frame.specs.Types.{is_treated}
+use Rattle.omf_frame.specs.Types.{is_treated, types_treated}
 use Rattle.omf_frame.specs.declared.kinds.Treatment.TheVariants.{Read, Carried}
 use Rattle.omf_frame.specs.Fault.{Fault, least, first_step, broken, rule}
 use Rattle.omf_frame.specs.Framing.{Raw, raw_bytes, IsRecord, is_taken, is_header, is_whole, stated_length, front_record, frame_steps, frame_fault, present, HasFront}

@@ -4,10 +4,21 @@ use Rattle.std.specs.Prelude.{ℕ, ◌+◌, List, [], ◌∷◌, Option, Some, N
 use Rattle.omf_frame.specs.declared.fault.Reason.{Reason}
 use Rattle.omf_frame.specs.contracts.fault.Reason.{the_type}
 use Rattle.omf_frame.specs.declared.fault.Reason.TheVariants as reason
+use Rattle.omf_frame.specs.declared.fault.FrameFault.{FrameFault}
+use Rattle.omf_frame.specs.declared.fault.FrameFault.TheVariants as frame
 
 -- The number of a reason: its place in the declaration of Reason, from 1.
 abbrev pub reason_number : Reason → ℕ
 reason_number r = tag_of the_type r + 1
+
+-- All reasons, in the order of their numbers (this profile's rule): framing, layout, meaning.
+abbrev pub reasons : List Reason
+reasons = reason.NoEnd ∷ reason.Cut ∷ reason.UnknownType ∷ reason.UnsupportedType ∷ reason.EmptyRecord ∷ reason.Checksum ∷ reason.NoHeader
+    ∷ reason.Short ∷ reason.Long ∷ reason.Alignment ∷ reason.BigLength ∷ reason.GroupComponent ∷ reason.CommunalType ∷ reason.CommunalLength
+    ∷ reason.FrameMethod ∷ reason.TargetMethod ∷ reason.LocationType ∷ reason.SelfRelative ∷ reason.TooDeep ∷ reason.DataTooLong
+    ∷ reason.UndefinedName ∷ reason.UndefinedSegment ∷ reason.UndefinedGroup ∷ reason.UndefinedExternal ∷ reason.UndefinedThread
+    ∷ reason.OutsideSegment ∷ reason.OutsideRecord ∷ reason.NoDataRecord ∷ reason.FixupOnIterated ∷ reason.TooMany ∷ reason.OtherDialect
+    ∷ reason.VendorComment ∷ reason.StartFrame ∷ []
 
 -- A reason: its name, and what it means.
 abbrev pub reason_row : Reason → List ℕ × List ℕ
@@ -50,6 +61,11 @@ reason_name r = (reason_row r).0
 
 abbrev pub sentence : Reason → List ℕ
 sentence r = (reason_row r).1
+
+-- What a fault of framing means.
+abbrev pub framing_sentence : FrameFault → List ℕ
+framing_sentence frame.Memory = codes "memory ran out"
+framing_sentence (frame.Refused r place) = codes "the input is not framed as a module"
 
 -- a fault of a record: the offset in the record of the field at fault, and the reason
 pub record Fault : Type 0 where

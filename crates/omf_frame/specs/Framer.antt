@@ -14,6 +14,15 @@ pub record Held : Type 0 where
   pub ended : Bool
   pub fault : Option FrameFault
 
+-- The largest size of a record in bytes.
+abbrev pub longest_record : ℕ
+longest_record = 65538
+
+-- A framer: its state, and the number of bytes that its buffer has room for.
+pub record Buffer : Type 0 where
+  pub held : Held
+  pub room : ℕ
+
 -- The start of an input.
 abbrev pub at_start : Held
 at_start = record { bytes = []; number = 0; start = 0; ended = false; fault = None }
@@ -59,11 +68,16 @@ pub record Takes (old : Held) (piece : List ℕ) (taken : ℕ) (whole : Bool) (n
   pub sound : standing_fault (old.number == 0) (next_bytes old piece) ≡ None
 
 -- Why a feed fails: out of memory, which only the first byte of the first record can give, if its type has no fault; or the
--- permanent fault of the record.
+-- permanent fault of the record. Out of memory also asks that there was no room (`LacksRoom`).
 abbrev pub IsCause : Held → List ℕ → FrameFault → Type 0
 IsCause old piece Memory =
     (old.number ≡ 0) × (old.bytes ≡ []) × (0 < length (next_bytes old piece)) × (type_faults (slice_index (next_bytes old piece) 0) ≡ [])
 IsCause old piece (Refused reason place) = option_map (refused old) (standing_fault (old.number == 0) (next_bytes old piece)) ≡ Some (Refused reason place)
+
+-- Out of memory is answered only by a framer without room for the longest record.
+abbrev pub LacksRoom : Buffer → FrameFault → Type 0
+LacksRoom buffer Memory = buffer.room < longest_record
+LacksRoom buffer (Refused reason place) = Unit {0}
 
 -- A feed that fails drops the bytes at hand and keeps its fault, which later feeds return.
 pub record FailsAs (old : Held) (piece : List ℕ) (fault : FrameFault) (new : Held) : Type 0 where

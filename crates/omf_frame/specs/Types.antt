@@ -1,7 +1,6 @@
 -- The types of records by their names in the standard, and what this profile does with their records; the width of their fields
 -- (TIS OMF 1.1, "Record types").
-use denote.Enum.Declared.{tag_of}
-use Rattle.std.specs.Prelude.{ℕ, List, [], ◌∷◌, ◌++◌, flat_map, filter, find, unwrap_or, option_map, Option, Bool, codes, ◌%◌, ◌==◌, if◌then◌else◌}
+use Rattle.std.specs.Prelude.{ℕ, List, [], ◌∷◌, ◌++◌, flat_map, filter, find, unwrap_or, option_map, Option, Bool, true, false, codes, ◌%◌, ◌==◌, if◌then◌else◌}
 use Rattle.omf_frame.specs.Bytes.{is_one_of}
 use Rattle.omf_frame.specs.declared.kinds.RecordType.{RecordType}
 use Rattle.omf_frame.specs.declared.kinds.RecordType.TheVariants.{
@@ -34,7 +33,6 @@ use Rattle.omf_frame.specs.declared.kinds.RecordType.TheVariants.{
   Vendext,
   Library,
 }
-use Rattle.omf_frame.specs.contracts.kinds.Treatment.{the_type}
 use Rattle.omf_frame.specs.declared.kinds.Treatment.{Treatment}
 use Rattle.omf_frame.specs.declared.kinds.Treatment.TheVariants.{Read, Carried, Refused}
 use Rattle.omf_frame.specs.declared.kinds.Width.{Width}
@@ -95,12 +93,23 @@ type_of kind = find (λ t. is_one_of (row t).bytes kind) record_types
 abbrev pub type_name : ℕ → List ℕ
 type_name kind = unwrap_or (option_map (λ t. (row t).name) (type_of kind)) []
 
--- The type is known, and its records are treated so: the two cases have one place in the declaration of Treatment.
+-- Two treatments are the same.
+abbrev pub is_same_treatment : Treatment → Treatment → Bool
+is_same_treatment Read Read = true
+is_same_treatment Carried Carried = true
+is_same_treatment Refused Refused = true
+is_same_treatment _ _ = false
+
+-- The types whose records are treated so.
+abbrev pub types_treated : Treatment → List RecordType
+types_treated treatment = filter (λ t. is_same_treatment treatment (row t).treatment) record_types
+
+-- The type is known, and its records are treated so.
 abbrev pub is_treated : Treatment → ℕ → Bool
-is_treated treatment kind = is_one_of (flat_map (λ t. (row t).bytes) (filter (λ t. tag_of the_type treatment == tag_of the_type (row t).treatment) record_types)) kind
+is_treated treatment kind = is_one_of (flat_map (λ t. (row t).bytes) (types_treated treatment)) kind
 
 abbrev pub carried : List RecordType
-carried = filter (λ t. tag_of the_type Carried == tag_of the_type (row t).treatment) record_types
+carried = types_treated Carried
 
 abbrev pub coment : List ℕ
 coment = (row Coment).bytes

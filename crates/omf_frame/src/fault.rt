@@ -1,12 +1,11 @@
 //! Why a module is refused, and where.
 
 ghost use Rattle.std.specs.Prelude.{◌≡◌};
-ghost use Rattle.omf_frame.specs.Fault.{reason_number, reason_name, sentence};
+ghost use Rattle.omf_frame.specs.Fault.{framing_sentence, reason_number, reason_name, sentence};
 ghost use Rattle.omf_frame.specs.declared.fault.FrameFault.TheVariants.{Memory};
 
 use std::alloc::AllocError;
 use std::fmt;
-use thiserror::Error;
 
 /// Why a module is refused. Reasons are numbered 1 to 33: framing from 1, layout from 8, meaning from 21.
 /// docs/REASONS.md gives the usual cause of each, the remedy, and an example in bytes.
@@ -173,6 +172,11 @@ impl Reason {
 
 /// The reason's name.
 impl fmt::Debug for Reason {
+    ghost use Rattle.std.specs.Prelude.{Some};
+    ghost use Rattle.omf_frame.specs.Fault.{reason_name};
+
+    ghost debug_output = { λ reason. Some (reason_name reason) };
+
     fn fmt<W: fmt::Write>(&self, f: &mut fmt::Formatter<W>) -> fmt::Result {
         f.write_str(self.name())
     }
@@ -202,15 +206,39 @@ pub struct Place {
 }
 
 /// Why framing failed.
-#[derive(Clone, Copy, Debug, PartialEq, Eq, Error)]
+#[derive(Clone, Copy, Debug, PartialEq, Eq)]
 pub enum FrameFault {
     /// 1: out of memory.
-    #[error("memory ran out")]
     Memory,
     /// 2: the input is not a module, by this reason (1 to 7) at this place.
-    #[error("the input is not framed as a module")]
     Refused(Reason, Place),
 }
+
+impl FrameFault {
+    /// What the fault means, in a sentence without a period.
+    fn sentence(&self) -> &'static str
+        ensures { result.now ≡ framing_sentence self.now }
+    {
+        match self {
+            FrameFault::Memory => "memory ran out",
+            FrameFault::Refused(..) => "the input is not framed as a module",
+        }
+    }
+}
+
+/// What the fault means.
+impl fmt::Display for FrameFault {
+    ghost use Rattle.std.specs.Prelude.{Some};
+    ghost use Rattle.omf_frame.specs.Fault.{framing_sentence};
+
+    ghost output = { λ fault. Some (framing_sentence fault) };
+
+    fn fmt<W: fmt::Write>(&self, f: &mut fmt::Formatter<W>) -> fmt::Result {
+        f.write_str(self.sentence())
+    }
+}
+
+impl std::error::Error for FrameFault {}
 
 impl From<AllocError> for FrameFault {
     ghost from_gives = { λ _ e. e ≡ Memory };

@@ -3,8 +3,8 @@
 ghost use Rattle.std.specs.Prelude.{◌≡◌, ◌≤◌, ◌<◌, ◌+◌, ◌-◌, ◌^◌, ◌++◌, ◌==◌, ◌||◌, [], true, false, None, IsTrue, length, take, slice_index, IfOk, IfErr, OnOk, OnErr, IfSome, OnSome, ℕ, List, is_some, is_none, vec_capacity};
 ghost use Rattle.omf_frame.specs.Framing.{Raw, IsRecord, raw_bytes, present, front_record, frame_fault, standing_fault, is_whole, is_taken, is_end, record_len};
 ghost use Rattle.omf_frame.specs.Inner.Judging.{type_fault};
-ghost use Rattle.omf_frame.specs.Framer.{Held, at_start, open_at, next_bytes, stands, want_of, Takes, IsCause, FailsAs, passed, stop_of, want_with, with_bytes, shows_record, IsBetween};
-ghost use Rattle.omf_frame.specs.Inner.Standing.{longest_record};
+ghost use Rattle.omf_frame.specs.Framer.{at_start, longest_record, open_at, stands, want_of, Takes, IsCause, LacksRoom, FailsAs, passed, stop_of, want_with, with_bytes, shows_record, IsBetween};
+ghost use Rattle.omf_frame.specs.declared.fault.FrameFault.TheVariants.{Memory};
 
 use crate::fault::{FrameFault, Place, Reason};
 use crate::framing::{is_whole, len_of, record_len, type_fault, whole_fault};
@@ -45,12 +45,12 @@ pub struct Framer {
 
 impl Model for Framer {
     ghost use Rattle.std.specs.Prelude.{vec_capacity};
-    ghost use Rattle.omf_frame.specs.Framer.{Held};
+    ghost use Rattle.omf_frame.specs.Framer.{Buffer};
     ghost use Rattle.omf_frame.specs.Inner.Standing.{IsState};
 
-    ghost Value = { Held };
+    ghost Value = { Buffer };
 
-    ghost view = { λ a. record { bytes = a.bytes.items; number = a.number; start = a.start; ended = a.ended; fault = a.fault } };
+    ghost view = { λ a. record { held = record { bytes = a.bytes.items; number = a.number; start = a.start; ended = a.ended; fault = a.fault }; room = vec_capacity a.bytes } };
 
     ghost invariant = { λ a. IsState (vec_capacity a.bytes) (record { bytes = a.bytes.items; number = a.number; start = a.start; ended = a.ended; fault = a.fault }) };
 }
@@ -81,6 +81,7 @@ fn take_room(bytes: &mut Vec<u8>, coming: usize) -> Result<(), AllocError>
     ensures capacity { vec_capacity bytes.old ≤ vec_capacity bytes.new }
     ensures room { OnOk result (0 < coming → longest_record ≤ vec_capacity bytes.new) }
     ensures first { OnErr result ((0 < coming) × (vec_capacity bytes.old < longest_record)) }
+    ensures lacking { OnErr result (vec_capacity bytes.new < longest_record) }
 {
     if coming == 0 {
         return Ok(());
@@ -99,6 +100,7 @@ fn grow(bytes: &mut Vec<u8>, piece: &[u8]) -> Result<usize, AllocError>
     ensures bound { IfOk result (λ taken. taken ≤ length piece.now) }
     ensures lacked { OnErr result (length bytes.old.items < length (present (bytes.old.items ++ piece.now))) }
     ensures first { OnErr result (vec_capacity bytes.old < longest_record) }
+    ensures lacking { OnErr result (vec_capacity bytes.new < longest_record) }
     ensures capacity { vec_capacity bytes.old ≤ vec_capacity bytes.new }
     ensures room { OnOk result (vec_capacity bytes.new < longest_record → bytes.new.items ≡ []) }
     ensures short { OnOk result (length bytes.new.items ≤ record_len bytes.new.items) }
@@ -134,6 +136,7 @@ fn advance(bytes: &mut Vec<u8>, at: Place, piece: &[u8]) -> Result<usize, FrameF
     ensures bound { IfOk result (λ taken. taken ≤ length piece.now) }
     ensures sound { OnOk result (standing_fault (at.number == 0) bytes.new.items ≡ None) }
     ensures err { IfErr result (λ fault. IsCause (open_at bytes.old.items at.number at.start) piece.now fault) }
+    ensures lacking { IfErr result (λ fault. fault ≡ Memory → vec_capacity bytes.new < longest_record) }
     ensures capacity { vec_capacity bytes.old ≤ vec_capacity bytes.new }
     ensures room { OnOk result (vec_capacity bytes.new < longest_record → bytes.new.items ≡ []) }
     ensures short { OnOk result (length bytes.new.items ≤ record_len bytes.new.items) }
@@ -213,7 +216,7 @@ fn whole_front(bytes: &[u8], number: u32, start: u64) -> Option<RawRecord<'_>>
 impl Framer {
     /// A framer at the start of an input.
     pub fn new(alloc: Global) -> Framer
-        ensures { result ≡ at_start }
+        ensures { result ≡ record { held = at_start; room = 0 } }
     {
         Framer {
             bytes: Vec::new(alloc),
@@ -226,7 +229,8 @@ impl Framer {
 
     /// Goes to the start of another input. It keeps its memory, so that several inputs need it once.
     pub fn restart(&mut self)
-        ensures { self.new ≡ at_start }
+        ensures held { self.new.held ≡ at_start }
+        ensures room { self.new.room ≡ self.old.room }
     {
         self.bytes.clear();
         self.number = 0;
@@ -240,9 +244,13 @@ impl Framer {
     /// Errors: a refusal by reasons 3 to 7, or `Memory`, which only the first byte of the first record can give. An error drops the
     /// bytes at hand and is permanent: each later call returns it.
     pub fn feed(&mut self, piece: &[u8]) -> Result<Fed, FrameFault>
-        ensures ok { IfOk result (λ fed. Takes self.old piece.now fed.taken fed.whole self.new) }
-        ensures err { IfErr result (λ fault. FailsAs self.old piece.now fault self.new) }
-        ensures small { length self.new.bytes ≤ 65538 }
+        ensures ok { IfOk result (λ fed. Takes self.old.held piece.now fed.taken fed.whole self.new.held) }
+        ensures err { IfErr result (λ fault. FailsAs self.old.held piece.now fault self.new.held) }
+        ensures small { length self.new.held.bytes ≤ 65538 }
+        // Once it has room for the longest record, it keeps that, and never answers Memory.
+        ensures memory { IfErr result (LacksRoom self.old) }
+        ensures taken { IfOk result (λ fed. 0 < fed.taken → longest_record ≤ self.new.room) }
+        ensures room { self.old.room ≤ self.new.room }
     {
         if let Some(fault) = self.fault {
             return Err(fault);
@@ -274,8 +282,8 @@ impl Framer {
     /// The number of bytes up to the next check: 1 before a type byte, then the missing length bytes, then the rest of the record.
     /// 0 while a record is complete, after MODEND, and after a fault.
     pub fn want(&self) -> usize
-        ensures same { result ≡ want_of self.now }
-        ensures none { (result == 0) ≡ (self.now.ended || (is_some self.now.fault || is_whole self.now.bytes)) }
+        ensures same { result ≡ want_of self.now.held }
+        ensures none { (result == 0) ≡ (self.now.held.ended || (is_some self.now.held.fault || is_whole self.now.held.bytes)) }
     {
         if self.ended || self.fault.is_some() {
             return 0;
@@ -289,7 +297,7 @@ impl Framer {
     /// Like `want`, with a look at the next bytes: between two records, if `ahead` begins with a supported type byte, the size of the
     /// whole record as far as its length bytes are in `ahead`.
     pub fn want_with(&self, ahead: &[u8]) -> usize
-        ensures { result ≡ want_with self.now ahead.now }
+        ensures { result ≡ want_with self.now.held ahead.now }
     {
         let between = self.bytes.is_empty() && !self.ended && self.fault.is_none();
         match ahead {
@@ -300,23 +308,24 @@ impl Framer {
 
     /// Whether `next` has passed a MODEND.
     pub fn ended(&self) -> bool
-        ensures { result ≡ self.now.ended }
+        ensures { result ≡ self.now.held.ended }
     {
         self.ended
     }
 
     /// The number of records passed by `next`: the number of the record at hand, from 0.
     pub fn number(&self) -> u32
-        ensures { result ≡ self.now.number }
+        ensures { result ≡ self.now.held.number }
     {
         self.number
     }
 
     /// Goes on after the complete record at hand, whose number must be below 2^32 - 1.
     pub fn next(&mut self)
-        requires whole { IsTrue (stands self.old) }
-        requires number { self.old.number < 2 ^ 32 - 1 }
-        ensures { self.new ≡ passed self.old }
+        requires whole { IsTrue (stands self.old.held) }
+        requires number { self.old.held.number < 2 ^ 32 - 1 }
+        ensures held { self.new.held ≡ passed self.old.held }
+        ensures room { self.new.room ≡ self.old.room }
     {
         self.number += 1;
         self.start += self.bytes.len() as u64;
@@ -326,14 +335,14 @@ impl Framer {
 
     /// The record at hand, if it is complete. `None` after a fault.
     pub fn raw(&self) -> Option<RawRecord<'_>>
-        ensures stands { is_some result ≡ stands self.now }
-        ensures kind { IfSome result (λ r. r.kind ≡ (front_record self.now.bytes).kind) }
-        ensures body { IfSome result (λ r. r.body.now ≡ (front_record self.now.bytes).body) }
-        ensures number { IfSome result (λ r. r.number ≡ self.now.number) }
-        ensures start { IfSome result (λ r. r.start ≡ self.now.start) }
-        ensures sound { OnSome result (frame_fault (self.now.number == 0) self.now.bytes ≡ None) }
-        ensures record { OnSome result (IsRecord (front_record self.now.bytes)) }
-        ensures spelled { OnSome result (raw_bytes (front_record self.now.bytes) ≡ self.now.bytes) }
+        ensures stands { is_some result ≡ stands self.now.held }
+        ensures kind { IfSome result (λ r. r.kind ≡ (front_record self.now.held.bytes).kind) }
+        ensures body { IfSome result (λ r. r.body.now ≡ (front_record self.now.held.bytes).body) }
+        ensures number { IfSome result (λ r. r.number ≡ self.now.held.number) }
+        ensures start { IfSome result (λ r. r.start ≡ self.now.held.start) }
+        ensures sound { OnSome result (frame_fault (self.now.held.number == 0) self.now.held.bytes ≡ None) }
+        ensures record { OnSome result (IsRecord (front_record self.now.held.bytes)) }
+        ensures spelled { OnSome result (raw_bytes (front_record self.now.held.bytes) ≡ self.now.held.bytes) }
         ensures taken { IfSome result (λ r. IsTrue (is_taken r.kind)) }
         ensures small { IfSome result (λ r. length r.body.now ≤ 65534) }
     {
@@ -349,14 +358,14 @@ impl Framer {
     /// It shows what `raw` would after `feed` of these bytes, and copies nothing.
     #[inline(always)]
     pub fn raw_ahead<'a>(&self, ahead: &'a [u8]) -> Option<RawRecord<'a>>
-        ensures stands { is_some result ≡ shows_record self.now ahead.now }
-        ensures between { OnSome result (IsBetween self.now) }
-        ensures fed { OnSome result (Takes self.now ahead.now (record_len ahead.now) true (with_bytes self.now (present ahead.now))) }
+        ensures stands { is_some result ≡ shows_record self.now.held ahead.now }
+        ensures between { OnSome result (IsBetween self.now.held) }
+        ensures fed { OnSome result (Takes self.now.held ahead.now (record_len ahead.now) true (with_bytes self.now.held (present ahead.now))) }
         ensures kind { IfSome result (λ r. r.kind ≡ (front_record (present ahead.now)).kind) }
         ensures body { IfSome result (λ r. r.body.now ≡ (front_record (present ahead.now)).body) }
-        ensures number { IfSome result (λ r. r.number ≡ self.now.number) }
-        ensures start { IfSome result (λ r. r.start ≡ self.now.start) }
-        ensures sound { OnSome result (frame_fault (self.now.number == 0) (present ahead.now) ≡ None) }
+        ensures number { IfSome result (λ r. r.number ≡ self.now.held.number) }
+        ensures start { IfSome result (λ r. r.start ≡ self.now.held.start) }
+        ensures sound { OnSome result (frame_fault (self.now.held.number == 0) (present ahead.now) ≡ None) }
         ensures record { OnSome result (IsRecord (front_record (present ahead.now))) }
         ensures spelled { OnSome result (raw_bytes (front_record (present ahead.now)) ≡ present ahead.now) }
         ensures taken { IfSome result (λ r. IsTrue (is_taken r.kind)) }
@@ -377,10 +386,11 @@ impl Framer {
     /// record's number must be below 2^32 - 1.
     #[inline(always)]
     pub fn pass(&mut self, ahead: &[u8]) -> usize
-        requires between { IsBetween self.old }
-        requires sound { frame_fault (self.old.number == 0) (present ahead.now) ≡ None }
-        requires number { self.old.number < 2 ^ 32 - 1 }
-        ensures passed { self.new ≡ passed (with_bytes self.old (present ahead.now)) }
+        requires between { IsBetween self.old.held }
+        requires sound { frame_fault (self.old.held.number == 0) (present ahead.now) ≡ None }
+        requires number { self.old.held.number < 2 ^ 32 - 1 }
+        ensures passed { self.new.held ≡ passed (with_bytes self.old.held (present ahead.now)) }
+        ensures room { self.new.room ≡ self.old.room }
         ensures size { result ≡ record_len ahead.now }
     {
         let size = record_len(ahead);
@@ -395,8 +405,8 @@ impl Framer {
     /// `Ok` if MODEND is complete or was passed. Errors: a fault of `feed`; else `Cut` inside a record, and `NoEnd` between records.
     /// The last two are not permanent.
     pub fn stop(&self) -> Result<(), FrameFault>
-        requires { IsTrue (stands self.now) → IsTrue (is_end (slice_index self.now.bytes 0)) }
-        ensures { result ≡ stop_of self.now }
+        requires { IsTrue (stands self.now.held) → IsTrue (is_end (slice_index self.now.held.bytes 0)) }
+        ensures { result ≡ stop_of self.now.held }
     {
         if let Some(fault) = self.fault {
             return Err(fault);

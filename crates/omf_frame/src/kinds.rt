@@ -190,7 +190,13 @@ impl RecordType {
     }
 }
 
+/// The type's name in the standard.
 impl fmt::Debug for RecordType {
+    ghost use Rattle.std.specs.Prelude.{Some};
+    ghost use Rattle.omf_frame.specs.Types.{row};
+
+    ghost debug_output = { λ record_type. Some (row record_type).name };
+
     fn fmt<W: fmt::Write>(&self, f: &mut fmt::Formatter<W>) -> fmt::Result {
         f.write_str(self.name())
     }

@@ -1,25 +1,15 @@
 -- Names for parts of definitions, used in proofs and in contracts of private functions.
 
 use Rattle.omf_frame.specs.Framing.{is_end_of_input}
-use denote.Enum.Declared.{tag_of}
-use Rattle.std.specs.Prelude.{ℕ, List, flat_map, filter, IsTrue, All, Bool, ◌==◌, Option, Some, None, option_and_then, if◌then◌else◌, is_some, slice_get}
+use Rattle.std.specs.Prelude.{ℕ, List, flat_map, IsTrue, All, Bool, Option, Some, None, option_and_then, if◌then◌else◌, is_some, slice_get}
 use Rattle.omf_frame.specs.declared.kinds.RecordType.{RecordType}
-use Rattle.omf_frame.specs.Types.{row, record_types, is_treated}
-use Rattle.omf_frame.specs.contracts.kinds.Treatment.{the_type}
-use Rattle.omf_frame.specs.declared.kinds.Treatment.{Treatment}
+use Rattle.omf_frame.specs.Types.{row, is_treated}
 use Rattle.omf_frame.specs.Fault.{Rule, Fault}
 use Rattle.omf_frame.specs.declared.kinds.Treatment.TheVariants.{Refused}
 
--- Two cases are the same.
-abbrev pub is_same : Treatment → Treatment → Bool
-is_same a b = tag_of the_type a == tag_of the_type b
-
+-- The type bytes of some types.
 abbrev pub types_of : List RecordType → List ℕ
 types_of types = flat_map (λ t. (row t).bytes) types
-
--- The types whose records are treated so, and the type bytes of some types.
-abbrev pub types_treated : Treatment → List RecordType
-types_treated treatment = filter (λ t. is_same treatment (row t).treatment) record_types
 
 -- all rules hold
 abbrev pub AreKept : List Rule → Type 0
