@@ -2,7 +2,7 @@
 # Runs the commands that pages show, and compares what they print: reasons.sh [PAGE ..]   (docs/REASONS.md)
 #
 # A command is a line `$ ..` in a block ```console of the page; the lines after it, up to the next command or the end of the
-# block, are what it must print. Bytes that the page shows before the command are compared with the file that the command reads.
+# block, are what it must print. Bytes that the block shows before its first command must be in the file that the command reads.
 # OMF, OMF_PLACE, OMF_LINK, OMF_DUMP and OMF_LIB name the programs (omf, omf-place, omf-link, omf-dump and omf-lib, if not set), and LIBOMF
 # the shared library (build/libomf.so). Where there is no omf, or OMF is empty, `rt try` runs it from its sources, without any proof; commands
 # that need the system's own files or another program are then left out. So are commands whose tools are not installed, and those on files
@@ -20,16 +20,15 @@ mkdir "$work/bin" "$work/cases"
 
 # In $work: N.command and N.said for the N-th command, and N.bytes where bytes are shown before it.
 awk -v work="$work" '
-    /^```text$/ { bytes = ""; inside = "text"; next }
-    /^```console$/ { inside = "console"; next }
+    /^```console$/ { inside = "console"; begins = 1; bytes = ""; next }
     /^```$/ { if (inside == "console" && number) { close(command); close(said) } inside = ""; next }
-    inside == "text" { line = $0; sub(/ *;.*/, "", line); if (line ~ /^([0-9A-F][0-9A-F] )*[0-9A-F][0-9A-F]$/) bytes = bytes line " "; next }
     inside == "console" && /^\$ / {
-        number++; command = work "/" number ".command"; said = work "/" number ".said"
+        number++; begins = 0; command = work "/" number ".command"; said = work "/" number ".said"
         print substr($0, 3) > command; printf "" > said
         if (bytes != "") { print bytes > (work "/" number ".bytes"); close(work "/" number ".bytes"); bytes = "" }
         next
     }
+    inside == "console" && begins { line = $0; sub(/ *;.*/, "", line); if (line ~ /^([0-9A-F][0-9A-F] )*[0-9A-F][0-9A-F]$/) bytes = bytes line " "; next }
     inside == "console" && number { print > said }
 ' "$@"
 
@@ -84,9 +83,9 @@ for number in $(seq "$commands"); do
     command=$(sed "s|build/libomf\\.so|$library|" "$work/$number.command")
     if [ -e "$work/$number.bytes" ]; then
         file=$(grep -o "examples/[^ ;|]*\.omf" <<< "$command" | head -1 || true)
-        shown=$(tr -d ' \n' < "$work/$number.bytes")
-        if [ -n "$file" ] && [ "$shown" != "$(od -A n -v -t x1 "$file" | tr -d ' \n' | tr a-f A-F)" ]; then
-            echo "the bytes shown are not those of $file"
+        shown=$(tr -d '\n' < "$work/$number.bytes")
+        if [ -z "$file" ] || [[ "$(od -A n -v -t x1 "$file" | tr -d '\n' | tr a-f A-F) " != *" $shown"* ]]; then
+            echo "the bytes shown are not in $file: $shown"
             failed=$((failed + 1))
         fi
     fi
