@@ -514,7 +514,7 @@ def _linked(call: Any, *arguments: Any) -> bytes:
 def link(modules: Iterable[Data], text: Union[str, bytes], base: int, size: int, fill: int = 0) -> bytes:
     """The memory of modules: size bytes from the address base on, with fill where no module has a byte.
 
-    text has the address of each segment, by names (docs/LINK.md). Raises NotLinked.
+    text has the address of each segment, by names (docs/ADDRESSES.md). Raises NotLinked.
     """
     spelled = text.encode("latin-1") if isinstance(text, str) else bytes(text)
     joined = b"".join([*map(bytes, modules), spelled])
@@ -522,6 +522,6 @@ def link(modules: Iterable[Data], text: Union[str, bytes], base: int, size: int,
 
 
 def link_exe(modules: Iterable[Data]) -> bytes:
-    """A DOS program (.EXE) of modules, laid out from address 0 on (docs/LINK.md). A member of a library is a module: Member.data. Raises NotLinked."""
+    """A DOS program (.EXE) of modules, laid out from address 0 on (docs/DOS.md). A member of a library is a module: Member.data. Raises NotLinked."""
     joined = b"".join(map(bytes, modules))
     return _linked(_library.omf_exe, joined, len(joined))
