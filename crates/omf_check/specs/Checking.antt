@@ -1,6 +1,6 @@
 -- The results of a check, and how far it reads.
 use Rattle.omf_frame.specs.Framing.{is_end_of_input}
-use Rattle.std.specs.Prelude.{◌≡◌, ◌⊎◌, ◌<◌, IsTrue, ⊤, ℕ, List, drop, length, Option, Result, Ok, Err}
+use Rattle.std.specs.Prelude.{◌≡◌, ◌⊎◌, ◌<◌, IsTrue, ⊤, ℕ, List, codes, drop, length, Option, Result, Ok, Err}
 use Rattle.std.specs.Io.KnownBytes.{Consumes, IsAtEnd}
 use Rattle.omf_frame.specs.Device.{Device, HasFailed, GivesUp}
 use Rattle.omf_frame.specs.declared.fault.Place.{Place}
@@ -35,6 +35,12 @@ IsCheckFault profile old new failed fails (Refused why at) = (read : List ℕ) �
 abbrev pub IsReadPatiently : {A : Type 0} → Device → Device → Result A CheckFault → Type 0
 IsReadPatiently old new (Err Read) = GivesUp old new
 IsReadPatiently old new _ = new.breaks ≡ old.breaks
+
+-- What a fault of a check means.
+abbrev pub check_sentence : CheckFault → List ℕ
+check_sentence Memory = codes "memory ran out"
+check_sentence Read = codes "the input could not be read"
+check_sentence (Refused why at) = codes "the input does not begin with a well-formed module"
 
 -- The result of a check for an input: the module it begins with, or its refusal; after Memory and Read, nothing is claimed.
 abbrev pub Decides : Profile → List ℕ → Result Module CheckFault → Type 0

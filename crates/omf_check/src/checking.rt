@@ -31,6 +31,8 @@ pub fn check_with<S: Source>(
     ensures bounded { IfOk result (λ m. (S.seen reader.new).failures ≤ (S.seen reader.old).failures + 1000 * (length m.bytes + 1)) }
     ensures grows { (S.seen reader.old).failures ≤ (S.seen reader.new).failures }
     ensures profile { IfOk result (λ m. m.profile ≡ profile) }
+    // The framer keeps its memory.
+    ensures room { framer.old.room ≤ framer.new.room }
 {
     let mut bytes = Vec::new(alloc);
     let taken = take_module(alloc, framer, reader, &mut bytes, profile)?;

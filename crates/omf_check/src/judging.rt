@@ -17,8 +17,8 @@ use std::alloc::Global;
 
 /// The verdict at the end of the input, after `size` bytes.
 fn stopped(framer: &Framer, size: u64) -> Result<Judged, CheckFault>
-    requires { is_whole framer.now.bytes ≡ false }
-    ensures { Stops framer.now size result }
+    requires { is_whole framer.now.held.bytes ≡ false }
+    ensures { Stops framer.now.held size result }
 {
     if let Err(fault) = framer.stop() {
         return Err(framing_fault(fault));

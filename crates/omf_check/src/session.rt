@@ -31,9 +31,9 @@ impl Model for Session {
 
     ghost Value = { Seen };
 
-    ghost view = { λ s. record { profile = s.profile; taken = s.bytes.items; at_hand = (if is_some s.fault then [] else s.framer.bytes); ended = s.framer.ended; fault = s.fault } };
+    ghost view = { λ s. record { profile = s.profile; taken = s.bytes.items; at_hand = (if is_some s.fault then [] else s.framer.held.bytes); ended = s.framer.held.ended; fault = s.fault } };
 
-    ghost invariant = { λ s. IsState s.profile s.framer s.bytes.items s.tables s.fault };
+    ghost invariant = { λ s. IsState s.profile s.framer.held s.bytes.items s.tables s.fault };
 }
 
 /// Converts a framing fault.
@@ -53,8 +53,8 @@ pub(crate) fn finished(
     bytes: Vec<u8>,
     tables: Tables,
 ) -> Result<Checked, CheckFault>
-    requires { IsPassing profile framer.now bytes.items tables }
-    ensures { Finishes (here profile framer.now bytes.items) result }
+    requires { IsPassing profile framer.now.held bytes.items tables }
+    ensures { Finishes (here profile framer.now.held bytes.items) result }
 {
     if let Err(fault) = framer.stop() {
         return Err(framing_fault(fault));

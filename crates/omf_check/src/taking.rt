@@ -30,7 +30,7 @@ pub(crate) struct Taken {
 
 /// The number of bytes that can be taken before the next record is judged. `ahead` are the next bytes, `size` the number of those taken.
 fn wanted(framer: &Framer, size: u64, ahead: &[u8]) -> usize
-    ensures { result ≡ (if size == 0 then want_of framer.now else want_with framer.now ahead.now) }
+    ensures { result ≡ (if size == 0 then want_of framer.now.held else want_with framer.now.held ahead.now) }
 {
     if size == 0 {
         return framer.want();
@@ -71,13 +71,14 @@ pub(crate) fn step<K: Keeper>(
     profile: Profile,
     piece: &[u8],
 ) -> Result<Fed, CheckFault>
-    requires { (taken : List ℕ) × IsPassing profile framer.old taken tables.old }
-    ensures moves { (taken : List ℕ) → IsPassing profile framer.old taken tables.old → IfOk result (λ fed. Moves framer.old taken piece.now fed.taken fed.whole framer.new (taken ++ take fed.taken piece.now)) }
-    ensures passing { (taken : List ℕ) → IsPassing profile framer.old taken tables.old → IfOk result (λ fed. IsPassing profile framer.new (taken ++ take fed.taken piece.now) tables.new) }
+    requires { (taken : List ℕ) × IsPassing profile framer.old.held taken tables.old }
+    ensures moves { (taken : List ℕ) → IsPassing profile framer.old.held taken tables.old → IfOk result (λ fed. Moves framer.old.held taken piece.now fed.taken fed.whole framer.new.held (taken ++ take fed.taken piece.now)) }
+    ensures passing { (taken : List ℕ) → IsPassing profile framer.old.held taken tables.old → IfOk result (λ fed. IsPassing profile framer.new.held (taken ++ take fed.taken piece.now) tables.new) }
     ensures grown { IfOk result (λ fed. Appends (K.kept keeper.old) (K.kept keeper.new) (take fed.taken piece.now)) }
-    ensures cause { (taken : List ℕ) → IsPassing profile framer.old taken tables.old → IfErr result (Fails profile framer.old taken piece.now) }
+    ensures cause { (taken : List ℕ) → IsPassing profile framer.old.held taken tables.old → IfErr result (Fails profile framer.old.held taken piece.now) }
     ensures same { OnErr result (Keeps (K.kept keeper.old) (K.kept keeper.new)) }
-    ensures running { OnErr result ((framer.old.ended ≡ false) × (framer.new.ended ≡ false)) }
+    ensures running { OnErr result ((framer.old.held.ended ≡ false) × (framer.new.held.ended ≡ false)) }
+    ensures room { framer.old.room ≤ framer.new.room }
 {
     let fed = match framer.feed(piece) {
         Ok(fed) => fed,
@@ -107,11 +108,12 @@ fn step_ahead<S: Source, K: Keeper>(
     profile: Profile,
     reader: &mut S,
 ) -> Result<usize, CheckFault>
-    requires { (taken : List ℕ) × IsPassing profile framer.old taken tables.old }
-    ensures moves { (taken : List ℕ) → IsPassing profile framer.old taken tables.old → IfOk result (λ size. PassesAhead profile taken size (S.seen reader.old).bytes (S.seen reader.new).bytes (K.kept keeper.old) (K.kept keeper.new) framer.new tables.new) }
-    ensures cause { (taken : List ℕ) → IsPassing profile framer.old taken tables.old → IfErr result (StopsAhead profile framer.old taken (S.shown reader.old) (S.seen reader.old).bytes (S.seen reader.new).bytes) }
+    requires { (taken : List ℕ) × IsPassing profile framer.old.held taken tables.old }
+    ensures moves { (taken : List ℕ) → IsPassing profile framer.old.held taken tables.old → IfOk result (λ size. PassesAhead profile taken size (S.seen reader.old).bytes (S.seen reader.new).bytes (K.kept keeper.old) (K.kept keeper.new) framer.new.held tables.new) }
+    ensures cause { (taken : List ℕ) → IsPassing profile framer.old.held taken tables.old → IfErr result (StopsAhead profile framer.old.held taken (S.shown reader.old) (S.seen reader.old).bytes (S.seen reader.new).bytes) }
     ensures failures { (S.seen reader.new).failures ≡ (S.seen reader.old).failures }
     ensures breaks { (S.seen reader.new).breaks ≡ (S.seen reader.old).breaks }
+    ensures room { framer.old.room ≤ framer.new.room }
 {
     let ahead = reader.ahead();
     let Some(raw) = framer.raw_ahead(ahead) else {
@@ -132,11 +134,12 @@ fn pass_ahead<S: Source, K: Keeper>(
     profile: Profile,
     reader: &mut S,
 ) -> Result<usize, CheckFault>
-    requires { (taken : List ℕ) × IsPassing profile framer.old taken tables.old }
-    ensures moves { (taken : List ℕ) → IsPassing profile framer.old taken tables.old → IfOk result (λ size. PassesAhead profile taken size (S.seen reader.old).bytes (S.seen reader.new).bytes (K.kept keeper.old) (K.kept keeper.new) framer.new tables.new) }
-    ensures cause { (taken : List ℕ) → IsPassing profile framer.old taken tables.old → IfErr result (FailsAhead profile taken (S.seen reader.old).bytes (S.seen reader.new).bytes) }
+    requires { (taken : List ℕ) × IsPassing profile framer.old.held taken tables.old }
+    ensures moves { (taken : List ℕ) → IsPassing profile framer.old.held taken tables.old → IfOk result (λ size. PassesAhead profile taken size (S.seen reader.old).bytes (S.seen reader.new).bytes (K.kept keeper.old) (K.kept keeper.new) framer.new.held tables.new) }
+    ensures cause { (taken : List ℕ) → IsPassing profile framer.old.held taken tables.old → IfErr result (FailsAhead profile taken (S.seen reader.old).bytes (S.seen reader.new).bytes) }
     ensures failures { (S.seen reader.new).failures ≡ (S.seen reader.old).failures }
     ensures breaks { (S.seen reader.new).breaks ≡ (S.seen reader.old).breaks }
+    ensures room { framer.old.room ≤ framer.new.room }
 {
     let mut size = 0;
     loop {
@@ -157,11 +160,12 @@ fn take_ahead<S: Source, K: Keeper>(
     profile: Profile,
     reader: &mut S,
 ) -> Result<usize, CheckFault>
-    requires { (taken : List ℕ) × IsPassing profile framer.old taken tables.old }
-    ensures moves { (taken : List ℕ) → IsPassing profile framer.old taken tables.old → IfOk result (λ size. PassesAhead profile taken size (S.seen reader.old).bytes (S.seen reader.new).bytes (K.kept keeper.old) (K.kept keeper.new) framer.new tables.new) }
-    ensures cause { (taken : List ℕ) → IsPassing profile framer.old taken tables.old → IfErr result (FailsAhead profile taken (S.seen reader.old).bytes (S.seen reader.new).bytes) }
+    requires { (taken : List ℕ) × IsPassing profile framer.old.held taken tables.old }
+    ensures moves { (taken : List ℕ) → IsPassing profile framer.old.held taken tables.old → IfOk result (λ size. PassesAhead profile taken size (S.seen reader.old).bytes (S.seen reader.new).bytes (K.kept keeper.old) (K.kept keeper.new) framer.new.held tables.new) }
+    ensures cause { (taken : List ℕ) → IsPassing profile framer.old.held taken tables.old → IfErr result (FailsAhead profile taken (S.seen reader.old).bytes (S.seen reader.new).bytes) }
     ensures failures { (S.seen reader.new).failures ≡ (S.seen reader.old).failures }
     ensures breaks { (S.seen reader.new).breaks ≡ (S.seen reader.old).breaks }
+    ensures room { framer.old.room ≤ framer.new.room }
 {
     let shown = reader.ahead();
     let mut bytes = Bytes::new(shown);
@@ -185,13 +189,14 @@ pub(crate) fn take_module<S: Source, K: Keeper>(
     keeper: &mut K,
     profile: Profile,
 ) -> Result<Taken, CheckFault>
-    ensures taken { IfOk result (λ t. HasTaken profile (S.seen reader.old).bytes (S.seen reader.new).bytes (K.kept keeper.old) (K.kept keeper.new) framer.new t.tables t.size) }
-    ensures ends { OnOk result ((framer.new.ended ≡ true) ⊎ IsAtEnd (S.seen reader.new).bytes) }
+    ensures taken { IfOk result (λ t. HasTaken profile (S.seen reader.old).bytes (S.seen reader.new).bytes (K.kept keeper.old) (K.kept keeper.new) framer.new.held t.tables t.size) }
+    ensures ends { OnOk result ((framer.new.held.ended ≡ true) ⊎ IsAtEnd (S.seen reader.new).bytes) }
     ensures verdict { IfErr result (λ fault. (input : List ℕ) → (S.seen reader.old).bytes ≡ Some input → Judges profile input (Err fault)) }
     ensures cause { IfErr result (IsCheckFault profile (S.seen reader.old).bytes (S.seen reader.new).bytes (S.seen reader.old).failures (S.seen reader.new).failures) }
     ensures patient { IsReadPatiently (S.seen reader.old) (S.seen reader.new) result }
     ensures bounded { IfOk result (λ t. (S.seen reader.new).failures ≤ (S.seen reader.old).failures + 1000 * (t.size + 1)) }
     ensures grows { (S.seen reader.old).failures ≤ (S.seen reader.new).failures }
+    ensures room { framer.old.room ≤ framer.new.room }
 {
     framer.restart();
     let mut tables = Tables::new(alloc);

@@ -6,37 +6,37 @@ use Rattle.omf_check.proofs.taking.step.Goals as goal
 
 pub returns-in-Err-clause-cause : goal.returns-in-Err-clause-cause
 returns-in-Err-clause-cause g c =
-    λ taken p. subst (Fails c.args.profile c.args.framer.now taken c.args.piece.now) (sym c.framing_fault.ensures)
-    (framer_fails c.args.profile c.args.framer.now taken c.args.tables.now p c.args.piece.now c.in-Err.fault c.feed.new.self c.in-Err.ensures.err)
+    λ taken p. subst (Fails c.args.profile c.args.framer.now.held taken c.args.piece.now) (sym c.framing_fault.ensures)
+    (framer_fails c.args.profile c.args.framer.now.held taken c.args.tables.now p c.args.piece.now c.in-Err.fault c.feed.new.self.held c.in-Err.ensures.err)
 
 pub accept-requires-clause-start : goal.accept-requires-clause-start
 accept-requires-clause-start g c =
-    start_low c.args.profile c.args.framer.now c.requires.0 c.args.tables.now c.requires.1 c.args.piece.now c.in-Ok.fed.taken c.in-Ok.fed.whole c.feed.new.self c.in-Ok.ensures.ok
+    start_low c.args.profile c.args.framer.now.held c.requires.0 c.args.tables.now c.requires.1 c.args.piece.now c.in-Ok.fed.taken c.in-Ok.fed.whole c.feed.new.self.held c.in-Ok.ensures.ok
     c.in-Some.raw.start c.in-Some.ensures.start
 
 pub returns-in_err-accept-in-Some-clause-cause : goal.returns-in_err-accept-in-Some-clause-cause
 returns-in_err-accept-in-Some-clause-cause g c =
     λ taken p. let e = err_from_is_err_and c.from_residual-in_err-accept-in-Some.result c.from_residual-in_err-accept-in-Some.ensures.1 in
     rw (e.1, e.2) (
-    take_fails c.args.profile c.args.framer.now taken c.args.tables.now p c.args.piece.now c.in-Ok.fed.taken c.in-Ok.fed.whole c.feed.new.self c.in-Ok.ensures.ok
+    take_fails c.args.profile c.args.framer.now.held taken c.args.tables.now p c.args.piece.now c.in-Ok.fed.taken c.in-Ok.fed.whole c.feed.new.self.held c.in-Ok.ensures.ok
     c.in_err-accept-in-Some.field-0.0 c.in-Some.raw.kind c.in-Some.raw.number c.in-Some.raw.start c.in-Some.raw.body.now
     (sym c.in-Some.ensures.stands) c.in-Some.ensures.sound c.in-Some.ensures.record c.in-Some.ensures.spelled c.in-Some.ensures.kind c.in-Some.ensures.body c.in-Some.ensures.number c.in-Some.ensures.start
     (λ i. omega (arith, c.type_inv.piece i)) c.in_err-accept-in-Some.ensures.cause)
 
 pub next-requires-clause-number : goal.next-requires-clause-number
 next-requires-clause-number g c =
-    number_low c.args.profile c.args.framer.now c.requires.0 c.args.tables.now c.requires.1 c.args.piece.now c.in-Ok.fed.taken c.in-Ok.fed.whole c.feed.new.self c.in-Ok.ensures.ok
+    number_low c.args.profile c.args.framer.now.held c.requires.0 c.args.tables.now c.requires.1 c.args.piece.now c.in-Ok.fed.taken c.in-Ok.fed.whole c.feed.new.self.held c.in-Ok.ensures.ok
 
 pub returns-in_ok-keep-in-None-clause-passing : goal.returns-in_ok-keep-in-None-clause-passing
 returns-in_ok-keep-in-None-clause-passing g c =
-    λ taken p. none_passed c.args.profile c.args.framer.now taken c.args.tables.now p c.args.piece.now c.in-Ok.fed.taken c.in-Ok.fed.whole c.feed.new.self c.in-Ok.ensures.ok
+    λ taken p. none_passed c.args.profile c.args.framer.now.held taken c.args.tables.now p c.args.piece.now c.in-Ok.fed.taken c.in-Ok.fed.whole c.feed.new.self.held c.in-Ok.ensures.ok
     (taken ++ take c.in-Ok.fed.taken c.args.piece.now) refl (λ i. omega (arith, c.type_inv.piece i)) c.in-Ok.ensures.small (sym c.in-None.ensures.stands)
 
 pub returns-in_ok-accept-in-Some-clause-passing : goal.returns-in_ok-accept-in-Some-clause-passing
 returns-in_ok-accept-in-Some-clause-passing g c =
-    λ taken p. record_passed c.args.profile c.args.framer.now taken c.args.tables.now p c.args.piece.now c.in-Ok.fed.taken c.in-Ok.fed.whole c.feed.new.self c.in-Ok.ensures.ok
-    (taken ++ take c.in-Ok.fed.taken c.args.piece.now) c.next.new.self c.accept.new.tables c.in-Some.raw.kind c.in-Some.raw.start c.in-Some.raw.body.now
-    refl (λ i. omega (arith, c.type_inv.piece i)) (sym c.in-Some.ensures.stands) c.next.ensures
+    λ taken p. record_passed c.args.profile c.args.framer.now.held taken c.args.tables.now p c.args.piece.now c.in-Ok.fed.taken c.in-Ok.fed.whole c.feed.new.self.held c.in-Ok.ensures.ok
+    (taken ++ take c.in-Ok.fed.taken c.args.piece.now) c.next.new.self.held c.accept.new.tables c.in-Some.raw.kind c.in-Some.raw.start c.in-Some.raw.body.now
+    refl (λ i. omega (arith, c.type_inv.piece i)) (sym c.in-Some.ensures.stands) c.next.ensures.held
     c.in-Some.ensures.sound c.in-Some.ensures.record c.in-Some.ensures.spelled c.in-Some.ensures.kind c.in-Some.ensures.body c.in-Some.ensures.start
     c.in_ok-accept-in-Some.ensures.sound c.in_ok-accept-in-Some.ensures.tables c.in_ok-accept-in-Some.ensures.bounded
 
@@ -44,5 +44,5 @@ pub returns-in_err-keep-in-None-clause-cause : goal.returns-in_err-keep-in-None-
 returns-in_err-keep-in-None-clause-cause g c =
     λ taken p. let e = err_from_is_err_and c.from_residual.result c.from_residual.ensures.1 in
     rw (e.1, e.2) (
-    part_lacks c.args.profile c.args.framer.now taken c.args.tables.now p c.args.piece.now c.in-Ok.fed.taken c.in-Ok.fed.whole c.feed.new.self c.in-Ok.ensures.ok
+    part_lacks c.args.profile c.args.framer.now.held taken c.args.tables.now p c.args.piece.now c.in-Ok.fed.taken c.in-Ok.fed.whole c.feed.new.self.held c.in-Ok.ensures.ok
     c.in_err-keep-in-None.ensures.needed (sym c.in-None.ensures.stands))

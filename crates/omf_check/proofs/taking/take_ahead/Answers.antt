@@ -15,8 +15,8 @@ of_shown P first shown left last a b h =
 pub overflow_sub-size : goal.overflow_sub-size
 overflow_sub-size g c =
     let first = ap (λ (d : Device). d.bytes) c.new-bytes.ensures in
-    left_fits c.args.profile c.requires.0 c.ahead-shown.result.now c.ahead.result.now (g.K.Keeper.kept c.args.keeper.now) (g.K.Keeper.kept c.pass_ahead-passed.new.keeper) c.pass_ahead-passed.new.framer c.pass_ahead-passed.new.tables c.pass_ahead-passed.result
-    (of_shown (λ (x y : List ℕ). IfOk c.pass_ahead-passed.result (λ size. PassesAhead c.args.profile c.requires.0 size (Some x) (Some y) (g.K.Keeper.kept c.args.keeper.now) (g.K.Keeper.kept c.pass_ahead-passed.new.keeper) c.pass_ahead-passed.new.framer c.pass_ahead-passed.new.tables))
+    left_fits c.args.profile c.requires.0 c.ahead-shown.result.now c.ahead.result.now (g.K.Keeper.kept c.args.keeper.now) (g.K.Keeper.kept c.pass_ahead-passed.new.keeper) c.pass_ahead-passed.new.framer.held c.pass_ahead-passed.new.tables c.pass_ahead-passed.result
+    (of_shown (λ (x y : List ℕ). IfOk c.pass_ahead-passed.result (λ size. PassesAhead c.args.profile c.requires.0 size (Some x) (Some y) (g.K.Keeper.kept c.args.keeper.now) (g.K.Keeper.kept c.pass_ahead-passed.new.keeper) c.pass_ahead-passed.new.framer.held c.pass_ahead-passed.new.tables))
     c.new-bytes.result.left.now c.ahead-shown.result.now c.ahead.result.now c.pass_ahead-passed.new.reader.left.now first c.ahead.ensures.all (c.pass_ahead-passed.ensures.moves c.requires.0 c.requires.1))
     (of_shown (λ (x y : List ℕ). IfErr c.pass_ahead-passed.result (FailsAhead c.args.profile c.requires.0 (Some x) (Some y)))
     c.new-bytes.result.left.now c.ahead-shown.result.now c.ahead.result.now c.pass_ahead-passed.new.reader.left.now first c.ahead.ensures.all (c.pass_ahead-passed.ensures.cause c.requires.0 c.requires.1))
@@ -24,17 +24,17 @@ overflow_sub-size g c =
 pub returns-clause-moves : goal.returns-clause-moves
 returns-clause-moves g c = λ taken p.
     let first = ap (λ (d : Device). d.bytes) c.new-bytes.ensures in
-    shown_passes c.args.profile taken c.ahead-shown.result.now c.ahead.result.now (g.K.Keeper.kept c.args.keeper.now) (g.K.Keeper.kept c.pass_ahead-passed.new.keeper) c.pass_ahead-passed.new.framer c.pass_ahead-passed.new.tables
+    shown_passes c.args.profile taken c.ahead-shown.result.now c.ahead.result.now (g.K.Keeper.kept c.args.keeper.now) (g.K.Keeper.kept c.pass_ahead-passed.new.keeper) c.pass_ahead-passed.new.framer.held c.pass_ahead-passed.new.tables
     (g.S.Source.seen c.args.reader.now).bytes (g.S.Source.seen c.consume.new.self).bytes c.ahead-shown.ensures.front
     (subst (λ (x : List ℕ). Consumes (g.S.Source.seen c.args.reader.now).bytes (g.S.Source.seen c.consume.new.self).bytes (take (length c.ahead-shown.result.now - length c.ahead.result.now) x)) (sym c.ahead-shown.ensures.all) c.consume.ensures.bytes)
     c.pass_ahead-passed.result
-    (of_shown (λ (x y : List ℕ). IfOk c.pass_ahead-passed.result (λ size. PassesAhead c.args.profile taken size (Some x) (Some y) (g.K.Keeper.kept c.args.keeper.now) (g.K.Keeper.kept c.pass_ahead-passed.new.keeper) c.pass_ahead-passed.new.framer c.pass_ahead-passed.new.tables))
+    (of_shown (λ (x y : List ℕ). IfOk c.pass_ahead-passed.result (λ size. PassesAhead c.args.profile taken size (Some x) (Some y) (g.K.Keeper.kept c.args.keeper.now) (g.K.Keeper.kept c.pass_ahead-passed.new.keeper) c.pass_ahead-passed.new.framer.held c.pass_ahead-passed.new.tables))
     c.new-bytes.result.left.now c.ahead-shown.result.now c.ahead.result.now c.pass_ahead-passed.new.reader.left.now first c.ahead.ensures.all (c.pass_ahead-passed.ensures.moves taken p))
 
 pub returns-clause-cause : goal.returns-clause-cause
 returns-clause-cause g c = λ taken p.
     let first = ap (λ (d : Device). d.bytes) c.new-bytes.ensures in
-    shown_fails c.args.profile taken c.ahead-shown.result.now c.ahead.result.now (g.K.Keeper.kept c.args.keeper.now) (g.K.Keeper.kept c.pass_ahead-passed.new.keeper) c.pass_ahead-passed.new.framer c.pass_ahead-passed.new.tables
+    shown_fails c.args.profile taken c.ahead-shown.result.now c.ahead.result.now (g.K.Keeper.kept c.args.keeper.now) (g.K.Keeper.kept c.pass_ahead-passed.new.keeper) c.pass_ahead-passed.new.framer.held c.pass_ahead-passed.new.tables
     (g.S.Source.seen c.args.reader.now).bytes (g.S.Source.seen c.consume.new.self).bytes c.ahead-shown.ensures.front
     (subst (λ (x : List ℕ). Consumes (g.S.Source.seen c.args.reader.now).bytes (g.S.Source.seen c.consume.new.self).bytes (take (length c.ahead-shown.result.now - length c.ahead.result.now) x)) (sym c.ahead-shown.ensures.all) c.consume.ensures.bytes)
     c.pass_ahead-passed.result

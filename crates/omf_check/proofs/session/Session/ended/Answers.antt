@@ -4,4 +4,4 @@ use Rattle.omf_check.proofs.session.Session.ended.Goals as goal
 pub returns-clause-is_open : goal.returns-clause-is_open
 returns-clause-is_open c =
     let s = c.self.inside in
-    rw (← c.self.view_is) (open_of s.profile s.framer s.bytes.items s.tables s.fault c.self.invariant)
+    rw (← c.self.view_is) (open_of s.profile s.framer.held s.bytes.items s.tables s.fault c.self.invariant)
