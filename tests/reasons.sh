@@ -35,6 +35,7 @@ awk -v work="$work" '
 # Whether a command names a tool that is not installed, what such a tool would have made, or files that are not part of the repository.
 lacks_tool() {
     grep -q 'nasm\|/tmp/\(lamp\|far\)\.obj' <<< "$1" && ! command -v nasm > /dev/null && return
+    grep -q 'parallel\|/tmp/exe-out\|/tmp/fields' <<< "$1" && ! command -v parallel > /dev/null && return
     grep -q 'omf-place' <<< "$1" && ! command -v omf-place > /dev/null && return
     grep -q 'omf-link\|examples/link/run\|examples/pair/run' <<< "$1" && ! command -v omf-link > /dev/null && return
     grep -q 'omf-dump' <<< "$1" && ! command -v omf-dump > /dev/null && return
