@@ -1,6 +1,6 @@
 #!/usr/bin/env python3
 """Whether what the documents name exists: the target of each relative link with its heading, each file of this repository that is named in
-code quotes or by its path, each crate, and each Rattle function that docs/LIBRARY.md quotes. Status 1 where one is missing.
+code quotes or by its path, each crate, and each Rattle function that docs/RATTLE.md quotes. Status 1 where one is missing.
 
 CHANGELOG.md, which names what was there at its time, and 'Planted once' in docs/PROOFS.md are read for their links alone."""
 import pathlib
@@ -72,7 +72,7 @@ def main():
     pages = [ROOT / "README.md", ROOT / "CONTRIBUTING.md", ROOT / "CHANGELOG.md", *sorted((ROOT / "docs").glob("*.md"))]
     for page in pages:
         text = page.read_text(encoding="utf-8")
-        found = [*missing_links(page, text), *(missing_code(text) if page.name == "LIBRARY.md" else [])]
+        found = [*missing_links(page, text), *(missing_code(text) if page.name == "RATTLE.md" else [])]
         if page.name != "CHANGELOG.md":
             kept = re.sub(r"^## Planted once$.*?(?=^## |\Z)", "", text, flags=re.M | re.S)
             found += [*missing_files(kept), *(missing_crates(kept, own) if page.name != "CALLS.md" else [])]
