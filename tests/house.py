@@ -1,5 +1,5 @@
 #!/usr/bin/env python3
-"""Makes the tables of docs/ARCHITECTURE.md and docs/GATE.md from the sources.
+"""Makes the tables of docs/INDEX.md and docs/GATE.md from the sources.
 
 house.py --write   writes each table between its two marks in the page: `<!-- house.py: NAME -->` and `<!-- end -->`
 house.py --check   compares them: status 1 where one differs
@@ -28,7 +28,7 @@ UNTIED = []
 # Names of Inner files that compute nothing of a module: f of the value of a Result.
 GENERIC = ("map_ok",)
 KINDS = ["believed", "inner", "proofs", "code", "tests"]
-PAGES = {"layers": "ARCHITECTURE", "files": "ARCHITECTURE", "lines": "ARCHITECTURE", "cited": "ARCHITECTURE", "laws": "ARCHITECTURE", "inner": "ARCHITECTURE", "costs": "GATE"}
+PAGES = dict.fromkeys(("layers", "files", "lines", "cited", "laws", "inner"), "INDEX") | {"costs": "GATE"}
 
 
 def lines_of(path):
