@@ -13,7 +13,7 @@ use Rattle.omf_records.specs.Inner.Names.{thread_number}
 use Rattle.omf_records.specs.Values.{At, Rec, Contents, Names, Segment, Group, Externs, Communals, Plain, Iterated, Fixups, Subrecord, Thread, Fixup, thread_is_frame, thread_method}
 use Rattle.omf_frame.specs.Types.{is_local}
 use Rattle.omf_check.specs.Inner.Names.{frame_from, target_from}
-use Rattle.omf_check.specs.Tables.{names, groups, externals, item_count, items_in, subrecords, subrecords_in, data_in, defined_names, defined_segments, defined_groups, defined_externals}
+use Rattle.omf_check.specs.Tables.{names, segments, attributes, attributes_in, groups, externals, item_count, items_in, subrecords, subrecords_in, data_in, defined_names, defined_segments, defined_groups, defined_externals}
 use Rattle.omf_check.specs.Threads.{Setting, setting, setting_of, same, thread}
 use Rattle.omf_check.specs.Inner.Kept.{Kept, Tells, HasThreads, kept_frame, kept_target, set_thread, set_threads, no_threads, nothing_kept, with_contents, with_record, starts, last_kept}
 use Rattle.omf_check.specs.declared.threads.Threads.{Threads}
@@ -119,6 +119,7 @@ pub nothing_tells : Tells nothing_kept []
 nothing_tells = record {
   names = refl;
   segments = refl;
+  attributes = refl;
   groups = refl;
   externals = refl;
   locals = refl;
@@ -164,11 +165,27 @@ kept_segments : (kept : Kept) (at kind : ℕ) (c : Contents) → (with_contents 
 kept_segments kept at kind (Segment s) = refl
 kept_segments kept at kind _ = sym (append-nil kept.segments)
 
+kept_attributes : (kept : Kept) (at kind : ℕ) (c : Contents) → (with_contents kept at kind c).attributes ≡ kept.attributes ++ attributes_in c
+kept_attributes kept at kind (Segment s) = refl
+kept_attributes kept at kind _ = sym (append-nil kept.attributes)
+
+-- There is one attribute byte for each segment.
+as_many : (kind : ℕ) (c : Contents) → length (attributes_in c) ≡ length (defined_segments kind c)
+as_many kind (Segment s) = refl
+as_many kind (Plain d) = refl
+as_many kind _ = refl
+
+pub attribute_count : (rs : List Rec) → length (attributes rs) ≡ length (segments rs)
+attribute_count [] = refl
+attribute_count (r ∷ rs) =
+    length-append (attributes_in r.contents) (attributes rs) ∙ ap (λ n. n + length (attributes rs)) (as_many r.kind r.contents)
+    ∙ ap (λ n. length (defined_segments r.kind r.contents) + n) (attribute_count rs) ∙ sym (length-append (defined_segments r.kind r.contents) (segments rs))
+
 kept_items : (kept : Kept) (at kind : ℕ) (c : Contents) → (with_contents kept at kind c).items ≡ kept.items
 kept_items kept at kind (Names items) = refl
 kept_items kept at kind _ = refl
 
-last_end : {A : Type 0} (o : Option A) (xs : List A) (x : A) → last_or o (xs ++ x ∷ []) ≡ Some x
+pub last_end : {A : Type 0} (o : Option A) (xs : List A) (x : A) → last_or o (xs ++ x ∷ []) ≡ Some x
 last_end o [] x = refl
 last_end o (y ∷ xs) x = last_end (Some y) xs x
 
@@ -194,6 +211,7 @@ tells_more kept before at r h =
       names = length_more (with_record kept at r).names (names before) (defined_names r.contents) (length kept.names) (names (before ++ r ∷ []))
           (kept_names now at r.kind r.contents) h.names (flat_more (λ x. defined_names x.contents) before r);
       segments = kept_segments now at r.kind r.contents ∙ ap (λ t. t ++ defined_segments r.kind r.contents) h.segments ∙ sym (flat_more (λ x. defined_segments x.kind x.contents) before r);
+      attributes = kept_attributes now at r.kind r.contents ∙ ap (λ t. t ++ attributes_in r.contents) h.attributes ∙ sym (flat_more (λ x. attributes_in x.contents) before r);
       groups = length_more (with_record kept at r).groups (groups before) (defined_groups r.contents) (length kept.groups) (groups (before ++ r ∷ []))
           (kept_groups now at r.kind r.contents) h.groups (flat_more (λ x. defined_groups x.contents) before r);
       externals = length_more (with_record kept at r).externals (externals before) (defined_externals r.contents) (length kept.externals) (externals (before ++ r ∷ []))

@@ -1,13 +1,19 @@
 -- A record that is split off a checked module is known to be valid.
-use Rattle.std.proofs.Common.{◌≡◌, ◌≤◌, ℕ, List, length, inl, inr, refl, sym, ◌∙◌, ap, subst, Result, Ok}
-use Rattle.std.specs.Prelude.{is_ok, true, false, Bool, ◌==◌, not, IfNone, Option, Some, None}
-use Rattle.omf_frame.specs.Types.{is_local}
+use Rattle.std.proofs.Common.{◌≡◌, ℕ, List, inl, inr, refl, sym, ◌∙◌, ap, subst, Result, Ok}
+use Rattle.std.specs.Prelude.{is_ok, true, false, Bool, ◌==◌, not, if◌then◌else◌}
+use Rattle.omf_frame.specs.Bytes.{is_one_of}
+use Rattle.omf_frame.specs.Types.{is_local, ledata, width_of}
+use Rattle.omf_frame.specs.declared.kinds.Width.{Width}
+use Rattle.omf_frame.specs.declared.kinds.Width.TheVariants.{Bits16, Bits32}
 use Rattle.omf_frame.specs.Fault.{Fault}
 use Rattle.omf_frame.specs.Framing.{front_record, present}
 use Rattle.omf_records.specs.Inner.Reading.{typed, read_body}
 use Rattle.omf_records.specs.Inner.RecordReaders.{contents_whole}
+use Rattle.omf_records.specs.Inner.Seen.{odd_if}
 use Rattle.omf_records.specs.Records.{IsTyped}
 use Rattle.omf_records.specs.Values.{Rec, Contents, Comment, Segment, Externs, Publics, Communals, Plain, Iterated, Fixups, ModEnd}
+use Rattle.omf_check.specs.declared.contents.Publics.{Publics as CodePublics}
+use Rattle.omf_check.specs.Inner.Contents.{publics_seen}
 use Rattle.omf_check.specs.Inner.Known.{IsKnown, HasType, known, has_data, has_externals, has_publics, has_references, has_segment, holds_comment, holds_data, holds_externals, holds_publics, holds_references, holds_segment}
 use Rattle.omf_check.specs.Listed.{StartsWithRecord}
 use Rattle.omf_check.proofs.ListedLaws.{front_of, front_short, front_taken}
@@ -88,6 +94,20 @@ module _ (kind : ℕ) (body : List ℕ) (h : IsKnown kind body) (x : Rec) (e : k
 
   pub are-no-publics : (local : Bool) → has_publics local kind ≡ false → holds_publics local x.kind x.contents ≡ false
   are-no-publics local b = subst (λ (n : ℕ). holds_publics local n x.contents ≡ false) (ap (λ (r : Rec). r.kind) e) (no-publics kind local x.contents b typed-as)
+
+  -- an LEDATA from its contents
+  pub plain-seen : is_one_of ledata kind ≡ true → (c : Contents) → ◌≡◌ {A = Result Contents Fault} (Ok c) (read_body kind body) → (let r : Rec = record { kind = odd_if (width_of kind) 0xA0; contents = c } in r) ≡ x
+  plain-seen is c r = known-decoded kind body h (odd_if (width_of kind) 0xA0) c (one-same 0xA0 0xA1 kind (λ k. odd_if (width_of k) 0xA0 ≡ k) refl refl is) r ∙ e
+
+-- the publics of a PUBDEF are not local, those of an LPUBDEF are
+pub publics-local : (local : Bool) (p : CodePublics) (x : Rec) → publics_seen local p ≡ x → is_local x.kind ≡ local
+publics-local local p x e = sym (ap (λ (r : Rec). is_local r.kind) e) ∙ by local p.width
+  where
+    by : (local : Bool) (w : Width) → is_local (odd_if w (if local then 0xB6 else 0x90)) ≡ local
+    by true Bits16 = refl
+    by true Bits32 = refl
+    by false Bits16 = refl
+    by false Bits32 = refl
 
 -- the first record of a module's bytes
 module _ (bytes : List ℕ) (kind : ℕ) (body : List ℕ) (k : kind ≡ (front_record (present bytes)).kind) (b : body ≡ (front_record (present bytes)).body) where

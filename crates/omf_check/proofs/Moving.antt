@@ -1,6 +1,6 @@
 -- A session at its start, with more bytes of a record, and with a record accepted.
 use Rattle.std.proofs.Common.{◌≡◌, ℕ, suc, ◌+◌, ◌*◌, ◌^◌, ◌<◌, ◌≤◌, Bool, true, false, List, [], ◌∷◌, ◌++◌, refl, sym, ◌∙◌, ap, subst, arith, append_assoc, length, take, length-append, inl, inr}
-use Rattle.std.specs.Prelude.{All, flat_map, IsTrue, not, ◌==◌, cond, None, slice_index, is_none, ◌&&◌, sum_by, max}
+use Rattle.std.specs.Prelude.{All, flat_map, IsTrue, not, ◌==◌, cond, Option, None, Some, slice_index, is_none, ◌&&◌, sum_by, max}
 use Rattle.std.proofs.lemmas.List.{append-nil, map-append}
 use Rattle.std.proofs.lemmas.List.Sums.{sum_by-append}
 use Rattle.omf_frame.specs.Bytes.{AreBytes}
@@ -12,7 +12,7 @@ use Rattle.omf_frame.specs.Framer.{Held, at_start, passed, stands}
 use Rattle.omf_frame.specs.Framer.{next_bytes as next_of, Takes as FramerTakes}
 use Rattle.omf_frame.proofs.StepLaws.{least_none, clean_steps}
 use Rattle.omf_records.specs.Inner.Reading.{typed}
-use Rattle.omf_records.specs.Values.{Contents, Fixups, Names}
+use Rattle.omf_records.specs.Values.{Contents, Fixups, Names, Rec}
 use Rattle.omf_image.specs.Limits.{profile_limits}
 use Rattle.omf_check.specs.Inner.Names.{steps, place_after, is_empty}
 use Rattle.omf_check.specs.declared.profile.Profile.{Profile}
@@ -44,6 +44,9 @@ nowhere : (earlier later : List Raw) (r : Raw) → [] ≡ earlier ++ r ∷ later
 nowhere [] later r e = cc
 nowhere (x ∷ earlier) later r e = cc
 
+no_last : (r : Rec) → ◌≡◌ {A = Option Rec} None (Some r) → ⊥
+no_last r e = cc
+
 pub started : (profile : Profile) → IsPassing profile at_start [] nothing_kept
 started profile = record {
   before = [];
@@ -59,7 +62,7 @@ started profile = record {
   running = λ e. all_none (λ r. IsTrue (not (is_end r.kind)));
   at_end = λ e. absurd (clash (sym e));
   tells = nothing_tells;
-  points = record { names = tt; groups = tt; externals = tt };
+  points = record { names = tt; groups = tt; externals = tt; end = λ r l is. absurd (no_last r l) };
   short = omega arith;
   bounded = record { names = omega arith; segments = omega arith; groups = omega arith; externals = omega arith; items = omega arith };
 }

@@ -6,10 +6,10 @@ use Rattle.std.proofs.Math.Seq.{drop-append_seam}
 use Rattle.omf_frame.proofs.FramingLaws.{present_raw, front_raw}
 use Rattle.omf_frame.specs.Framing.{raw_bytes, front_record, present}
 use Rattle.omf_records.specs.Inner.Reading.{typed}
-use Rattle.omf_records.specs.Values.{Group, GroupItem}
+use Rattle.omf_records.specs.Values.{Group, GroupItem, Rec}
 use Rattle.omf_frame.specs.Fields.{IsName, IsSpelledAt}
 use Rattle.omf_frame.specs.Inner.FieldLaws.{name_free}
-use Rattle.omf_check.specs.Inner.Points.{NameAt, HasName, GroupAt, AllAt, IsItemAt}
+use Rattle.omf_check.specs.Inner.Points.{NameAt, HasName, GroupAt, RecordAt, AllAt, IsItemAt}
 use Rattle.omf_check.specs.Listed.{StartsWithRecord}
 use Rattle.omf_check.specs.Tables.{entry}
 use Rattle.omf_check.proofs.PointLaws.{item_at}
@@ -79,17 +79,24 @@ module _ (whole ps : List ℕ) (ns : List (List ℕ)) (i : ℕ) (h : AllAt (Name
   pub is_name : (found : Option (List ℕ)) → IsItemAt (NameAt bytes) place found → found ≡ entry ns i
   is_name found f = one_at bytes place found (entry ns i) f there
 
-group_behind : (bytes : List ℕ) (p : ℕ) (g : GroupItem) (h : GroupAt bytes p g) → drop p bytes ≡ raw_bytes h.one ++ h.rest
-group_behind bytes p g h = ap (λ k. drop k bytes) h.place ∙ ap (drop (length h.front)) h.spelled ∙ drop-append_seam h.front (raw_bytes h.one ++ h.rest)
+record_behind : (bytes : List ℕ) (p : ℕ) (r : Rec) (h : RecordAt bytes p r) → drop p bytes ≡ raw_bytes h.one ++ h.rest
+record_behind bytes p r h = ap (λ k. drop k bytes) h.place ∙ ap (drop (length h.front)) h.spelled ∙ drop-append_seam h.front (raw_bytes h.one ++ h.rest)
 
-pub group_starts : (bytes : List ℕ) (p : ℕ) (g : GroupItem) → GroupAt bytes p g → StartsWithRecord (drop p bytes)
-group_starts bytes p g h = record { first = h.one; rest = h.rest; spelled = group_behind bytes p g h; readable = h.readable }
+pub record_starts : (bytes : List ℕ) (p : ℕ) (r : Rec) → RecordAt bytes p r → StartsWithRecord (drop p bytes)
+record_starts bytes p r h = record { first = h.one; rest = h.rest; spelled = record_behind bytes p r h; readable = h.readable }
 
-pub group_low : (bytes : List ℕ) (p : ℕ) (g : GroupItem) → GroupAt bytes p g → p ≤ length bytes
-group_low bytes p g h = let e = h.place in let l = ap length h.spelled ∙ length-append h.front (raw_bytes h.one ++ h.rest) in omega (arith, e, l)
+pub record_low : (bytes : List ℕ) (p : ℕ) (r : Rec) → RecordAt bytes p r → p ≤ length bytes
+record_low bytes p r h = let e = h.place in let l = ap length h.spelled ∙ length-append h.front (raw_bytes h.one ++ h.rest) in omega (arith, e, l)
+
+pub record_is : (bytes : List ℕ) (p : ℕ) (r : Rec) → RecordAt bytes p r → typed (front_record (present (drop p bytes))) ≡ r
+record_is bytes p r h =
+    let small = h.readable.is_record.0 in
+    ap (λ x. typed (front_record (present x))) (record_behind bytes p r h) ∙ ap (λ x. typed (front_record x)) (present_raw h.one small h.rest)
+    ∙ ap typed (front_raw h.one small) ∙ h.is
+
+-- The record of a group is a record.
+pub record_of : (bytes : List ℕ) (p : ℕ) (g : GroupItem) (h : GroupAt bytes p g) → RecordAt bytes p (typed h.one)
+record_of bytes p g h = record { front = h.front; rest = h.rest; one = h.one; spelled = h.spelled; place = h.place; readable = h.readable; is = refl }
 
 pub group_is : (bytes : List ℕ) (p : ℕ) (g : GroupItem) → GroupAt bytes p g → (typed (front_record (present (drop p bytes)))).contents ≡ Group g
-group_is bytes p g h =
-    let small = h.readable.is_record.0 in
-    ap (λ x. (typed (front_record (present x))).contents) (group_behind bytes p g h) ∙ ap (λ x. (typed (front_record x)).contents) (present_raw h.one small h.rest)
-    ∙ ap (λ x. (typed x).contents) (front_raw h.one small) ∙ h.is
+group_is bytes p g h = ap (λ r. r.contents) (record_is bytes p (typed h.one) (record_of bytes p g h)) ∙ h.is

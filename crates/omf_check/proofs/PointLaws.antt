@@ -1,19 +1,21 @@
 -- The offsets kept for names are right.
-use Rattle.std.proofs.Common.{◌≡◌, ℕ, zero, suc, ◌+◌, ◌/◌, ◌%◌, ◌<◌, List, [], ◌∷◌, ◌++◌, refl, sym, ◌∙◌, ap, subst, arith, append_assoc, length, map, length-append}
-use Rattle.std.specs.Prelude.{⊤, slice_get}
+use Rattle.std.proofs.Common.{◌≡◌, ℕ, zero, suc, ◌+◌, ◌/◌, ◌%◌, ◌<◌, List, [], ◌∷◌, ◌++◌, refl, sym, ◌∙◌, ap, subst, arith, append_assoc, length, map, length-append, true}
+use Rattle.std.specs.Prelude.{⊤, Option, Some, None, slice_get}
 use Rattle.std.proofs.lemmas.List.{append-nil}
+use Rattle.omf_frame.specs.Bytes.{last}
 use Rattle.omf_frame.specs.Framing.{Raw, raw_bytes}
 use Rattle.omf_records.specs.Entries.{external, communal}
 use Rattle.omf_records.specs.Layout.{Layout, SpellsEach, name}
 use Rattle.omf_records.specs.Inner.Reading.{typed}
-use Rattle.omf_records.specs.Values.{At, Rec, Contents, Header, Names, Group, GroupItem, Externs, Communals}
+use Rattle.omf_records.specs.Values.{At, Rec, Contents, Header, Names, Group, GroupItem, Externs, Communals, Plain, ModEnd}
 use Rattle.omf_records.proofs.LaidOut.{IsLaidOut, laid-out}
 use Rattle.omf_check.specs.Inner.Kept.{Kept, with_record, with_contents, starts}
-use Rattle.omf_check.specs.Inner.Points.{NameAt, GroupAt, AllAt, IsItemAt, PointsTo}
+use Rattle.omf_check.specs.Inner.Points.{NameAt, GroupAt, RecordAt, AllAt, IsItemAt, PointsTo}
 use Rattle.omf_check.specs.Listed.{IsReadable}
+use Rattle.omf_check.specs.Sound.{is_module_end}
 use Rattle.omf_check.specs.Tables.{defined_names, defined_groups, defined_externals, items_in}
 use Rattle.omf_check.specs.Tables.{names as all_names, groups as all_groups, externals as all_externals}
-use Rattle.omf_check.proofs.KeptLaws.{flat_more}
+use Rattle.omf_check.proofs.KeptLaws.{flat_more, last_end}
 
 -- Places of items: weakened, concatenated, and looked up.
 all_by : {A : Type 0} (P Q : ℕ → A → Type 0) → ((p : ℕ) (x : A) → P p x → Q p x) → (ps : List ℕ) (xs : List A) → AllAt P ps xs → AllAt Q ps xs
@@ -56,11 +58,23 @@ group_more bytes more p g h = record {
   is = h.is;
 }
 
+record_more : (bytes more : List ℕ) (p : ℕ) (r : Rec) → RecordAt bytes p r → RecordAt (bytes ++ more) p r
+record_more bytes more p r h = record {
+  front = h.front;
+  rest = h.rest ++ more;
+  one = h.one;
+  spelled = ap (λ x. x ++ more) h.spelled ∙ append_assoc h.front (raw_bytes h.one ++ h.rest) more ∙ ap (λ x. h.front ++ x) (append_assoc (raw_bytes h.one) h.rest more);
+  place = h.place;
+  readable = h.readable;
+  is = h.is;
+}
+
 pub points_more : (bytes more : List ℕ) (kept : Kept) (before : List Rec) → PointsTo bytes kept before → PointsTo (bytes ++ more) kept before
 points_more bytes more kept before h = record {
   names = all_by (NameAt bytes) (NameAt (bytes ++ more)) (name_more bytes more) kept.names (all_names before) h.names;
   groups = all_by (GroupAt bytes) (GroupAt (bytes ++ more)) (group_more bytes more) kept.groups (all_groups before) h.groups;
   externals = all_by (NameAt bytes) (NameAt (bytes ++ more)) (name_more bytes more) kept.externals (all_externals before) h.externals;
+  end = λ r l is. record_more bytes more kept.end r (h.end r l is);
 }
 
 -- Items of contents that begin with a name, in their record.
@@ -180,6 +194,22 @@ module _ (before : List ℕ) (r : Raw) (start : ℕ) (e : start ≡ length befor
   by_groups kept kind (Header n) old h s k = subst (λ x. AllAt (GroupAt whole) kept.groups x) (sym (append-nil old)) k
   by_groups kept kind _ old h s k = subst (λ x. AllAt (GroupAt whole) kept.groups x) (sym (append-nil old)) k
 
+  by_end : (kept : Kept) (kind : ℕ) (c : Contents) → is_module_end c ≡ true → (with_contents kept start kind c).end ≡ start
+  by_end kept kind (ModEnd t s) is = refl
+  by_end kept kind (Plain d) is = absurd cc
+  by_end kept kind _ is = absurd cc
+
+  at_end : (kept : Kept) (recs : List Rec) (x : Rec) → IsReadable r → last (recs ++ typed r ∷ []) ≡ Some x → is_module_end x.contents ≡ true → RecordAt whole (with_record kept start (typed r)).end x
+  at_end kept recs x readable l is =
+      let same : typed r ≡ x = some_same (typed r) x (sym (last_end None recs (typed r)) ∙ l) in
+      let c : Contents = (typed r).contents in
+      let there : (with_record kept start (typed r)).end ≡ start = by_end (record kept { items = kept.items + items_in c }) r.kind c (subst (λ y. is_module_end y.contents ≡ true) (sym same) is) in
+      subst (λ p. RecordAt whole p x) (sym there)
+      (record { front = before; rest = []; one = r; spelled = ap (λ y. before ++ y) (sym (append-nil (raw_bytes r))); place = e; readable = readable; is = same })
+    where
+      some_same : (x y : Rec) → ◌≡◌ {A = Option Rec} (Some x) (Some y) → x ≡ y
+      some_same x y h = cc
+
   pub points_on : (kept : Kept) (recs : List Rec) → IsReadable r → PointsTo before kept recs → PointsTo (before ++ raw_bytes r) (with_record kept start (typed r)) (recs ++ typed r ∷ [])
   points_on kept recs is h =
       let c : Contents = (typed r).contents in
@@ -192,4 +222,5 @@ module _ (before : List ℕ) (r : Raw) (start : ℕ) (e : start ≡ length befor
             (by_groups (record kept { items = kept.items + items_in c }) r.kind c (all_groups recs) is refl more.groups);
         externals = subst (λ x. AllAt (NameAt whole) (with_record kept start (typed r)).externals x) (sym (flat_more (λ x. defined_externals x.contents) recs (typed r)))
             (by_externals (record kept { items = kept.items + items_in c }) r.kind c (all_externals recs) named more.externals);
+        end = λ x l m. at_end kept recs x is l m;
       }

@@ -1,5 +1,6 @@
 pub mod Ahead
 pub mod Cells
+pub mod Contents
 pub mod Judging
 pub mod Kept
 pub mod Parts

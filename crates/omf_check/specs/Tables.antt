@@ -21,6 +21,10 @@ abbrev pub defined_segments : ℕ → Contents → List SegInfo
 defined_segments kind (Segment s) = (record { length = segment_length kind s; absolute = s.absolute; name = s.name.item; class = s.class.item }) ∷ []
 defined_segments kind _ = []
 
+abbrev pub attributes_in : Contents → List ℕ
+attributes_in (Segment s) = s.attribute ∷ []
+attributes_in _ = []
+
 abbrev pub defined_groups : Contents → List GroupItem
 defined_groups (Group g) = g ∷ []
 defined_groups _ = []
@@ -36,6 +40,10 @@ names rs = flat_map (λ r. defined_names r.contents) rs
 
 abbrev pub segments : List Rec → List SegInfo
 segments rs = flat_map (λ r. defined_segments r.kind r.contents) rs
+
+-- The attribute byte of each segment.
+abbrev pub attributes : List Rec → List ℕ
+attributes rs = flat_map (λ r. attributes_in r.contents) rs
 
 abbrev pub groups : List Rec → List GroupItem
 groups rs = flat_map (λ r. defined_groups r.contents) rs

@@ -7,16 +7,16 @@ ghost use Rattle.omf_check.specs.Module.{recs_of, records_in};
 ghost use Rattle.omf_check.specs.Inner.Parts.{IsChecked};
 ghost use Rattle.omf_check.specs.Listed.{placed_from};
 ghost use Rattle.omf_check.specs.Sound.{ModuleHolds};
-ghost use Rattle.omf_check.specs.Inner.Points.{NameAt, HasName, HasGroup, IsItemAt};
+ghost use Rattle.omf_check.specs.Inner.Points.{NameAt, HasName, HasRecord, IsItemAt};
 ghost use Rattle.omf_frame.specs.Framing.{front_record, present};
 ghost use Rattle.omf_records.specs.Inner.Reading.{typed};
 ghost use Rattle.omf_records.specs.Inner.Seen.{contents_seen, rec_seen};
 ghost use Rattle.omf_records.specs.Values.{Group};
-ghost use Rattle.omf_check.specs.Tables.{names, segments, groups, externals, locals, entry};
+ghost use Rattle.omf_check.specs.Tables.{attributes, names, segments, groups, externals, locals, entry};
 ghost use Rattle.omf_check.specs.WellFormed.{IsWellFormed};
 
 use crate::profile::Profile;
-use crate::records::{Records, first_record, last_record};
+use crate::records::{Records, first_record};
 use crate::segment::SegInfo;
 use crate::table::Tables;
 use crate::undecoded::UndecodedRecords;
@@ -67,9 +67,9 @@ fn name_if(bytes: &[u8], place: Option<u64>) -> Option<Name<'_>>
     }
 }
 
-/// The GRPDEF at an offset of the module.
-fn group_at(bytes: &[u8], place: u64) -> Rec<'_>
-    requires { HasGroup bytes.now place }
+/// The record at an offset of the module.
+fn record_at(bytes: &[u8], place: u64) -> Rec<'_>
+    requires { HasRecord bytes.now place }
     ensures { rec_seen result ≡ typed (front_record (present (drop place bytes.now))) }
 {
     let (_front, behind) = bytes.split_at(place as usize);
@@ -144,6 +144,13 @@ impl Checked {
         self.tables.segment(i)
     }
 
+    /// The attribute byte (ACBP) of the segment with index `i`, from 1; `None` outside the table.
+    pub fn attribute(&self, i: u16) -> Option<u8>
+        ensures { result ≡ entry (attributes (recs_of self.now.bytes)) i }
+    {
+        self.tables.attribute(i)
+    }
+
     /// The number of records.
     pub fn record_count(&self) -> u32
         ensures { result ≡ length (records_in self.now.bytes) }
@@ -168,12 +175,12 @@ impl Checked {
         UndecodedRecords::new(&self.bytes)
     }
 
-    /// Its last record, the MODEND. Records before it are skipped by their lengths.
+    /// Its last record, the MODEND. No other record is read.
     pub fn end(&self) -> Rec<'_>
         ensures last { Some (rec_seen result) ≡ last (recs_of self.now.bytes) }
         ensures holds { ModuleHolds profile_limits (recs_of self.now.bytes) }
     {
-        last_record(&self.bytes)
+        record_at(&self.bytes, self.tables.end_place())
     }
 
     /// The name with index `i`, from 1; `None` outside the table.
@@ -202,7 +209,7 @@ impl Checked {
         ensures { option_map contents_seen result ≡ option_map Group (entry (groups (recs_of self.now.bytes)) i) }
     {
         match self.tables.group_place(i) {
-            Some(place) => Some(group_at(&self.bytes, place)),
+            Some(place) => Some(record_at(&self.bytes, place)),
             None => None,
         }
     }

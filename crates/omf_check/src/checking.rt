@@ -36,6 +36,7 @@ pub fn check_with<S: Source>(
 {
     let mut bytes = Vec::new(alloc);
     let taken = take_module(alloc, framer, reader, &mut bytes, profile)?;
+    bytes.shrink_to_fit();
     finished(profile, framer, bytes, taken.tables)
 }
 

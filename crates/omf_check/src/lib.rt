@@ -19,6 +19,7 @@
 
 mod checked;
 mod checking;
+mod contents;
 pub mod edges;
 mod fault;
 mod judged;
@@ -40,6 +41,7 @@ mod undecoded;
 
 pub use checked::Checked;
 pub use checking::{check, check_with};
+pub use contents::{Comment, Data, Externals, Publics, References};
 pub use fault::CheckFault;
 pub use judged::Judged;
 pub use judging::judge;

@@ -1,12 +1,11 @@
 //! Iteration over the records of a checked module.
 
-ghost use Rattle.std.specs.Prelude.{◌≡◌, ◌<◌, Some, length};
-ghost use Rattle.omf_frame.specs.Bytes.{last};
+ghost use Rattle.std.specs.Prelude.{◌≡◌};
 ghost use Rattle.omf_frame.specs.Framing.{front_record, present, after_front};
 ghost use Rattle.omf_records.specs.Inner.Reading.{typed};
 ghost use Rattle.omf_records.specs.Inner.Seen.{rec_seen};
 ghost use Rattle.omf_check.specs.Listed.{StartsWithRecord, AreListed, placed_from};
-ghost use Rattle.omf_check.specs.Module.{recs_of, records_in};
+ghost use Rattle.omf_check.specs.Module.{records_in};
 
 use omf_frame::{Place, RawRecord};
 use omf_records::{Rec, view_known};
@@ -46,23 +45,6 @@ pub(crate) fn first_record<'a>(bytes: &'a [u8]) -> (Rec<'a>, &'a [u8])
 {
     let (raw, rest) = split_record(bytes);
     (view_known(raw), rest)
-}
-
-/// The last of the records in `bytes`. Records before it are skipped by their lengths.
-pub(crate) fn last_record<'a>(bytes: &'a [u8]) -> Rec<'a>
-    requires listed { AreListed bytes.now 0 0 }
-    requires filled { 0 < length bytes.now }
-    ensures { Some (rec_seen result) ≡ last (recs_of bytes.entry.now) }
-{
-    let mut left = bytes;
-    loop {
-        let (_front, rest) = split_record(left);
-        if rest.is_empty() {
-            let (rec, _rest) = first_record(left);
-            return rec;
-        }
-        left = rest;
-    }
 }
 
 /// Iterator over the remaining records of a module, each with its place; `within` is 0.

@@ -60,8 +60,6 @@ pub(crate) fn finished(
         return Err(framing_fault(fault));
     }
     let count = framer.number();
-    let mut bytes = bytes;
-    bytes.shrink_to_fit();
     Ok(Checked::new(profile, bytes, tables, count))
 }
 
@@ -145,7 +143,7 @@ impl Session {
         }
     }
 
-    /// Ends the input, and returns the module if its MODEND has been checked.
+    /// Ends the input, and returns the module if its MODEND has been checked. Takes no memory.
     ///
     /// # Errors
     ///

@@ -27,12 +27,16 @@ pub struct Tables {
     /// The offset of each name in the module.
     names: Vec<u64>,
     segments: Vec<SegInfo>,
+    /// The attribute byte of each segment.
+    attributes: Vec<u8>,
     /// The offset of each GRPDEF in the module.
     groups: Vec<u64>,
     /// The offset of each external name in the module.
     externals: Vec<u64>,
     /// Whether each external is local.
     locals: Vec<bool>,
+    /// The offset of the MODEND in the module; 0 before it.
+    end: u64,
     items: usize,
     last: Option<LastData>,
     threads: Threads,
@@ -43,7 +47,7 @@ impl Model for Tables {
 
     ghost Value = { Kept };
 
-    ghost view = { λ t. record { names = t.names.items; segments = t.segments.items; groups = t.groups.items; externals = t.externals.items; locals = t.locals.items; items = t.items; last = t.last; threads = t.threads } };
+    ghost view = { λ t. record { names = t.names.items; segments = t.segments.items; attributes = t.attributes.items; groups = t.groups.items; externals = t.externals.items; locals = t.locals.items; end = t.end; items = t.items; last = t.last; threads = t.threads } };
 }
 
 impl Tables {
@@ -54,9 +58,11 @@ impl Tables {
         Tables {
             names: Vec::new(alloc),
             segments: Vec::new(alloc),
+            attributes: Vec::new(alloc),
             groups: Vec::new(alloc),
             externals: Vec::new(alloc),
             locals: Vec::new(alloc),
+            end: 0,
             items: 0,
             last: None,
             threads: Threads::new(),

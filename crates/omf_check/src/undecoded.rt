@@ -3,9 +3,13 @@
 ghost use Rattle.std.specs.Prelude.{◌≡◌};
 ghost use Rattle.omf_check.specs.Inner.Known.{has_data, has_externals, has_publics, has_references, has_segment};
 
+use crate::contents::{
+    Comment, Data, Externals, Publics, References, comment_of, data_of, externals_of, publics_of,
+    references_of, segment_of,
+};
 use crate::records::split_record;
-use omf_frame::{Place, RawRecord};
-use omf_records::{Rec, view_known};
+use omf_frame::{Place, RawRecord, Width};
+use omf_records::{Rec, Segment, plain_data, view_known};
 use std::marker::Model;
 
 /// Whether this is the type of a SEGDEF.
@@ -71,8 +75,11 @@ impl<'a> Model for Undecoded<'a> {
 
 impl<'a> Undecoded<'a> {
     ghost use Rattle.std.specs.Prelude.{◌≡◌, IfNone, IfSome, false};
+    ghost use Rattle.omf_frame.specs.Types.{is_local};
+    ghost use Rattle.omf_check.specs.Inner.Contents.{comment_seen, data_seen, externals_local, externals_seen, publics_seen, references_seen};
     ghost use Rattle.omf_check.specs.Inner.Known.{holds_comment, holds_data, holds_externals, holds_publics, holds_references, holds_segment};
     ghost use Rattle.omf_records.specs.Inner.Seen.{rec_seen};
+    ghost use Rattle.omf_records.specs.Values.{Segment as SegmentContents};
 
     /// Its type byte.
     #[inline(always)]
@@ -90,79 +97,90 @@ impl<'a> Undecoded<'a> {
         view_known(self.raw)
     }
 
-    /// The record, if it is a COMENT. No other is decoded.
+    /// The contents, if it is a COMENT. No other record is decoded.
     #[inline(always)]
-    pub fn comment(&self) -> Option<Rec<'a>>
-        ensures some { IfSome result (λ r. rec_seen r ≡ self.now) }
+    pub fn comment(&self) -> Option<Comment<'a>>
+        ensures some { IfSome result (λ c. comment_seen c ≡ self.now) }
         ensures none { IfNone result (holds_comment self.now.contents ≡ false) }
     {
         if self.raw.kind == 0x88 {
-            Some(self.decoded())
+            comment_of(&self.decoded())
         } else {
             None
         }
     }
 
-    /// The record, if it is a SEGDEF. No other is decoded.
+    /// The segment that it defines, if it is a SEGDEF. No other record is decoded.
     #[inline(always)]
-    pub fn segment(&self) -> Option<Rec<'a>>
-        ensures some { IfSome result (λ r. rec_seen r ≡ self.now) }
+    pub fn segment(&self) -> Option<Segment>
+        ensures some { IfSome result (λ s. SegmentContents s ≡ self.now.contents) }
         ensures none { IfNone result (holds_segment self.now.contents ≡ false) }
     {
         if has_segment(self.raw.kind) {
-            Some(self.decoded())
+            segment_of(&self.decoded())
         } else {
             None
         }
     }
 
-    /// The record, if it is a PUBDEF; if `local` is set, if it is an LPUBDEF. No other is decoded.
+    /// The contents, if it is a PUBDEF; if `local` is set, if it is an LPUBDEF. No other record is decoded.
     #[inline(always)]
-    pub fn publics(&self, local: bool) -> Option<Rec<'a>>
-        ensures some { IfSome result (λ r. rec_seen r ≡ self.now) }
+    pub fn publics(&self, local: bool) -> Option<Publics<'a>>
+        ensures some { IfSome result (λ p. publics_seen local p ≡ self.now) }
+        ensures only { IfSome result (λ p. is_local self.now.kind ≡ local) }
         ensures none { IfNone result (holds_publics local self.now.kind self.now.contents ≡ false) }
     {
         if has_publics(local, self.raw.kind) {
-            Some(self.decoded())
+            publics_of(local, &self.decoded())
         } else {
             None
         }
     }
 
-    /// The record, if it is an EXTDEF, a LEXTDEF, a COMDEF or an LCOMDEF. No other is decoded.
+    /// The external names, if it is an EXTDEF, a LEXTDEF, a COMDEF or an LCOMDEF. No other record is decoded.
     #[inline(always)]
-    pub fn externals(&self) -> Option<Rec<'a>>
-        ensures some { IfSome result (λ r. rec_seen r ≡ self.now) }
+    pub fn externals(&self) -> Option<Externals<'a>>
+        ensures some { IfSome result (λ e. externals_seen e ≡ self.now.contents) }
+        ensures local { IfSome result (λ e. externals_local e ≡ is_local self.now.kind) }
         ensures none { IfNone result (holds_externals self.now.contents ≡ false) }
     {
         if has_externals(self.raw.kind) {
-            Some(self.decoded())
+            externals_of(&self.decoded())
         } else {
             None
         }
     }
 
-    /// The record, if it is a FIXUPP or a MODEND. No other is decoded.
+    /// The contents, if it is a FIXUPP or a MODEND. No other record is decoded.
     #[inline(always)]
-    pub fn references(&self) -> Option<Rec<'a>>
-        ensures some { IfSome result (λ r. rec_seen r ≡ self.now) }
+    pub fn references(&self) -> Option<References<'a>>
+        ensures some { IfSome result (λ r. references_seen r ≡ self.now) }
         ensures none { IfNone result (holds_references self.now.contents ≡ false) }
     {
         if has_references(self.raw.kind) {
-            Some(self.decoded())
+            references_of(&self.decoded())
         } else {
             None
         }
     }
 
-    /// The record, if it is an LEDATA or an LIDATA. No other is decoded.
+    /// The contents, if it is an LEDATA or an LIDATA. No other record is decoded.
     #[inline(always)]
-    pub fn data(&self) -> Option<Rec<'a>>
-        ensures some { IfSome result (λ r. rec_seen r ≡ self.now) }
+    pub fn data(&self) -> Option<Data<'a>>
+        ensures some { IfSome result (λ d. data_seen d ≡ self.now) }
         ensures none { IfNone result (holds_data self.now.contents ≡ false) }
     {
+        // An LEDATA is frequent: it is decoded without a `Rec`.
+        if let Some(Ok(plain)) = plain_data(&self.raw) {
+            return Some(Data::Plain {
+                width: Width::of(self.raw.kind),
+                segment: plain.segment,
+                offset: plain.offset,
+                bytes: plain.bytes,
+            });
+        }
         if has_data(self.raw.kind) {
-            Some(self.decoded())
+            data_of(&self.decoded())
         } else {
             None
         }

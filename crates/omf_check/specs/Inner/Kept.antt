@@ -2,9 +2,9 @@
 use Rattle.std.specs.Prelude.{◌≡◌, ◌<◌, ◌≤◌, ℕ, ◌+◌, List, [], ◌∷◌, ◌++◌, length, map, get_or, set, Bool, true, false, Option, Some, None, option_map, if◌then◌else◌}
 use Rattle.omf_frame.specs.Types.{is_local}
 use Rattle.omf_records.specs.Inner.Names.{thread_number}
-use Rattle.omf_records.specs.Values.{At, Rec, Contents, Names, Segment, Group, Externs, Communals, Plain, Iterated, Fixups, Subrecord, Thread, Fixup, thread_is_frame, thread_method}
+use Rattle.omf_records.specs.Values.{At, Rec, Contents, Names, Segment, Group, Externs, Communals, Plain, Iterated, Fixups, ModEnd, Subrecord, Thread, Fixup, thread_is_frame, thread_method}
 use Rattle.omf_check.specs.Inner.Names.{segment_info, frame_from, target_from}
-use Rattle.omf_check.specs.Tables.{names, segments, groups, externals, locals, item_count, items_in, subrecords, last_data}
+use Rattle.omf_check.specs.Tables.{names, segments, attributes, groups, externals, locals, item_count, items_in, subrecords, last_data}
 use Rattle.omf_check.specs.Threads.{FrameMethod, TargetMethod, setting, thread}
 use Rattle.omf_check.specs.declared.segment.SegInfo.{SegInfo}
 use Rattle.omf_check.specs.declared.last_data.LastData.{LastData}
@@ -33,20 +33,22 @@ abbrev pub set_threads : Threads → List (At Subrecord) → Threads
 set_threads threads [] = threads
 set_threads threads (s ∷ subs) = set_threads (set_thread threads s.item) subs
 
--- the offsets of the names, GRPDEF records and external names in the module; whether each external is local; the segments; the number
--- of items; the last data record; the threads
+-- the offsets of the names, GRPDEF records and external names in the module; whether each external is local; the segments, and the
+-- attribute byte of each; the offset of the MODEND, or 0 before it; the number of items; the last data record; the threads
 pub record Kept : Type 0 where
   pub names : List ℕ
   pub segments : List SegInfo
+  pub attributes : List ℕ
   pub groups : List ℕ
   pub externals : List ℕ
   pub locals : List Bool
+  pub end : ℕ
   pub items : ℕ
   pub last : Option LastData
   pub threads : Threads
 
 abbrev pub nothing_kept : Kept
-nothing_kept = record { names = []; segments = []; groups = []; externals = []; locals = []; items = 0; last = None; threads = no_threads }
+nothing_kept = record { names = []; segments = []; attributes = []; groups = []; externals = []; locals = []; end = 0; items = 0; last = None; threads = no_threads }
 
 -- the offsets of items whose record starts at offset `at` of the module
 abbrev pub starts : {A : Type 0} → ℕ → List (At A) → List ℕ
@@ -58,13 +60,14 @@ alike b items = map (λ a. b) items
 
 abbrev pub with_contents : Kept → ℕ → ℕ → Contents → Kept
 with_contents kept at kind (Names items) = record kept { names = kept.names ++ starts at items }
-with_contents kept at kind (Segment s) = record kept { segments = kept.segments ++ segment_info kind s ∷ [] }
+with_contents kept at kind (Segment s) = record kept { segments = kept.segments ++ segment_info kind s ∷ []; attributes = kept.attributes ++ s.attribute ∷ [] }
 with_contents kept at kind (Group g) = record kept { groups = kept.groups ++ at ∷ [] }
 with_contents kept at kind (Externs items) = record kept { externals = kept.externals ++ starts at items; locals = kept.locals ++ alike (is_local kind) items }
 with_contents kept at kind (Communals items) = record kept { externals = kept.externals ++ starts at items; locals = kept.locals ++ alike (is_local kind) items }
 with_contents kept at kind (Plain d) = record kept { last = Some (last.Plain (length d.bytes)) }
 with_contents kept at kind (Iterated d) = record kept { last = Some last.Iterated }
 with_contents kept at kind (Fixups subs) = record kept { threads = set_threads kept.threads subs }
+with_contents kept at kind (ModEnd t s) = record kept { end = at }
 with_contents kept at kind _ = kept
 
 abbrev pub with_record : Kept → ℕ → Rec → Kept
@@ -86,6 +89,7 @@ pub record HasThreads (threads : Threads) (subs : List Subrecord) : Type 0 where
 pub record Tells (kept : Kept) (before : List Rec) : Type 0 where
   pub names : length kept.names ≡ length (names before)
   pub segments : kept.segments ≡ segments before
+  pub attributes : kept.attributes ≡ attributes before
   pub groups : length kept.groups ≡ length (groups before)
   pub externals : length kept.externals ≡ length (externals before)
   pub locals : kept.locals ≡ locals before

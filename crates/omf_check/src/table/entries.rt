@@ -53,6 +53,20 @@ impl Tables {
         entry_of(&self.segments, usize::from(i))
     }
 
+    /// The attribute byte of the segment with index `i`, from 1.
+    pub fn attribute(&self, i: u16) -> Option<u8>
+        ensures { result ≡ entry self.now.attributes i }
+    {
+        entry_of(&self.attributes, usize::from(i))
+    }
+
+    /// The offset in the module of the MODEND; 0 before it.
+    pub fn end_place(&self) -> u64
+        ensures { result ≡ self.now.end }
+    {
+        self.end
+    }
+
     /// The offset in the module of the name with index `i`, from 1.
     pub fn name_place(&self, i: u16) -> Option<u64>
         ensures { result ≡ entry self.now.names i }

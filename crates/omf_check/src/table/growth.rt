@@ -105,7 +105,8 @@ impl Tables {
             Rec::Names(items) => add_starts(&mut self.names, at, items.iter()),
             Rec::LocalNames(items) => add_starts(&mut self.names, at, items.iter()),
             Rec::Segment { width, segment } => {
-                Ok(self.segments.push(segment_info(*width, segment))?)
+                self.segments.push(segment_info(*width, segment))?;
+                Ok(self.attributes.push(segment.attribute.byte())?)
             }
             Rec::Group { .. } => Ok(self.groups.push(at)?),
             Rec::Externs(items) => self.add_externals(at, false, items.iter()),
@@ -120,12 +121,15 @@ impl Tables {
                 self.last = Some(LastData::Iterated);
                 Ok(())
             }
+            Rec::ModEnd { .. } => {
+                self.end = at;
+                Ok(())
+            }
             Rec::Fixups { .. } => unreachable!(),
             Rec::Header { .. }
             | Rec::Comment { .. }
             | Rec::Publics { .. }
             | Rec::LocalPublics { .. }
-            | Rec::ModEnd { .. }
             | Rec::Carried { .. } => Ok(()),
         }
     }

@@ -1,4 +1,4 @@
-use Rattle.std.proofs.Common.{◌≡◌, refl, sym, subst, inr}
+use Rattle.std.proofs.Common.{refl, sym, subst, inr}
 use Rattle.omf_check.specs.Inner.Parts.{IsChecked}
 use Rattle.omf_check.proofs.SessionLaws.{stop_fault, stop_ok, checked_of, framing_not_read}
 use Rattle.omf_check.proofs.session.finished.Goals as goal
@@ -10,13 +10,12 @@ returns-in-Err c =
 
 pub new-requires : goal.new-requires
 new-requires c =
-    subst (λ bs. IsChecked c.args.profile bs c.args.tables c.number-count.result) (sym c.shrink_to_fit.ensures.items)
-    (subst (λ n. IsChecked c.args.profile c.args.bytes.items c.args.tables n) (sym c.number-count.ensures)
-    (checked_of c.args.profile c.args.framer.now.held c.args.bytes.items c.args.tables c.requires (stop_ok c.args.profile c.args.framer.now.held c.args.bytes.items c.args.tables c.requires (sym c.in_default.ensures))))
+    subst (λ n. IsChecked c.args.profile c.args.bytes.items c.args.tables n) (sym c.number-count.ensures)
+    (checked_of c.args.profile c.args.framer.now.held c.args.bytes.items c.args.tables c.requires (stop_ok c.args.profile c.args.framer.now.held c.args.bytes.items c.args.tables c.requires (sym c.in_default.ensures)))
 
 pub returns : goal.returns
 returns c = (
   refl,
   stop_ok c.args.profile c.args.framer.now.held c.args.bytes.items c.args.tables c.requires (sym c.in_default.ensures),
-  subst (λ bs. c.new.result ≡ record { bytes = bs; profile = c.args.profile }) c.shrink_to_fit.ensures.items c.new.ensures,
+  c.new.ensures,
 )
