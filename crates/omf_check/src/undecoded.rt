@@ -74,7 +74,7 @@ impl<'a> Model for Undecoded<'a> {
 }
 
 impl<'a> Undecoded<'a> {
-    ghost use Rattle.std.specs.Prelude.{◌≡◌, IfNone, IfSome, false};
+    ghost use Rattle.std.specs.Prelude.{◌≡◌, IfNone, IfSome, false, true};
     ghost use Rattle.omf_frame.specs.Types.{is_local};
     ghost use Rattle.omf_check.specs.Inner.Contents.{comment_seen, data_seen, externals_local, externals_seen, publics_seen, references_seen};
     ghost use Rattle.omf_check.specs.Inner.Known.{holds_comment, holds_data, holds_externals, holds_publics, holds_references, holds_segment};
@@ -99,7 +99,7 @@ impl<'a> Undecoded<'a> {
 
     /// The contents, if it is a COMENT. No other record is decoded.
     #[inline(always)]
-    pub fn comment(&self) -> Option<Comment<'a>>
+    pub fn as_comment(&self) -> Option<Comment<'a>>
         ensures some { IfSome result (λ c. comment_seen c ≡ self.now) }
         ensures none { IfNone result (holds_comment self.now.contents ≡ false) }
     {
@@ -112,7 +112,7 @@ impl<'a> Undecoded<'a> {
 
     /// The segment that it defines, if it is a SEGDEF. No other record is decoded.
     #[inline(always)]
-    pub fn segment(&self) -> Option<Segment>
+    pub fn as_segment(&self) -> Option<Segment>
         ensures some { IfSome result (λ s. SegmentContents s ≡ self.now.contents) }
         ensures none { IfNone result (holds_segment self.now.contents ≡ false) }
     {
@@ -125,7 +125,7 @@ impl<'a> Undecoded<'a> {
 
     /// The contents, if it is a PUBDEF; if `local` is set, if it is an LPUBDEF. No other record is decoded.
     #[inline(always)]
-    pub fn publics(&self, local: bool) -> Option<Publics<'a>>
+    pub fn as_publics(&self, local: bool) -> Option<Publics<'a>>
         ensures some { IfSome result (λ p. publics_seen local p ≡ self.now) }
         ensures only { IfSome result (λ p. is_local self.now.kind ≡ local) }
         ensures none { IfNone result (holds_publics local self.now.kind self.now.contents ≡ false) }
@@ -139,7 +139,7 @@ impl<'a> Undecoded<'a> {
 
     /// The external names, if it is an EXTDEF, a LEXTDEF, a COMDEF or an LCOMDEF. No other record is decoded.
     #[inline(always)]
-    pub fn externals(&self) -> Option<Externals<'a>>
+    pub fn as_externals(&self) -> Option<Externals<'a>>
         ensures some { IfSome result (λ e. externals_seen e ≡ self.now.contents) }
         ensures local { IfSome result (λ e. externals_local e ≡ is_local self.now.kind) }
         ensures none { IfNone result (holds_externals self.now.contents ≡ false) }
@@ -153,7 +153,7 @@ impl<'a> Undecoded<'a> {
 
     /// The contents, if it is a FIXUPP or a MODEND. No other record is decoded.
     #[inline(always)]
-    pub fn references(&self) -> Option<References<'a>>
+    pub fn as_references(&self) -> Option<References<'a>>
         ensures some { IfSome result (λ r. references_seen r ≡ self.now) }
         ensures none { IfNone result (holds_references self.now.contents ≡ false) }
     {
@@ -166,7 +166,7 @@ impl<'a> Undecoded<'a> {
 
     /// The contents, if it is an LEDATA or an LIDATA. No other record is decoded.
     #[inline(always)]
-    pub fn data(&self) -> Option<Data<'a>>
+    pub fn as_data(&self) -> Option<Data<'a>>
         ensures some { IfSome result (λ d. data_seen d ≡ self.now) }
         ensures none { IfNone result (holds_data self.now.contents ≡ false) }
     {
@@ -181,6 +181,90 @@ impl<'a> Undecoded<'a> {
         }
         if has_data(self.raw.kind) {
             data_of(&self.decoded())
+        } else {
+            None
+        }
+    }
+
+    /// The record, if it is a COMENT. No other is decoded.
+    #[inline(always)]
+    pub fn comment(&self) -> Option<Rec<'a>>
+        ensures some { IfSome result (λ r. rec_seen r ≡ self.now) }
+        ensures only { IfSome result (λ r. holds_comment self.now.contents ≡ true) }
+        ensures none { IfNone result (holds_comment self.now.contents ≡ false) }
+    {
+        if self.raw.kind == 0x88 {
+            Some(self.decoded())
+        } else {
+            None
+        }
+    }
+
+    /// The record, if it is a SEGDEF. No other is decoded.
+    #[inline(always)]
+    pub fn segment(&self) -> Option<Rec<'a>>
+        ensures some { IfSome result (λ r. rec_seen r ≡ self.now) }
+        ensures only { IfSome result (λ r. holds_segment self.now.contents ≡ true) }
+        ensures none { IfNone result (holds_segment self.now.contents ≡ false) }
+    {
+        if has_segment(self.raw.kind) {
+            Some(self.decoded())
+        } else {
+            None
+        }
+    }
+
+    /// The record, if it is a PUBDEF; if `local` is set, if it is an LPUBDEF. No other is decoded.
+    #[inline(always)]
+    pub fn publics(&self, local: bool) -> Option<Rec<'a>>
+        ensures some { IfSome result (λ r. rec_seen r ≡ self.now) }
+        ensures only { IfSome result (λ r. holds_publics local self.now.kind self.now.contents ≡ true) }
+        ensures none { IfNone result (holds_publics local self.now.kind self.now.contents ≡ false) }
+    {
+        if has_publics(local, self.raw.kind) {
+            Some(self.decoded())
+        } else {
+            None
+        }
+    }
+
+    /// The record, if it is an EXTDEF, a LEXTDEF, a COMDEF or an LCOMDEF. No other is decoded.
+    #[inline(always)]
+    pub fn externals(&self) -> Option<Rec<'a>>
+        ensures some { IfSome result (λ r. rec_seen r ≡ self.now) }
+        ensures only { IfSome result (λ r. holds_externals self.now.contents ≡ true) }
+        ensures none { IfNone result (holds_externals self.now.contents ≡ false) }
+    {
+        if has_externals(self.raw.kind) {
+            Some(self.decoded())
+        } else {
+            None
+        }
+    }
+
+    /// The record, if it is a FIXUPP or a MODEND. No other is decoded.
+    #[inline(always)]
+    pub fn references(&self) -> Option<Rec<'a>>
+        ensures some { IfSome result (λ r. rec_seen r ≡ self.now) }
+        ensures only { IfSome result (λ r. holds_references self.now.contents ≡ true) }
+        ensures none { IfNone result (holds_references self.now.contents ≡ false) }
+    {
+        if has_references(self.raw.kind) {
+            Some(self.decoded())
+        } else {
+            None
+        }
+    }
+
+    /// The record, if it is an LEDATA or an LIDATA. No other is decoded.
+    #[inline(always)]
+    pub fn data(&self) -> Option<Rec<'a>>
+        ensures some { IfSome result (λ r. rec_seen r ≡ self.now) }
+        ensures only { IfSome result (λ r. holds_data self.now.contents ≡ true) }
+        ensures none { IfNone result (holds_data self.now.contents ≡ false) }
+    {
+        if has_data(self.raw.kind) {
+            Some(self.decoded())
         } else {
             None
         }
