@@ -1,6 +1,6 @@
 //! Output of canonical bytes.
 
-ghost use Rattle.std.specs.Prelude.{◌≡◌, ◌≤◌, IfOk, IfErr};
+ghost use Rattle.std.specs.Prelude.{◌≡◌, ◌+◌, ◌*◌, ◌≤◌, length, IfOk, IfErr};
 ghost use Rattle.omf_frame.specs.Device.{Writes};
 ghost use Rattle.omf_check.specs.Module.{recs_of};
 ghost use Rattle.omf_canon.specs.Canonical.{canonical};
@@ -22,6 +22,8 @@ pub fn canon_to<S: Sink>(alloc: Global, module: &Checked, writer: &mut S) -> Res
     ensures bytes { Writes (S.seen writer.old).bytes (S.seen writer.new).bytes result (canonical (recs_of «module».now.bytes)) }
     ensures cause { IfErr result (IsCanonFault (S.seen writer.old) (S.seen writer.new)) }
     ensures grows { (S.seen writer.old).failures ≤ (S.seen writer.new).failures }
+    // For each byte at most a thousand failures are passed over.
+    ensures bounded { (S.seen writer.new).failures ≤ (S.seen writer.old).failures + 1000 * length (canonical (recs_of «module».now.bytes)) }
     ensures unbroken { IfOk result (λ done. (S.seen writer.new).breaks ≡ (S.seen writer.old).breaks) }
 {
     let Ok(bytes) = canon(alloc, module) else {
