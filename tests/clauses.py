@@ -31,8 +31,28 @@ def title(function):
     return "::".join([function.crate, *function.module, *([function.owner] if function.owner else []), function.name])
 
 
+def head_of(lines, at):
+    """Whether the function that begins at a line has an `ensures`, whether it has a body after that, and where that begins."""
+    line, has_clauses = lines[at], False
+    while not (line.strip() in ("{", "{}") or line.endswith(";") or not has_clauses and line.endswith(("{", "{}"))):
+        at += 1
+        line = lines[at]
+        if line.strip().startswith("ensures "):
+            return True, not line.endswith(";"), at + 1
+        has_clauses = has_clauses or CLAUSE.match(line) is not None
+    return False, not line.endswith((";", "{}")), at + 1
+
+
+def body_of(lines, at, indent):
+    """The lines of a body, perhaps after more clauses, and where they end."""
+    end = at
+    while lines[end] not in (indent + "}", indent + "{}") and not (lines[end].strip().startswith("ensures ") and lines[end].endswith(";")):
+        end += 1
+    return [it for it in lines[at:end] if not CLAUSE.match(it)], end
+
+
 def functions_of(crate, path):
-    """The functions of a file, those of traits too."""
+    """The functions of a file but tests, those of traits too."""
     lines = path.read_text(encoding="utf-8").splitlines()
     module = [it for it in path.relative_to(CRATES / crate / "src").with_suffix("").parts if it not in ("lib", "main", "mod")]
     owner, trait, has_ghost, is_test, at = None, None, False, False, 0
@@ -41,30 +61,20 @@ def functions_of(crate, path):
         block, function = BLOCK.match(line), FUNCTION.match(line)
         if block:
             owner, trait = block[2] or block[3], (block[1] or "").split("<")[0].split("::")[-1] or None
-            inside = lines[at : next((it for it in range(at, len(lines)) if lines[it] == "}"), at)]
-            has_ghost = any(it.startswith("    ghost ") for it in inside)
+            has_ghost = any(it.startswith("    ghost ") for it in lines[at : lines.index("}", at) if "}" in lines[at:] else at])
         elif line == "}":
             owner, trait, has_ghost = None, None, False
         elif line.strip() == "#[test]":
             is_test = True
-        at += 1
         if not function:
-            continue
-        head, has_clauses, has_ensures = line, False, False
-        while not (has_ensures or head.strip() in ("{", "{}") or head.endswith(";") or not has_clauses and head.endswith(("{", "{}"))):
-            head = lines[at]
             at += 1
-            has_clauses = has_clauses or CLAUSE.match(head) is not None
-            has_ensures = head.strip().startswith("ensures ")
-        body = []
-        if not head.endswith((";", "{}")):
-            ends = (function[1] + "}", function[1] + "{}")
-            while lines[at] not in ends and not (lines[at].strip().startswith("ensures ") and lines[at].endswith(";")):
-                body.append(lines[at])
-                at += 1
-        called = CALLED.findall("\n".join(it for it in body if not CLAUSE.match(it)))
-        calls = {name for names in called for name in names if name}
-        yield is_test, Function(crate, module, owner, trait, function[3], function[2] == "pub " or bool(trait), has_ensures or bool(trait) and has_ghost, calls)
+            continue
+        has_ensures, has_body, at = head_of(lines, at)
+        body, at = body_of(lines, at, function[1]) if has_body else ([], at)
+        calls = {name for names in CALLED.findall("\n".join(body)) for name in names if name}
+        if not is_test:
+            is_public, is_promised = function[2] == "pub " or bool(trait), has_ensures or bool(trait) and has_ghost
+            yield Function(crate, module, owner, trait, function[3], is_public, is_promised, calls)
         is_test = False
 
 
@@ -74,17 +84,17 @@ def functions():
     for crate in crates():
         for path in sorted((CRATES / crate / "src").rglob("*.rt")):
             if not is_for_tests(crate) and "tests" not in path.relative_to(CRATES).parts and path.stem not in ("tests", "rows", "edges"):
-                found += [it for is_test, it in functions_of(crate, path) if not is_test]
+                found += functions_of(crate, path)
     promised = {(it.owner, it.name) for it in found if it.has_clause and it.owner}
     return [it._replace(has_clause=it.has_clause or (it.trait, it.name) in promised) for it in found]
 
 
 def reached(found):
-    """The functions that a `main` reaches."""
+    """The functions that a `main` reaches, and those that methods of traits reach, which a crate below may call."""
     by_name, uses = collections.defaultdict(list), needs()
     for function in found:
         by_name[function.name].append(function)
-    left = [it for it in by_name["main"] if it.owner is None]
+    left = [it for it in found if it.trait or it.name == "main"]
     seen = {id(it) for it in left}
     while left:
         function = left.pop()
