@@ -4,16 +4,18 @@
 #                       it in build/unproved/
 # make draft FILE=x.obj drafts a placement the same way; WORDS=--real, or WORDS="--base 7C00 --flat 1B", has the options
 # make look             the first example the same way
-# make library          proves and builds the library for C: build/libomf.a, build/libomf.so
+# make library          proves and builds the library for C: build/libomf.a, build/libomf.so; with UNPROVED=1 both are in build/unproved/,
+#                       built without proofs in some minutes
 # make try-c            tests the library for C (tests/c/run.sh) over examples/ and the folder MODULES
-# make page             proves and builds the programs, and makes the page from them: build/omf.html (docs/PAGE.md)
+# make page             proves and builds the programs, and makes the page from them: build/omf.html (docs/PAGE.md); with UNPROVED=1 it is
+#                       build/unproved/omf.html, from programs built without proofs in some minutes
 # make try-page         tries the page in headless Chromium (tests/page.sh) over examples/ and the folder MODULES
 # make install          builds the programs and the library, and installs them under PREFIX: bin/omf, bin/omf-place, bin/omf-link,
 #                       bin/omf-dump, bin/omf-lib, share/man/man1/omf.1, omf-place.1, omf-link.1, omf-dump.1 and omf-lib.1,
 #                       lib/libomf.a, lib/libomf.so,
 #                       include/omf.h, lib/pkgconfig/omf.pc; the Python package is installed by `pip install ./python`, which needs no network
-# make dist             packs the proved programs, their pages, the library, the page if it is built, and the last line of the log GATE
-#                       of `.ci/run` into build/omf-VERSION-x86_64-linux.tar.gz, the same bytes for the same files (dist/pack.sh)
+# make dist             packs the proved programs, their man pages, the library, the page, and the last line of the log GATE of `.ci/run`
+#                       into build/omf-VERSION-x86_64-linux.tar.gz, the same bytes for the same files (dist/pack.sh)
 # make vendor DEST=DIR  copies the crates CRATES (omf_check) and those below them, with their lines of crates.txt, into the repository DIR
 # make shown            runs the commands that the pages show with the installed programs, and compares what they print; OMF, OMF_PLACE,
 #                       OMF_LINK, OMF_DUMP, OMF_LIB and LIBOMF name others (tests/reasons.sh)
@@ -28,9 +30,13 @@ JOB ?= check
 WORDS ?=
 DEST ?=
 CRATES ?= omf_check
-export FILE PLACE
+UNPROVED ?=
+export FILE PLACE UNPROVED
 
-.PHONY: first look try draft build library try-c page try-page install dist vendor shown docs ci
+# Programs of `tests/unproved.sh` for a test of what was built without proofs.
+unproved_programs = OMF=$$(tests/unproved.sh omf) OMF_DUMP=$$(tests/unproved.sh omf_dump) OMF_PLACE=$$(tests/unproved.sh omf_place) OMF_LIB=$$(tests/unproved.sh omf_lib)
+
+.PHONY: first look try draft build library try-c page try-page proved install dist vendor shown docs ci
 
 first:
 	@cd crates/omf && cat ../../examples/first.omf ../../examples/first.place | rt run -- reloc
@@ -58,24 +64,41 @@ build:
 	@(cd crates/omf_lib && rt run -- list -) < examples/library/small.lib > /dev/null
 
 # The archive has the library and three functions of the kit that call malloc, realloc and free.
+ifeq ($(UNPROVED),1)
+library:
+	dist/unproved_library.sh
+else
 library:
 	cd crates/omf_c && rt lib
-	rm -rf build
+	rm -rf build/objects build/libomf.a build/libomf.so
 	mkdir -p build/objects
 	cd build/objects && ar x ../../crates/omf_c/out/libomf_c.a && ar x "$$(dirname "$$(rt doc)")/c/liblibc_c.a"
 	ar rcs build/libomf.a build/objects/*.o
 	$(CC) -shared -Wl,-soname,libomf.so -o build/libomf.so build/objects/*.o
+endif
 
 try-c: build library
 	LIBRARY=build/libomf.a OMF=crates/omf/out/omf OMF_DUMP=crates/omf_dump/out/omf_dump tests/c/run.sh $(MODULES)
 
+ifeq ($(UNPROVED),1)
+page:
+	page/build.sh
+
+try-page: page
+	PAGE=build/unproved/omf.html $(unproved_programs) tests/page.sh $(MODULES)
+else
 page: build
 	page/build.sh
 
 try-page: page
 	tests/page.sh $(MODULES)
+endif
 
-install: build library
+# What is installed or packed is proved.
+proved:
+	@test -z "$(UNPROVED)" || { echo "install and dist take proved programs: leave UNPROVED out"; exit 2; }
+
+install: proved build library
 	install -d $(DESTDIR)$(PREFIX)/bin $(DESTDIR)$(PREFIX)/share/man/man1 $(DESTDIR)$(PREFIX)/include $(DESTDIR)$(PREFIX)/lib/pkgconfig
 	install -m 755 crates/omf/out/omf $(DESTDIR)$(PREFIX)/bin/omf
 	install -m 755 crates/omf_place/out/omf_place $(DESTDIR)$(PREFIX)/bin/omf-place
@@ -92,7 +115,7 @@ install: build library
 	install -m 755 build/libomf.so $(DESTDIR)$(PREFIX)/lib/libomf.so
 	sed 's|@PREFIX@|$(PREFIX)|; s|@VERSION@|$(VERSION)|' include/omf.pc.in > $(DESTDIR)$(PREFIX)/lib/pkgconfig/omf.pc
 
-dist: build library
+dist: proved build library page
 	dist/pack.sh omf=crates/omf/out/omf omf-place=crates/omf_place/out/omf_place omf-link=crates/omf_link/out/omf_link omf-dump=crates/omf_dump/out/omf_dump omf-lib=crates/omf_lib/out/omf_lib
 
 vendor:

@@ -60,24 +60,6 @@ function lineStarts(text) {
   return starts.slice(0, many);
 }
 
-// The members of an OMF library: each module begins at a page, and ends with its MODEND. Not proved; each member is judged by omf check.
-function membersOf(bytes) {
-  const page = 3 + bytes[1] + 256 * bytes[2], members = [];
-  let at = page;
-  while (page > 3 && at < bytes.length && (bytes[at] === 0x80 || bytes[at] === 0x82)) {
-    const start = at;
-    while (at < bytes.length && bytes[at] !== 0x8A && bytes[at] !== 0x8B) {
-      const end = recordEnd(bytes, at);
-      if (end === bytes.length) break;
-      at = end;
-    }
-    const end = recordEnd(bytes, at);
-    members.push({ start, end, name: textOf(bytes.subarray(start + 4, Math.min(end, start + 4 + bytes[start + 3]))) });
-    at = Math.ceil(end / page) * page;
-  }
-  return { page, members, isWhole: at >= bytes.length || bytes[at] === 0xF1 };
-}
-
 // SHA-256 (FIPS 180-4), in hexadecimal.
 function sha256(bytes) {
   const primes = [];

@@ -6,7 +6,7 @@ class Hex {
     this.box = box;
     this.chosen = chosen;   // called with the offset of the byte that was chosen
     this.per = 16;
-    this.list = new Rows(box, i => this.make(i));
+    this.list = new Rows(box, i => this.make(i), false);
     box.addEventListener("click", event => {
       const at = event.target.dataset && event.target.dataset.at;
       if (at !== undefined) this.choose(+at);
@@ -30,11 +30,12 @@ class Hex {
     this.count();
   }
 
-  // 8 or 4 bytes to a row where 16 do not fit.
+  // 8 or 4 bytes to a row where 16 do not fit; then the offsets have no more digits than the file needs.
   fit() {
     if (!this.box.clientWidth) return;   // it is hidden
     const letter = parseFloat(getComputedStyle(this.box).fontSize) * 0.62;
-    const letters = this.box.clientWidth / letter, per = letters >= 84 ? 16 : letters >= 50 ? 8 : 4;
+    const letters = this.box.clientWidth / letter, per = letters >= 84 ? 16 : letters >= 39 ? 8 : 4;
+    this.isShort = per < 16;
     if (per === this.per) return;
     this.per = per;
     this.count();
@@ -82,11 +83,13 @@ class Hex {
     const start = regions[region], end = regions[region + 1], from = start + (i - this.first[region]) * this.per, to = Math.min(end, from + this.per);
     const isRecord = region + 1 < records.length, kind = isRecord ? colour(bytes[start]) : "k-rest";
     const row = element("div", { class: "row " + kind + (region % 2 ? " odd" : "") });
-    const label = from > start ? "" : isRecord ? TYPES[bytes[start]] || hex(bytes[start], 2) + "?" : "not read";
-    row.append(element("span", { class: "offset" }, hex(from, 8)), element("span", { class: "label" }, label));
+    const label = from > start ? "" : isRecord ? TYPES[bytes[start]] || hex(bytes[start], 2) + "?" : "not read", isUnjudged = isRecord && this.look.isUnjudged(region);
+    const digits = this.isShort ? Math.max(4, hex(bytes.length, 1).length) : 8;
+    row.append(element("span", { class: "offset" }, hex(from, digits)), element("span", { class: "label" }, label));
     const cells = element("span", { class: "cells" }), letters = element("span", { class: "letters" });
     for (let at = from; at < to; at++) {
       const names = [];
+      if (isUnjudged) names.push("unjudged");
       if (isRecord && (at < start + 3 || at === end - 1)) names.push("frame");
       if (at >= this.marked[0] && at < this.marked[1]) names.push("marked");
       if (at === this.at && at < this.marked[1]) names.push("cursor");

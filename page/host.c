@@ -140,6 +140,10 @@ i64 __write(int file, const u8 *bytes, size_t count) { return write(file, bytes,
 i64 lseek(int file, i64 offset, int whence) { error = ESPIPE; return -1; }
 int open(const char *name, int flags, ...) { error = ENOENT; return -1; }
 int close(int file) { error = EBADF; return -1; }
+int link(const char *name, const char *other) { error = ENOENT; return -1; }
+int rename(const char *name, const char *other) { error = ENOENT; return -1; }
+int unlink(const char *name) { error = ENOENT; return -1; }
+int statx(int folder, const char *name, int flags, unsigned mask, void *state) { error = ENOENT; return -1; }
 int __xpg_strerror_r(int number, char *room, size_t size) {
     if (size) *room = 0;
     return 0;

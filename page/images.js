@@ -20,7 +20,7 @@ class Image {
   }
 
   make(i) {
-    const row = element("div", { class: "row" }), line = this.line(i), other = this.other && this.other.text ? this.other.line(i) : line;
+    const row = element("div", { class: "row" }), line = this.line(i) || "", other = this.other && this.other.text ? this.other.line(i) : line;
     if (line === other) {
       row.textContent = line;
       return row;

@@ -90,14 +90,32 @@ class Tree {
     this.list.set(this.count());
   }
 
+  goTo(i) {
+    this.at = i;
+    this.list.show(i);
+    this.box.setAttribute("aria-activedescendant", "row" + i);
+  }
+
   // Chooses row i, as a person does.
   choose(i) {
-    this.at = Math.max(0, Math.min(i, this.count() - 1));
-    this.list.show(this.at);
-    this.box.setAttribute("aria-activedescendant", "row" + this.at);
+    this.goTo(Math.max(0, Math.min(i, this.count() - 1)));
     const it = this.rowAt(this.at);
     this.chosen(it);
     return it;
+  }
+
+  // The line of a record, without its number and offset.
+  lineOf(record) {
+    const dump = this.dumpOf(record), [from, to] = this.look.placeOf(record);
+    if (from === to) return `end ${recordSummary(dump)}`;
+    const kind = this.look.bytes[from];
+    return `${hex(kind, 2)} ${dump.record || TYPES[kind] || ""} ${recordSummary(dump, kind & 1)}`;
+  }
+
+  // The offset in its record of the item that a row is of, or null.
+  itemOf({ record, row }) {
+    const parent = this.openRecord(record).rows.find(it => it === row || it.children?.includes(row));
+    return parent?.within ?? null;
   }
 
   // Opens the record of a byte and marks the field that the byte is of. Returns its row.
@@ -117,9 +135,7 @@ class Tree {
       opened.flat = this.flat(opened);
       this.list.set(this.count());
     }
-    this.at = this.indexOf(record) + (best ? 1 + opened.flat.indexOf(best.it) : 0);
-    this.list.show(this.at);
-    this.box.setAttribute("aria-activedescendant", "row" + this.at);
+    this.goTo(this.indexOf(record) + (best ? 1 + opened.flat.indexOf(best.it) : 0));
     return this.rowAt(this.at);
   }
 
@@ -152,10 +168,11 @@ class Tree {
       "aria-selected": i === this.at ? "true" : "false", "aria-expanded": isParent ? String(Boolean(it.isOpen)) : null });
     row.append(element("span", { class: "twist" }, isParent ? it.isOpen ? "▾" : "▸" : ""));
     if (it.level === 1) {
-      const kind = this.look.bytes[it.from], dump = this.dumpOf(it.record);
+      const kind = this.look.bytes[it.from], dump = this.dumpOf(it.record), isBad = "refused" in dump || "fault" in dump;
       row.append(element("span", { class: "number" }, String(it.record)), " ", element("span", { class: "offset" }, hex(it.from, 8)), " ",
-        element("span", { class: "type " + colour(kind) }, it.from < it.to ? `${hex(kind, 2)} ${dump.record || ""}` : "end"), " ",
-        element("span", { class: "refused" in dump ? "bad" : "summary" }, recordSummary(dump, kind & 1)));
+        element("span", { class: "type " + colour(kind) }, it.from < it.to ? `${hex(kind, 2)} ${dump.record || TYPES[kind] || ""}` : "end"), " ",
+        element("span", { class: isBad ? "bad" : "summary" }, recordSummary(dump, kind & 1)));
+      if (dump.unjudged) row.classList.add("unjudged");
     } else row.append(element("span", { class: "name" }, it.key), " ", element("span", { class: "value" }, it.value));
     return row;
   }

@@ -103,12 +103,30 @@ function merged(intervals) {
   return joined;
 }
 
-function draft(words) {
-  const tries = words ? [words] : [["--real"], ["--flat", "0"]];
-  for (const these of tries) {
-    const answer = run("omf_place", these, [current.bytes.subarray(0, current.size)]);
-    if (answer.status === 0 || these === tries[tries.length - 1]) return { ok: answer.status === 0, text: said(answer), words: these };
+// The first draft of some that reaches, or else the first that there is.
+function draft(tries) {
+  const module = current.bytes.subarray(0, current.size), drafts = [];
+  for (const [at, words] of tries.entries()) {
+    const { status, output, trap } = run("omf_place", words, [module]);
+    drafts.push({ at, isDrafted: status === 0, text: trap || textOf(output) });
+    if (status === 0 && (tries.length === 1 || run("omf", ["reloc"], [module, output]).status === 0)) return { ...drafts[at], reaches: true };
   }
+  return { ...drafts.find(it => it.isDrafted) || drafts[0], reaches: false };
+}
+
+// What a list of files shows of one.
+function verdictOf(bytes) {
+  const check = bytes[0] === 0xF0 ? said(run("omf_lib", ["check", "-"], [bytes])) : "";
+  if (check && !/^fault [23] /.test(check)) return { isGood: check.startsWith("OK"), words: "library: " + check.split("\n")[0] };
+  const verdict = judge(bytes);
+  return { isGood: verdict.ok, words: verdict.ok ? `well-formed: ${count(verdict.records, "record")}` : verdict.line };
+}
+
+// The records of a dump: those after the one at fault are there too, as many as it has lines.
+function recordsOf(records, lines, bytes) {
+  const all = [...records];
+  while (all.length - 1 < lines && all[all.length - 1] < bytes.length) all.push(recordEnd(bytes, all[all.length - 1]));
+  return Uint32Array.from(all);
 }
 
 function keyOf(bytes) {
@@ -171,9 +189,13 @@ const jobs = {
     const answer = run("omf_dump", ["--json", "--data", "16"], [current.bytes]);
     const starts = lineStarts(answer.output);
     const seen = isWhole ? outline(answer.output, starts, current.bytes, records) : null;
-    return { status: answer.status, trap: answer.trap, text: answer.output, starts, seen };
+    return { status: answer.status, trap: answer.trap, text: answer.output, starts, seen, records: isWhole ? records : recordsOf(records, starts.length - 1, current.bytes) };
   },
-  draft({ words }) { return draft(words); },
+  verdict({ bytes }) { return verdictOf(bytes); },
+  library({ bytes }) { return { list: said(run("omf_lib", ["list", "-"], [bytes])), check: said(run("omf_lib", ["check", "-"], [bytes])) }; },
+  text({ program, words }) { return { bytes: run(program, words, [current.bytes]).output }; },
+  canon() { return { bytes: current.canonical.slice() }; },
+  draft({ tries }) { return draft(tries); },
   key() {
     const { key, canonical, line } = keyOf(current.bytes);
     current.canonical = canonical;

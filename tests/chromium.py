@@ -3,6 +3,9 @@ import base64
 import contextlib
 import json
 import os
+import pathlib
+import re
+import select
 import shutil
 import subprocess
 import tempfile
@@ -17,10 +20,12 @@ def browser():
 
 
 class Tab:
-    """A page in a browser of its own."""
+    """A page in a browser of its own. What it saves goes to a folder, and all that the browser asks a network for is in a log there."""
 
-    def __init__(self, url, width=1200, height=900, dark=False):
+    def __init__(self, url, width=1200, height=900, dark=False, folder=None):
         self.folder = tempfile.mkdtemp(prefix="omf-page-")
+        self.saves = pathlib.Path(folder or self.folder)
+        self.log = self.saves / "network.log"
         theirs_in, self.out = os.pipe()
         self.inp, theirs_out = os.pipe()
 
@@ -30,24 +35,35 @@ class Tab:
             os.dup2(other, 4)
 
         words = [browser(), "--headless=new", "--no-sandbox", "--disable-gpu", "--remote-debugging-pipe", f"--user-data-dir={self.folder}",
-                 "--no-first-run", "--disable-dev-shm-usage", "--hide-scrollbars", "--disable-background-networking", "about:blank"]
+                 "--no-first-run", "--disable-dev-shm-usage", "--hide-scrollbars", "--disable-background-networking", "--disable-component-update",
+                 "--disable-sync", "--disable-default-apps", "--host-resolver-rules=MAP * ~NOTFOUND", f"--log-net-log={self.log}", "about:blank"]
         self.process = subprocess.Popen(words, stdin=subprocess.DEVNULL, stdout=subprocess.DEVNULL, stderr=subprocess.DEVNULL, close_fds=False,
                                         preexec_fn=pipes)
         os.close(theirs_in)
         os.close(theirs_out)
         self.number, self.left, self.session, self.events = 0, b"", None, []
+        self.call("Browser.setDownloadBehavior", behavior="allowAndName", downloadPath=str(self.saves), eventsEnabled=True)
+        self.call("Browser.grantPermissions", permissions=["clipboardReadWrite", "clipboardSanitizedWrite"])
         targets = self.call("Target.getTargets")["targetInfos"]
         target = next(it["targetId"] for it in targets if it["type"] == "page")
         self.session = self.call("Target.attachToTarget", targetId=target, flatten=True)["sessionId"]
         for domain in ("Page", "Runtime", "Network", "Log"):
             self.call(f"{domain}.enable")
-        self.call("Emulation.setDeviceMetricsOverride", width=width, height=height, deviceScaleFactor=1, mobile=False)
+        self.resize(width, height)
         self.call("Emulation.setEmulatedMedia", features=[{"name": "prefers-color-scheme", "value": "dark" if dark else "light"}])
         self.call("Page.navigate", url=url)
         self.until("document.readyState === 'complete' && location.protocol !== 'about:'")
 
-    def read(self):
+    def __enter__(self):
+        return self
+
+    def __exit__(self, *_):
+        self.close()
+
+    def read(self, seconds=600):
         while b"\0" not in self.left:
+            if not select.select([self.inp], [], [], seconds)[0]:
+                raise RuntimeError(f"the browser said nothing for {seconds} s")
             more = os.read(self.inp, 1 << 20)
             if not more:
                 raise RuntimeError("the browser ended")
@@ -87,15 +103,40 @@ class Tab:
                 raise RuntimeError(f"not after {seconds} s: {script}")
             time.sleep(0.05)
 
-    def choose(self, selector, file):
-        """Gives a file to an input, as a person does."""
+    def choose(self, selector, *files):
+        """Gives files to an input, as a person does."""
         root = self.call("DOM.getDocument")["root"]["nodeId"]
         node = self.call("DOM.querySelector", nodeId=root, selector=selector)["nodeId"]
-        self.call("DOM.setFileInputFiles", nodeId=node, files=[os.path.abspath(file)])
+        self.call("DOM.setFileInputFiles", nodeId=node, files=[os.path.abspath(file) for file in files])
 
-    def press(self, key, code=None):
+    def event(self, method, suits):
+        """The first event of a name that suits; it is waited for."""
+        while True:
+            found = next((it for it in self.events if it.get("method") == method and suits(it["params"])), None)
+            if found:
+                return found["params"]
+            self.events.append(self.read(60))
+
+    def saved(self, selector):
+        """The bytes that a button saves."""
+        self.events = [it for it in self.events if not it.get("method", "").startswith("Browser.download")]
+        self.call("Runtime.evaluate", expression=f"document.querySelector({selector!r}).click()", userGesture=True)
+        done = self.event("Browser.downloadProgress", lambda it: it["state"] != "inProgress")
+        file = self.saves / done["guid"]
+        data = file.read_bytes()
+        file.unlink()
+        return data
+
+    def press(self, key, modifiers=0):
         for kind in ("keyDown", "keyUp"):
-            self.call("Input.dispatchKeyEvent", type=kind, key=key, code=code or key)
+            self.call("Input.dispatchKeyEvent", type=kind, key=key, code=key, modifiers=modifiers, text=key if len(key) == 1 and kind == "keyDown" else "")
+
+    def type(self, text):
+        """Types a text where the focus is."""
+        self.call("Input.insertText", text=text)
+
+    def resize(self, width, height):
+        self.call("Emulation.setDeviceMetricsOverride", width=width, height=height, deviceScaleFactor=1, mobile=False)
 
     def picture(self, file, whole=False):
         made = self.call("Page.captureScreenshot", format="png", captureBeyondViewport=whole)
@@ -103,9 +144,14 @@ class Tab:
             it.write(base64.b64decode(made["data"]))
 
     def requests(self):
-        """The addresses that the page asked for, other than itself."""
+        """The addresses that the page asked for, by its events and by the browser's log of its network, other than files and what it has itself."""
         urls = [it["params"]["request"]["url"] for it in self.events if it.get("method") == "Network.requestWillBeSent"]
-        return [url for url in urls if not url.startswith(("file:", "blob:", "data:", "about:"))]
+        return [url for url in urls + self.logged() if not url.startswith(("file:", "blob:", "data:", "about:", "chrome:", "devtools:"))]
+
+    def logged(self):
+        """The addresses in the browser's log that a page asked for; those that the browser asks for by itself have no origin."""
+        text = self.log.read_text(errors="replace") if self.log.exists() else '"initiator":"no log","url":"no log"'
+        return re.findall(r'"initiator":"(?!not an origin)[^"]*".*?"url":"([^"]*)"', text)
 
     def faults(self):
         """What the page reported as wrong."""

@@ -1,0 +1,243 @@
+"""What a person does with the page: names that are HTML, libraries, several files, keys, a search, placements, a second file, a narrow screen."""
+import base64
+import time
+
+from page_shared import ROOT, STATE, hostile, large, library, open_file, record, text_of
+
+
+def after(tab, act, until=f"{STATE} === 'done'"):
+    """Does something that opens a module, and waits until it is shown."""
+    tab.value(f"{STATE} = 'waiting'; {act}; 0")
+    tab.until(until)
+
+
+def names(tab, tries, folder):
+    """Names that are HTML, or no text at all."""
+    for i, name in enumerate((b"<img src=x onerror=alert(1)>", b"</script><script>alert(2)</script>", b"\"><svg onload=alert(3)>", bytes(range(1, 64)), b"\xFF\xFE\x80&lt;")):
+        file = folder / f"hostile{i}.obj"
+        file.write_bytes(hostile(name))
+        open_file(tab, file)
+        tries.see(f"hostile name {i}", tab.value(STATE), "done")
+        for record_number in range(10):
+            tab.value(f"page.tree.openRecord({record_number}).rows.length")
+        tab.value("page.tree.choose(3); 0")
+        tries.see(f"hostile name {i}: elements", tab.value("document.querySelectorAll('img, svg [onload], main script').length"), 0)
+        copy = folder / "<img src=x onerror=alert(4)>.obj"
+        copy.write_bytes(file.read_bytes())
+        tab.choose("#second", copy)
+        tab.until("/same key/.test(document.getElementById('compared').innerText)")
+        tries.see(f"hostile name {i}: elements of the comparison", tab.value("document.querySelectorAll('img').length"), 0)
+
+
+def libraries(tab, tries, folder):
+    """A library: its verdict, its members by the mouse, by the keyboard and by a search, the refused one, the one that is cut."""
+    first, boot = (ROOT / "examples/first.omf").read_bytes(), (ROOT / "examples/boot/boot.omf").read_bytes()
+    bad = (ROOT / "examples/reasons/06-Checksum.omf").read_bytes()
+    file = folder / "four.lib"
+    file.write_bytes(library([first, boot, hostile(b"<b>"), bad]))
+    open_file(tab, file)
+    tries.see("library: head", "four.lib is a library of 4 members" in tab.value(text_of("library-head")), True)
+    tries.see("library: the fault", "Member at" in tab.value(text_of("library-findings")), True)
+    tries.see("library: the mark", tab.value("document.querySelectorAll('#members .bad').length"), 1)
+    tries.see("library: first member", '"A" in four.lib is a well-formed module: 6 records' in tab.value(text_of("verdict")), True)
+    after(tab, "document.querySelectorAll('#members .row')[1].click()")
+    tries.see("library: second member", '"boot.asm" in four.lib is a well-formed module: 14 records' in tab.value(text_of("verdict")), True)
+    tab.value(f"{STATE} = 'waiting'; document.getElementById('members').focus()")
+    tab.press("ArrowDown")
+    tab.until(f"{STATE} === 'done'")
+    tries.see("library: third member by the keyboard", '"<b>" in four.lib is a well-formed module' in tab.value(text_of("verdict")), True)
+    tab.value(f"{STATE} = 'waiting'")
+    tab.press("n")
+    tab.until(f"{STATE} === 'done'")
+    tries.see("library: the next fault", "in four.lib is refused: the checksum" in tab.value(text_of("verdict")), True)
+    tab.value("document.getElementById('members-search').focus(); 0")
+    tab.type("boot.a")
+    tries.see("library: a search", tab.value("[...document.querySelectorAll('#members .row')].map(it => it.innerText.includes('boot.asm'))"), [True])
+    file.write_bytes(library([first]) [:16] + first + bytes(-len(first) % 16) + boot[:100])
+    open_file(tab, file)
+    tries.see("cut library: the fault", "MemberCut" in tab.value(text_of("library-findings")), True)
+    after(tab, "document.querySelectorAll('#members .row')[1].click()")
+    tries.see("cut library: the member", "is refused: the record is longer than the file" in tab.value(text_of("verdict")) or "Cut" in tab.value(text_of("verdict")), True)
+
+
+def files(tab, tries, folder):
+    """Several files: a list with their verdicts."""
+    three = [ROOT / "examples" / it for it in ("boot/boot.omf", "reasons/06-Checksum.omf", "library/small.lib")]
+    open_file(tab, *three)
+    tab.until("/3 judged/.test(document.getElementById('files-head').innerText)")
+    tries.see("files: the head", tab.value(text_of("files-head")), "3 files, 3 judged, 1 with a fault:")
+    tries.see("files: the first is open", tab.value(text_of("verdict")).startswith("boot.omf is a well-formed module"), True)
+    said = tab.value("[...document.querySelectorAll('#files .row')].map(it => it.innerText)")
+    for row, words in zip(said, ("well-formed: 14 records", "refused 6 Checksum", "library: OK 2 members")):
+        tries.see(f"files: {words}", words in row, True)
+    tab.value(f"{STATE} = 'waiting'; document.activeElement.blur()")
+    tab.press("n")
+    tab.until(f"{STATE} === 'done'")
+    tries.see("files: the next fault", tab.value(text_of("verdict")).startswith("06-Checksum.omf is refused"), True)
+    after(tab, "page.example(0)")
+    tries.see("files: no list for one", tab.value("document.getElementById('files-part').hidden"), True)
+    many = folder / "many"
+    many.mkdir()
+    data = base64.b64encode((ROOT / "examples/first.omf").read_bytes()).decode()
+    after(tab, f"(() => {{ const it = new DataTransfer(); for (const name of ['a.obj', 'b.obj']) it.items.add(new File([fromBase64({data!r})], name)); "
+          "document.body.dispatchEvent(new DragEvent('drop', { dataTransfer: it, bubbles: true, cancelable: true })); })()")
+    tries.see("drop", tab.value(text_of("verdict")).startswith("a.obj is a well-formed module"), True)
+    tries.see("drop: both are in the list", tab.value("document.querySelectorAll('#files .row').length"), 2)
+
+
+def keys(tab, tries, folder):
+    """The keys for FIXUPPs and faults, and the search."""
+    open_file(tab, ROOT / "examples/boot/boot.omf")
+    tab.value("document.activeElement.blur(); page.tree.choose(0); 0")
+    at = "page.tree.rowAt(page.tree.at).record"
+    fixupps = tab.value("[...page.look.records].slice(0, -1).map((_, i) => i).filter(i => page.look.typeOf(i) === 'FIXUPP')")
+    for wanted in [*fixupps, fixupps[0]]:
+        tab.press("f")
+        tries.see("key f", tab.value(at), wanted)
+    tab.press("F")
+    tries.see("key F", tab.value(at), fixupps[-1])
+    tab.press("/")
+    tries.see("key /", tab.value("document.activeElement.id"), "search")
+    tab.type("library")
+    tab.press("Enter")
+    tab.until("/Record/.test(document.getElementById('search-said').innerText)")
+    found = []
+    for _ in range(3):
+        found.append(tab.value("page.tree.rowAt(page.tree.at).record + ' ' + (page.tree.rowAt(page.tree.at).key || '')"))
+        tab.press("Enter")
+        time.sleep(0.2)
+    tries.see("search: three places", len(set(found)), 3)
+    tab.value("document.getElementById('search').value = 'no such name'; page.search.go(1)")
+    tab.until("document.getElementById('search-said').innerText === 'Nothing has it.'")
+    open_file(tab, ROOT / "examples/reasons/26-OutsideSegment.omf")
+    tab.value("page.tree.choose(0); document.activeElement.blur(); 0")
+    tab.press("n")
+    tries.see("key n", tab.value(at), 3)
+    tab.value("page.tree.choose(4); 0")
+    tries.see("the record after the fault", "8A MODEND length 0001H  not judged" in tab.value("document.getElementById('row4')?.innerText ?? [...document.querySelectorAll('#tree .row')].at(-1).innerText"), True)
+
+
+def copied(tab, tries, folder):
+    """What is copied is what the program prints."""
+    open_file(tab, ROOT / "examples/first.omf")
+    for kind, wanted in (("image", "0001:00000000 B8"), ("dump", "0 00000000 80 THEADR  name \"A\"\n"), ("canon", "80 ")):
+        tab.call("Runtime.evaluate", expression=f"document.querySelector('[data-act=copy-{kind}]').click()", userGesture=True)
+        tab.until(f"document.querySelector('[data-act=copy-{kind}]').innerText !== 'Copy'")
+        seen = tab.call("Runtime.evaluate", expression="navigator.clipboard.readText()", awaitPromise=True, userGesture=True)["result"].get("value")
+        tries.see(f"copied {kind}", str(seen).startswith(wanted), True)
+
+
+def links(tab, tries, folder):
+    """Fields and bytes, and the keys that move over them."""
+    open_file(tab, ROOT / "examples/first.omf")
+    tab.value("document.getElementById('tree').focus(); page.tree.choose(3); 0")
+    tab.press("ArrowRight")
+    tab.press("ArrowDown")
+    tab.press("ArrowDown")
+    marks = "[...document.querySelectorAll('#hex .marked')].map(it => it.innerText).join(' ')"
+    tries.see("the segment index of the LEDATA", tab.value(marks), "01")
+    tab.value("document.querySelector('#hex [data-at=\"36\"]').click()")
+    tries.see("the record of a byte", tab.value("page.tree.rowAt(page.tree.at).record"), 4)
+    tab.value("document.querySelector('#hex [data-at=\"40\"]').click()")
+    tries.see("the field of a byte", tab.value("page.tree.rowAt(page.tree.at).key"), "frame")
+    tab.value("document.querySelector('#drawing .arrow').dispatchEvent(new MouseEvent('click', { bubbles: true }))")
+    tries.see("the fixup of an arrow", tab.value("page.tree.rowAt(page.tree.at).key"), "+3")
+    tries.see("the arrow of a fixup", tab.value("document.querySelectorAll('#drawing .arrow.chosen').length"), 1)
+
+
+def placements(tab, tries, folder):
+    """A placement that is edited, a second one beside it, addresses for a draft, and a draft that does not reach."""
+    open_file(tab, ROOT / "examples/first.omf")
+    typed = ("(() => {{ const it = document.getElementById('place-{}'); it.value = {!r}; it.dispatchEvent(new Event('input')); }})()").format
+    tab.value(typed("a", "S 10020 10000 1000"))
+    tab.until("document.getElementById('image-a').innerText.includes('B8 20 00 90')")
+    tries.see("image", tab.value(text_of("image-a")).strip(), "0001:00000000 B8 20 00 90")
+    tab.value("document.getElementById('two').click()")
+    tab.until("document.getElementById('differ').innerText === 'The two images are the same.'")
+    tab.value(typed("b", "S 10130 10000 1000"))
+    tab.until("/differ, in/.test(document.getElementById('differ').innerText)")
+    tries.see("two placements", tab.value(text_of("differ")), "2 bytes differ, in 1 line.")
+    tries.see("marks", tab.value("[...document.querySelectorAll('#image-b mark')].map(it => it.innerText).join(' ')"), "30 01")
+    tab.value(typed("a", "S 20000 10000 1000"))
+    tab.until("document.querySelector('#said-a .bad') !== null")
+    tries.see("does not reach", "the target is outside the offsets of its frame" in tab.value(text_of("said-a")), True)
+    tab.value(typed("a", "S 10020 10000"))
+    tab.until("/Line 1/.test(document.getElementById('said-a').innerText)")
+    for asked, wanted in (("0x7C00", "S 7C00 real"), ("7c00h", "S 7C00 real"), ("zz", ""), ("123456789", "")):
+        tab.value(f"document.getElementById('place-a').value = ''; document.getElementById('base').value = {asked!r}; page.placing.redraft()")
+        tries.see(f"draft from {asked}", tab.value("document.getElementById('place-a').value")[:11], wanted)
+    tries.see("no address", "123456789” is no address" in tab.value(text_of("said-a")), True)
+    open_file(tab, ROOT / "examples/boot/boot.omf")
+    tries.see("a draft that reaches is taken", [tab.value("kind.value"), tab.value("document.querySelectorAll('#said-a .good').length")], ["flat", 1])
+    file = folder / "far.obj"   # an offset in a frame that begins after it
+    file.write_bytes(b"".join((record(0x80, b"\x01a"), record(0x96, b"\0\x01A\x01B"), record(0x98, bytes([0x60, 0xF0, 0xFF, 2, 1, 1])),
+                               record(0x98, bytes([0x60, 4, 0, 3, 1, 1])), record(0xA0, bytes([1, 0, 0, 0, 0])), record(0x9C, bytes([0xC4, 0, 4, 2, 1, 0xFF, 0xFF])),
+                               record(0x8A, b"\0"))))
+    open_file(tab, file)
+    if not tab.value("document.querySelectorAll('#said-a .good').length"):
+        tries.see("a good module whose drafts do not reach", tab.value("[verdict.className, document.querySelectorAll('#said-a .warn, .arrow.warn').length > 0, "
+                                                                       "document.querySelectorAll('#said-a .bad, .arrow.bad').length]"), ["good", True, 0])
+
+
+def compared(tab, tries, folder):
+    """A second file: the same key, another key, no key."""
+    open_file(tab, ROOT / "examples/first.omf")
+    said = text_of("compared")
+    for file, wanted in (("first-long.omf", "first-long.omf has the same key"), ("boot/boot.omf", "The canonical forms differ first in record 0"),
+                         ("reasons/06-Checksum.omf", "06-Checksum.omf has no key: refused 6 Checksum")):
+        tab.choose("#second", ROOT / "examples" / file)
+        tab.until(f"{said}.includes({wanted!r})", 20)
+        tries.see(f"compared with {file}", wanted in tab.value(said), True)
+
+
+def size(tab, tries, folder):
+    """A large module: the page is never blocked for a second."""
+    file = folder / "large.obj"
+    file.write_bytes(large())
+    tab.value("window.longest = 0; window.last = performance.now(); setInterval(() => { const now = performance.now(); "
+              "longest = Math.max(longest, now - last); last = now; }, 10); 0")
+    tab.value(f"{STATE} = 'waiting'; window.began = 0; 0")
+    tab.value("document.getElementById('file').addEventListener('change', () => { window.began = performance.now(); }, { once: true, capture: true }); "
+              "new MutationObserver(() => { if (/well-formed/.test(verdict.innerText)) window.judged ||= performance.now(); }).observe(verdict, { childList: true, subtree: true }); 0")
+    tab.choose("#file", file)
+    tab.until(f"['done', 'failed'].includes({STATE})", 300)
+    times = tab.value("[(window.judged || 0) - window.began, performance.now() - window.began, window.longest]")
+    tries.see("large: accepted", "well-formed" in tab.value(text_of("verdict")), True)
+    tab.value("page.tree.choose(page.tree.count() - 1); page.hex.choose(page.look.bytes.length - 1)")
+    tries.see("large: the last record", tab.value("page.tree.rowAt(page.tree.at).record"), tab.value("page.look.records.length - 2"))
+    tab.value("document.getElementById('tree').scrollTop = 0; page.tree.choose(5); 0")
+    tab.value("document.getElementById('search').value = 'nowhere'; page.search.go(1)")
+    time.sleep(0.3)
+    longest = tab.value("window.longest")
+    tries.see(f"large: blocked for {longest:.0f} ms at most", longest < 1000, True)
+    print(f"a module of {file.stat().st_size:,} bytes: verdict after {times[0]:.0f} ms, all after {times[1]:.0f} ms, the page blocked for {longest:.0f} ms at most")
+
+
+def narrow(tab, tries, folder):
+    """A screen of 360 pixels: nothing is wider than it."""
+    tab.resize(360, 740)
+    for file in ("boot/boot.omf", "link/start.obj", "reasons/26-OutsideSegment.omf", "library/small.lib"):
+        open_file(tab, ROOT / "examples" / file)
+        tab.value("page.tree.openRecord(2); 0")
+        time.sleep(0.2)
+        wide = tab.value("[document.documentElement, ...document.querySelectorAll('.rows, #drawing')].filter(it => it.scrollWidth > it.clientWidth + 1).map(it => it.id || it.tagName)")
+        tries.see(f"{file} at 360 pixels: too wide", wide, [])
+    tab.resize(1200, 900)
+
+
+def policy(tab, tries):
+    """The page's policy allows nothing from outside."""
+    asked = tab.value("fetch('https://example.com/').then(() => 'went', () => 'refused')")
+    image = tab.value("new Promise(take => { const it = document.createElement('img'); it.onload = () => take('went'); it.onerror = () => take('refused'); it.src = 'https://example.com/a.png'; })")
+    script = tab.value("new Promise(take => { const it = document.createElement('script'); it.textContent = 'window.ran = 1'; document.body.append(it); setTimeout(() => take(window.ran), 50); })")
+    tries.see("policy: a request, an image, another script", [asked, image, script], ["refused", "refused", None])
+    tries.see("policy: no request went", [url for url in tab.requests() if "example.com" not in url], [])
+    tries.see("policy: nor one to the outside in the log", [url for url in tab.logged() if "example.com" in url], [])
+
+
+def all_of(tab, tries, folder):
+    for part in (names, libraries, files, keys, copied, links, placements, compared, narrow, size):
+        try:
+            part(tab, tries, folder)
+        except RuntimeError as fault:
+            tries.see(f"{part.__name__}: {fault}", "failed", "done")
