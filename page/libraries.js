@@ -23,10 +23,10 @@ function cutMember(members, check, bytes) {
   return [{ start, size: bytes.length - start, name, refused: "Cut: the file ends in it", publics: [] }];
 }
 
-// The lines of a text of `omf-lib check`: {isNote, number, words, member}.
+// The lines of a text of `omf-lib check`: {line, isNote, number, member}.
 function findingsOf(check) {
   return check.split("\n").map(line => /^(fault|note) (\d+) (\w+) (.*)$/.exec(line)).filter(Boolean)
-    .map(([, kind, number, name, place]) => ({ isNote: kind === "note", number, words: `${name} ${place}`, member: /\bmember (\d+)/.exec(place)?.[1] }));
+    .map(([line, kind, number, , place]) => ({ line, isNote: kind === "note", number, member: /\bmember (\d+)/.exec(place)?.[1] }));
 }
 
 class LibraryView {
@@ -54,7 +54,7 @@ class LibraryView {
     this.members.push(...cutMember(this.members, check, bytes));
     const [, page, flags] = /^LIBRARY page (\d+) .* case (\w+)/.exec(list);
     $("library").hidden = false;
-    $("library-head").replaceChildren(element("b", {}, name), ` is a library of ${count(this.members.length, "member")}, in pages of ${page} bytes; case ${flags}.`);
+    $("library-head").replaceChildren(element("b", {}, name), ` is a library ${this.members.length ? `of ${count(this.members.length, "member")}` : "without a member"}, in pages of ${page} bytes; case ${flags}.`);
     this.showFindings(check);
     $("members-part").hidden = !this.members.length;
     $("members-search").value = "";
@@ -70,9 +70,10 @@ class LibraryView {
     $("library-findings").replaceChildren(head, ...items.length ? [element("ul", {}, ...items)] : []);
   }
 
-  finding({ isNote, number, words, member }) {
-    const about = this.faults[number], advice = isNote ? "" : ` ${about.todo}.`;
-    const item = element("li", {}, element("b", { class: isNote ? "" : "bad" }, words), ` (${isNote ? "note" : "fault"} ${number}): ${about.means}.${advice} `);
+  // A line of the check, and what it means. For a member that is refused, its own advice is below.
+  finding({ line, isNote, number, member }) {
+    const { name, means, todo } = this.faults[number], sentence = text => text[0].toUpperCase() + text.slice(1) + ". ";
+    const item = element("li", {}, element("b", { class: isNote ? "" : "bad" }, line), ". ", sentence(means), name === "Member" ? "" : sentence(todo));
     if (member !== undefined && this.members[+member]) item.append(element("button", { type: "button", onclick: () => this.choose(+member) }, "Open the member"));
     return item;
   }

@@ -28,9 +28,12 @@ const PICTURED = { segments: 60, arrows: 250, externals: 60 };
 
 // Where things are in a picture of some width: the bars from `left`, `bar` long; groups and externals from `right`; the lines of a segment's
 // text at `lines`. In a narrow picture the text is above the bar and below it.
-function layoutOf(width) {
-  if (width >= 640) return { width, row: 54, left: 218, bar: width - 540, right: width - 240, barTop: 4, lines: [12, 26, 40], letters: 22, box: 20 };
-  const right = Math.round(width * 0.64);
+function layoutOf(width, hasBoxes) {
+  if (width >= 640) {
+    const right = hasBoxes ? width - 240 : width;
+    return { width, row: 54, left: 218, bar: right - 300, right, barTop: 4, lines: [12, 26, 40], letters: 22, box: 20 };
+  }
+  const right = hasBoxes ? Math.round(width * 0.64) : width;
   return { width, row: 72, left: 12, bar: right - 44, right, barTop: 30, lines: [10, 24, 64], letters: Math.floor(right / 8), box: 34 };
 }
 
@@ -57,7 +60,8 @@ class Picture {
   // Draws the module at a placement. `bad` is {record, within, words, short, fixup, isDraft} where it does not reach.
   draw(seen, text, bad) {
     this.drawn = [seen, text, bad];
-    this.layout = layoutOf(this.widthNow());
+    const externals = this.externalsOf(seen);
+    this.layout = layoutOf(this.widthNow(), externals.length + seen.groups.length > 0);
     const { width, row: rowHeight, left, right, box, barTop } = this.layout;
     const entries = entriesOf(text), at = new Map();
     const rows = seen.segments.map((segment, i) => ({ segment, index: i + 1, entry: entries.S[i] }));
@@ -66,10 +70,6 @@ class Picture {
     const groupOf = index => seen.groups.findIndex(group => group.members.includes(index));
     this.colours = new Map();
     for (const segment of seen.segments) if (!this.colours.has(segment.class)) this.colours.set(segment.class, this.colours.size % 6);
-    const used = new Set();
-    for (const fixup of seen.fixups) for (const it of [fixup.target, fixup.frame]) if (it.method === "external") used.add(it.index);
-    const externals = seen.externals.map((external, i) => ({ external, index: i + 1 })).filter(it => used.has(it.index) || seen.externals.length <= 12)
-      .slice(0, PICTURED.externals);
     const height = 34 + Math.max(shown.length * rowHeight, (externals.length + seen.groups.length) * (box + 6) + 30);
     const svg = shape("svg", { viewBox: `0 0 ${width} ${height}`, role: "group", "aria-label": "the segments of the module at the placement, and its fixups" });
     svg.append(this.marks());
@@ -87,6 +87,14 @@ class Picture {
     else notes.push(drawn === seen.fixups.length && !seen.more ? `${count(drawn, "fixup is drawn", "fixups are drawn")}.` : `${drawn} of ${all} fixups are drawn.`);
     if (bad) notes.push(`${bad.isDraft ? "In orange" : "In red"}, what does not reach: ${bad.words}`);
     this.note.textContent = notes.join(" ");
+  }
+
+  // The externals that are drawn: those that a fixup names, or all if they are few.
+  externalsOf(seen) {
+    const used = new Set();
+    for (const fixup of seen.fixups) for (const it of [fixup.target, fixup.frame]) if (it.method === "external") used.add(it.index);
+    return seen.externals.map((external, i) => ({ external, index: i + 1 })).filter(it => used.has(it.index) || seen.externals.length <= 12)
+      .slice(0, PICTURED.externals);
   }
 
   marks() {

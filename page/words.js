@@ -29,7 +29,7 @@ function refusedWords({ name, bytes, verdict, fault }, line) {
   const { reason, record, start, within } = verdict;
   const there = fault < bytes.length ? `, where ${hex(bytes[fault], 2)}H is` : ", its end";
   const looks = line["looks-like"] ? `; the file looks like ${line["looks-like"]}` : "";
-  const why = line.meaning ? ` is refused: ${line.meaning}${looks}. ` : " is no module, and is refused as one. ";
+  const why = line.meaning ? ` is refused: ${line.meaning}${looks}. ` : " is no module: read as one, it is refused. ";
   const type = line.record || TYPES[bytes[start]];
   return [element("b", {}, name), why, element("span", {}, `Reason ${reason}, ${verdict.name}, in record ${record}${type ? ` (${type})` : ""}, which begins at byte ` +
     `${start} (${hex(start, 1)}H). The fault is at byte ${within} of the record: byte ${fault} (${hex(fault, 1)}H) of the file${there}.`)];

@@ -8,14 +8,13 @@ import base64
 import hashlib
 import json
 import pathlib
-import subprocess
 import sys
 import tempfile
 
 import page_acts
 import page_files
 from chromium import Tab
-from page_shared import NATIVE, ROOT, STATE, Tries, modules, printed
+from page_shared import ROOT, STATE, Tries, modules, native, printed
 
 RUN = """(async asked => {
   const answers = [];
@@ -25,11 +24,6 @@ RUN = """(async asked => {
   }
   return answers;
 })"""
-
-
-def native(program, words, data):
-    ran = subprocess.run([NATIVE[program], *words], input=data, stdout=subprocess.PIPE, stderr=subprocess.DEVNULL, timeout=120, check=False)
-    return [ran.returncode, len(ran.stdout), hashlib.sha256(ran.stdout).hexdigest()]
 
 
 def cases(file, data):
@@ -43,28 +37,31 @@ def cases(file, data):
             ("omf_place", ["--base", "7C00", "--flat", "8"], data), ("omf_dump", ["--json", "--data", "16"], data), ("omf_dump", [], data)]
 
 
-def compare(tab, tries, files):
-    """The answers of the page's programs and of the native ones."""
-    differences, done = 0, 0
+def compare(tab, tries, file):
+    """The answers of the page's programs and of the native ones for a file. Returns how many differ, and how many there are."""
+    runs, failed = cases(file, file.read_bytes()), len(tries.failed)
+    asked = [{"program": program, "words": words, "bytes": base64.b64encode(given).decode()} for program, words, given in runs]
+    for (program, words, given), answer in zip(runs, tab.value(f"{RUN}({json.dumps(asked)})")):
+        status, text = native(program, tuple(words), given)
+        tries.see(f"{file} {program} {' '.join(words)}", answer, [status, len(text), hashlib.sha256(text).hexdigest()])
+    return len(tries.failed) - failed, len(runs)
+
+
+def each_file(tab, tries, files):
+    counts = [0, 0]
     for file in files:
-        runs = cases(file, file.read_bytes())
-        asked = [{"program": program, "words": words, "bytes": base64.b64encode(given).decode()} for program, words, given in runs]
-        seen = tab.value(f"{RUN}({json.dumps(asked)})")
-        for (program, words, given), answer in zip(runs, seen):
-            wanted = native(program, words, given)
-            tries.see(f"{file} {program} {' '.join(words)}", answer, wanted)
-            differences += answer != wanted
-        done += len(runs)
-    print(f"{len(files)} files, {done} answers of the page's programs: {differences} differences")
+        counts = [sum(it) for it in zip(counts, compare(tab, tries, file))]
+        page_files.file(tab, tries, file)
+    print(f"{len(files)} files, {counts[1]} answers of the page's programs: {counts[0]} differences", flush=True)
 
 
 def main(page, *folders):
     tries = Tries()
     with tempfile.TemporaryDirectory(prefix="omf-page-test-") as work, Tab(pathlib.Path(page).resolve().as_uri(), folder=work) as tab:
         tab.until(f"{STATE} === 'done'")
-        files = modules([ROOT / "examples", *folders])
-        compare(tab, tries, files)
-        page_files.all_of(tab, tries, files)
+        page_files.first_sight(tab, tries)
+        each_file(tab, tries, modules([ROOT / "examples", *folders]))
+        page_files.examples(tab, tries)
         page_acts.all_of(tab, tries, pathlib.Path(work))
         tries.see("requests to a network", tab.requests(), [])
         tries.see("faults of the page", tab.faults(), [])

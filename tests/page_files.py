@@ -3,7 +3,7 @@ import contextlib
 import hashlib
 import json
 
-from page_shared import NATIVE, STATE, open_file, printed, text_of
+from page_shared import STATE, open_file, printed, text_of
 
 WRONG = ("undefined", "NaN", "null", "[object")
 # All that the page shows: its text, titles and values. The texts of the documents (docs/REASONS.md, docs/LIBRARIES.md) are left out.
@@ -84,7 +84,7 @@ def refused(tab, tries, name, data, line):
     sentence, record, fault = tab.value(text_of("verdict")), int(line[4]), int(line[6]) + int(line[8])
     lines = [json.loads(it) for it in printed("omf_dump", ["--json"], data).decode("latin-1").splitlines()]
     last = next((it for it in lines if "refused" in it), None)
-    means = f" is refused: {last['meaning']}" if last else " is no module, and is refused as one."
+    means = f" is refused: {last['meaning']}" if last else " is no module: read as one, it is refused."
     tries.see(f"{name}: the sentence", sentence.startswith(name + means), True)
     tries.see(f"{name}: the reason", f"Reason {line[1]}, {line[2]}, in record {line[4]}" in sentence, True)
     tries.see(f"{name}: the byte", f"byte {fault} (" in sentence, True)
@@ -110,7 +110,8 @@ def library(tab, tries, name, data):
     tries.see(f"{name}: members", tab.value("page.library.members.length"), len(members) + cut)
     tries.see(f"{name}: refused members", tab.value("page.library.members.filter(it => it.refused).length"), sum(" refused " in it for it in members) + cut)
     head = tab.value(text_of("library-head"))
-    tries.see(f"{name}: head", head.startswith(f"{name} is a library of {len(members) + cut:,} member"), True)
+    many = len(members) + cut
+    tries.see(f"{name}: head", head.startswith(f"{name} is a library {f'of {many:,} member' if many else 'without a member'}"), True)
     ok = tab.value("document.querySelectorAll('#library-findings .good').length")
     tries.see(f"{name}: verdict", ok, 1 if check.startswith("OK") else 0)
 
@@ -145,10 +146,10 @@ def examples(tab, tries):
         tries.see(f"{name}: a red arrow", red, 1 if any(word in name for word in ("target", "location", "distance")) else 0)
 
 
-def all_of(tab, tries, files):
+def first_sight(tab, tries):
     tries.see("an example is open", tab.value(text_of("verdict")).startswith("boot/boot.omf is a well-formed module"), True)
-    for file in files:
-        open_file(tab, file)
-        look_at(tab, tries, file.name, file.read_bytes())
-    examples(tab, tries)
-    print(f"{len(files)} files and the examples opened with {NATIVE['omf']}: {tries.done} tries so far, {len(tries.failed)} failed", flush=True)
+
+
+def file(tab, tries, path):
+    open_file(tab, path)
+    look_at(tab, tries, path.name, path.read_bytes())

@@ -1,4 +1,5 @@
 """What the tests of the page share: the native programs, the files, made modules, and how a file is opened."""
+import functools
 import os
 import pathlib
 import subprocess
@@ -23,9 +24,15 @@ class Tries:
             print(f"{what}: saw {str(seen)[:300]!r}, wanted {str(wanted)[:300]!r}", flush=True)
 
 
+@functools.lru_cache(maxsize=64)
+def native(program, words, data):
+    """The status of a native program, and what it prints. The last answers are kept."""
+    ran = subprocess.run([NATIVE[program], *words], input=data, stdout=subprocess.PIPE, stderr=subprocess.DEVNULL, timeout=600, check=False)
+    return ran.returncode, ran.stdout
+
+
 def printed(program, words, data):
-    """What a native program prints."""
-    return subprocess.run([NATIVE[program], *words], input=data, stdout=subprocess.PIPE, stderr=subprocess.DEVNULL, check=False).stdout
+    return native(program, tuple(words), data)[1]
 
 
 def modules(folders):
