@@ -27,6 +27,7 @@ use Rattle.omf_canon.proofs.CountLaws.{items, items-sum, canonical-items}
 use Rattle.omf_canon.proofs.PiecesKeptLaws.{PiecesAreKept, kept-skeleton, kept-cut}
 use Rattle.omf_canon.proofs.ResultLaws.{kept-module, items-limited}
 use Rattle.omf_canon.proofs.RulesLaws.{SameTables}
+use Rattle.omf_check.proofs.WellLaws.{well-read, well-formed}
 use Rattle.omf_canon.proofs.SpelledLaws.{IsSpelt, IsWritable, piece_kind, Spells, SpellAll, spelled-typed, writable-pieces, writable-skeleton, canonical-spells}
 use Rattle.omf_canon.proofs.WellFormedLaws.{result-kept, result-trees, result-items}
 
@@ -229,7 +230,8 @@ fewer : (n a b c : ℕ) → n ≡ 0 + b → a ≡ b → a ≤ c → n ≤ c
 fewer n a b c e h k = omega (arith, e, h, k)
 
 pub canonical-well-formed : AreTyped → ShortestAreTyped → ValuesAreTyped → TypedHaveValues → PlacesDoNotCount → ModulesHold → CanonicalsAreWellFormed
-canonical-well-formed once shortest values have placeless holds profile limits bytes records w =
+canonical-well-formed once shortest values have placeless holds profile limits bytes records well =
+    let w = well-read profile limits bytes records well in
     let m = recs records in
     let S = skeleton m in
     let ps = cut_pieces S in
@@ -239,12 +241,12 @@ canonical-well-formed once shortest values have placeless holds profile limits b
     let P : List Piece = map normal (pieces m) in
     let n : normal_pieces m ≡ P = sym (normal-pieces m) in
     let writable : Each IsWritable P = subst (Each IsWritable) n (writable-pieces once shortest values have placeless [] records (λ b k. tt) w.spelled short) in
-    let module_holds = holds profile limits bytes records w in
+    let module_holds = holds profile limits bytes records well in
     let kept : PiecesAreKept profile limits [] ps = kept-cut profile limits [] S (kept-skeleton profile limits [] P (kept-module profile limits bytes records w module_holds)) in
     let limited = items-limited profile limits bytes records w module_holds in
     let few : item_count [] + items ps ≤ item_limit = little _ (items ps) (item_count m) item_limit (items-sum ps) (canonical-items m) limited in
     let closed : Closed P = subst Closed n (subst (λ x. Closed (normal_pieces (recs x))) (sym w.framed.last.2) (closed-pieces [] w.framed.last.0 w.framed.last.1 w.framed.last.3 w.framed.last.4)) in (
-      record {
+      well-formed profile limits _ raws (record {
         framed = record {
           spelled = refl;
           each = records-framed ps raws all;
@@ -255,6 +257,6 @@ canonical-well-formed once shortest values have placeless holds profile limits b
         spelled = spelled-typed ps raws all;
         blocks = result-trees profile limits [] ps raws all kept;
         kept = λ before after r e. result-kept profile limits [] [] ps raws no-tables all kept few before after r e;
-      },
+      }),
       fewer (item_count (recs raws)) _ (items ps) (item_count m) (result-items profile limits [] ps raws [] all kept) (items-sum ps) (canonical-items m),
     )

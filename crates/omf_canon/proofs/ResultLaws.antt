@@ -21,7 +21,8 @@ use Rattle.omf_check.specs.Threads.{PlainReference, frame_of, target_of}
 use Rattle.omf_check.specs.declared.method.FrameMethod.{FrameMethod}
 use Rattle.omf_check.specs.declared.method.TargetMethod.{TargetMethod}
 use Rattle.omf_check.specs.declared.method.FrameMethod.TheVariants.{Of, Location as F4, Target as F5}
-use Rattle.omf_check.specs.WellFormed.{IsWellFormed, HasTrees, recs}
+use Rattle.omf_check.specs.WellFormed.{HasTrees, recs}
+use Rattle.omf_check.proofs.WellLaws.{IsWellRead}
 use Rattle.omf_check.specs.declared.profile.Profile.{Profile}
 use Rattle.omf_reloc.specs.Plain.{Piece, Kept, PlainFixup, plain_fixup, pieces}
 use Rattle.omf_canon.specs.Inner.Names.{unthreaded_fixup}
@@ -65,7 +66,7 @@ module _ (profile : Profile) (limits : Limits) where
   abbrev Tree : Raw → Type 0
   Tree r = HasTrees limits r.kind (typed r).contents
 
-  module _ (bytes : List ℕ) (records : List Raw) (w : IsWellFormed profile limits bytes records) (m : ModuleHolds limits (recs records)) where
+  module _ (bytes : List ℕ) (records : List Raw) (w : IsWellRead profile limits bytes records) (m : ModuleHolds limits (recs records)) where
     kept-from : (done rest : List Raw) (L b : List Rec) → records ≡ done ++ rest → recs done ≡ L → SameTables L b → All Tree rest → PiecesAreKept profile limits b (with_before normal_at L (recs rest))
     kept-from done [] L b e is t trees = tt
     kept-from done (r ∷ rest) L b e is t trees =

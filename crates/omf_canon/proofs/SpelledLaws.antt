@@ -17,6 +17,7 @@ use Rattle.omf_records.specs.Laws.{AreTyped, ShortestAreTyped, ValuesAreTyped, T
 use Rattle.omf_records.specs.Valued.{IsThere, IsReferenceValue, IsSubrecordValue, is_fixupp, HaveReferenceValues}
 use Rattle.omf_check.specs.Tables.{subrecords, subrecords_in}
 use Rattle.omf_check.specs.Threads.{PlainReference, plain}
+use Rattle.omf_check.proofs.WellLaws.{well-read}
 use Rattle.omf_check.specs.WellFormed.{IsWellFormed, recs}
 use Rattle.omf_check.specs.declared.profile.Profile.{Profile}
 use Rattle.omf_reloc.specs.Plain.{Piece, Kept, Fixed, End, PlainFixup, plain_fixup, pieces}
@@ -287,7 +288,7 @@ module _ (once : AreTyped) (shortest : ShortestAreTyped) (values : ValuesAreType
   pub canonical-holds : (profile : Profile) (limits : Limits) (bytes : List ℕ) (records : List Raw) → IsWellFormed profile limits bytes records → CanonicalHolds records
   canonical-holds profile limits bytes records w =
       let S = skeleton (recs records) in
-      let all = canonical-spells records w.spelled (λ k d lt. (w.framed.each k d lt).0) in
+      let all = canonical-spells records (well-read profile limits bytes records w).spelled (λ k d lt. (w.framed.each k d lt).0) in
       let same : map normal (pieces (recs (canonical_raws S))) ≡ cut_pieces S = normal-pieces (recs (canonical_raws S)) ∙ spelled-pieces [] (cut_pieces S) (canonical_raws S) all in
       record {
         typed = spelled-typed (cut_pieces S) (canonical_raws S) all;

@@ -20,6 +20,7 @@ use Rattle.omf_check.specs.Inner.Kept.{no_threads, set_thread, set_threads}
 use Rattle.omf_check.specs.Listed.{IsReadable, StartsWithRecord}
 use Rattle.omf_check.specs.Module.{records_in}
 use Rattle.omf_check.specs.Sound.{ModuleHolds}
+use Rattle.omf_check.proofs.WellLaws.{well-read}
 use Rattle.omf_check.specs.WellFormed.{IsWellFormed, recs}
 use Rattle.omf_check.specs.declared.profile.Profile.{Profile}
 use Rattle.omf_check.specs.declared.threads.Threads.{Threads}
@@ -232,7 +233,7 @@ left-first profile limits bytes w out group threads holds h o g t =
     record {
       records = records_in bytes;
       spelled = w.framed.spelled;
-      readable = λ k d low. record { is_record = w.framed.each k d low; taken = w.framed.types k d low; typed = w.spelled k d low };
+      readable = λ k d low. record { is_record = w.framed.each k d low; taken = w.framed.types k d low; typed = (well-read profile limits bytes (records_in bytes) w).spelled k d low };
       are_set = subst (λ (x : Threads). RecsAreSet x m) (sym t) (all-set limits m holds);
       written = write-first m out group (record_pieces threads m) h o g (ap (λ (x : Threads). record_pieces x m) t ∙ all-given m);
     }

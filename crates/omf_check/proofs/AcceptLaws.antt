@@ -16,6 +16,7 @@ use Rattle.omf_check.specs.WellFormed.{IsWellFormed, IsAccepted, HasTrees}
 use Rattle.omf_records.specs.Inner.LawProofs.{are_typed}
 use Rattle.omf_check.proofs.TreeLaws.{no_block_fault}
 use Rattle.omf_frame.proofs.FaultLaws.{untrue, all_cons}
+use Rattle.omf_check.proofs.WellLaws.{well-read}
 use Rattle.omf_check.proofs.UniqueLaws.{AreSound, all_first, all_rest, same_front, no_fault_here, sound_rest}
 use Rattle.omf_check.proofs.StepLaws.{no_step}
 
@@ -45,7 +46,8 @@ module _ (profile : Profile) (limits : Limits) where
   -- The records of a module have no fault.
   pub module_sound : (bytes : List ℕ) (rs : List Raw) → IsWellFormed profile limits bytes rs → AreSound profile limits [] rs
   unfolding AreSound
-  module_sound bytes rs w earlier later r e =
+  module_sound bytes rs m earlier later r e =
+      let w = well-read profile limits bytes rs m in
       no_step profile limits earlier r (all_middle IsRecord rs earlier later r e w.framed.each) (record {
         known = all_middle (λ x. IsTrue (is_taken x.kind)) rs earlier later r e w.framed.types;
         headed = headed earlier later rs r bytes e w.framed.spelled w.framed.first;

@@ -1,6 +1,7 @@
 pub mod UniqueLaws
 pub mod RefusalLaws
 pub mod StepLaws
+pub mod WellLaws
 pub mod TreeLaws
 pub mod AcceptLaws
 pub mod VerdictLaws
@@ -29,6 +30,7 @@ pub mod TypeLaws
 pub mod KnownLaws
 pub mod LimitLaws
 pub mod SoundLaws
+pub mod UseLaws
 pub mod ThreadLaws
 pub mod Walked
 pub mod PassedLaws

@@ -13,6 +13,7 @@ use Rattle.omf_check.specs.Rules.{contents_rules, data_rules, room, item_limit, 
 use Rattle.omf_check.specs.Tables.{item_count}
 use Rattle.omf_check.specs.WellFormed.{IsWellFormed, HasTrees, recs}
 use Rattle.omf_check.specs.declared.profile.Profile.{Profile}
+use Rattle.omf_check.proofs.WellLaws.{well-read, well-formed}
 use Rattle.omf_check.proofs.AcceptLaws.{all_middle}
 
 module _ (profile : Profile) (small large : Limits) (deeper : small.nesting ≤ large.nesting) (longer : small.expanded ≤ large.expanded) where
@@ -31,11 +32,13 @@ module _ (profile : Profile) (small large : Limits) (deeper : small.nesting ≤ 
   rules_same before kind _ h = refl
 
   pub module_grows : (bytes : List ℕ) (records : List Raw) → IsWellFormed profile small bytes records → IsWellFormed profile large bytes records
-  module_grows bytes records w = record {
-    framed = w.framed;
-    spelled = w.spelled;
-    blocks = λ k d low. trees_grow _ _ (w.blocks k d low);
-    kept = λ before after r e.
-        let h = all_middle (λ x. HasTrees small x.kind (typed x).contents) records before after r e w.blocks in
-        subst (λ rs. AreKept (room item_limit (item_count (recs before)) (item_places (typed r).contents) ++ rs)) (rules_same (recs before) r.kind (typed r).contents h) (w.kept before after r e);
-  }
+  module_grows bytes records m =
+      let w = well-read profile small bytes records m in
+      well-formed profile large bytes records (record {
+        framed = w.framed;
+        spelled = w.spelled;
+        blocks = λ k d low. trees_grow _ _ (w.blocks k d low);
+        kept = λ before after r e.
+            let h = all_middle (λ x. HasTrees small x.kind (typed x).contents) records before after r e w.blocks in
+            subst (λ rs. AreKept (room item_limit (item_count (recs before)) (item_places (typed r).contents) ++ rs)) (rules_same (recs before) r.kind (typed r).contents h) (w.kept before after r e);
+      })

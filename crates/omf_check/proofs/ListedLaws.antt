@@ -15,6 +15,7 @@ use Rattle.omf_check.specs.Listed.{placed_from, IsReadable, StartsWithRecord, Ar
 use Rattle.omf_check.specs.Module.{records_in}
 use Rattle.omf_check.specs.Inner.Parts.{IsChecked}
 use Rattle.omf_check.specs.WellFormed.{IsWellFormed}
+use Rattle.omf_check.proofs.WellLaws.{well-read}
 use Rattle.omf_check.proofs.Moving.{item_more, records_size}
 use Rattle.omf_check.proofs.SessionLaws.{split_all}
 
@@ -156,7 +157,7 @@ checked_list profile bytes kept count c =
     record {
       records = rs;
       spelled = w.framed.spelled;
-      readable = λ k d low. record { is_record = w.framed.each k d low; taken = w.framed.types k d low; typed = w.spelled k d low };
+      readable = λ k d low. record { is_record = w.framed.each k d low; taken = w.framed.types k d low; typed = (well-read profile profile_limits bytes (records_in bytes) w).spelled k d low };
       few = omega (arith, m, t, b);
       short = far (length bytes) (length (flat_map raw_bytes rs)) (length rs) s z (let le : length rs ≤ 1048576 = omega (arith, m, t, b) in le);
     }

@@ -30,6 +30,7 @@ use Rattle.omf_check.specs.Tables.{names, segments, groups, is_defined, item_cou
 use Rattle.omf_check.specs.Threads.{FrameMethod, Of, F4, F5, TargetMethod, T0, frame_setting, target_setting, frame_of, target_of}
 use Rattle.omf_check.specs.WellFormed.{IsWellFormed, HasTrees, recs}
 use Rattle.omf_check.specs.declared.profile.Profile.{Profile}
+use Rattle.omf_check.proofs.WellLaws.{well-read, IsWellRead}
 use Rattle.omf_check.proofs.AcceptLaws.{all_left, all_right, all_middle}
 use Rattle.omf_check.proofs.UniqueLaws.{all_first, all_rest}
 
@@ -307,7 +308,7 @@ IsSpelled r = IsTyped (typed r) r.body
 abbrev HasBlocks : Limits → Raw → Type 0
 HasBlocks limits r = HasTrees limits r.kind (typed r).contents
 
-module _ (profile : Profile) (limits : Limits) (bytes : List ℕ) (records : List Raw) (w : IsWellFormed profile limits bytes records) where
+module _ (profile : Profile) (limits : Limits) (bytes : List ℕ) (records : List Raw) (w : IsWellRead profile limits bytes records) where
   raw_holds : (earlier later : List Raw) (r : Raw) → records ≡ earlier ++ r ∷ later → ContentsHold limits (recs earlier) r.kind (typed r).contents
   raw_holds earlier later r e =
       let c : Contents = (typed r).contents in
@@ -338,7 +339,8 @@ no_end_in (x ∷ front) s h =
     (no_end_in front (all_rest IsSpelled x front s) (all_rest (λ r. IsTrue (not (is_end r.kind))) x front h))
 
 pub module_holds : (profile : Profile) (limits : Limits) (bytes : List ℕ) (records : List Raw) → IsWellFormed profile limits bytes records → ModuleHolds limits (recs records)
-module_holds profile limits bytes records w =
+module_holds profile limits bytes records m =
+    let w = well-read profile limits bytes records m in
     let (front, end, e, is, others) = w.framed.last in
     let spelled : All IsSpelled (front ++ end ∷ []) = subst (All IsSpelled) e w.spelled in
     record {

@@ -21,6 +21,7 @@ use Rattle.omf_records.specs.Inner.LawProofs.{decided}
 use Rattle.omf_records.specs.Inner.Steps.{AreBytes-front, AreBytes-back}
 use Rattle.omf_check.proofs.TreeLaws.{trees_of}
 use Rattle.omf_frame.proofs.FaultLaws.{all_cons, least_is_least}
+use Rattle.omf_check.proofs.WellLaws.{well-formed}
 use Rattle.omf_check.proofs.UniqueLaws.{AreSound, sound_first, sound_rest, refused_once}
 use Rattle.omf_frame.proofs.StepLaws.{has_front, framed_of, first_parts}
 use Rattle.omf_check.proofs.StepLaws.{IsSound, sound_of}
@@ -78,7 +79,7 @@ module _ (profile : Profile) (limits : Limits) where
       let at = sound_at rs records sound in
       let typed_at : (earlier later : List Raw) (r : Raw) → rs ≡ earlier ++ r ∷ later → IsTyped (typed r) r.body
       = λ earlier later r e. (decided r (all_middle (λ x. AreBytes x.body) rs earlier later r e bodies)).1 (at earlier later r e).read in
-      record {
+      well-formed profile limits (flat_map raw_bytes (front ++ end ∷ [])) (front ++ end ∷ []) (record {
         framed = record {
           spelled = refl;
           each = records;
@@ -90,7 +91,7 @@ module _ (profile : Profile) (limits : Limits) where
         blocks = all_split (λ r. HasTrees limits r.kind (typed r).contents) rs (λ earlier later r e.
             trees_of limits r (all_middle (λ x. AreBytes x.body) rs earlier later r e bodies) (typed_at earlier later r e) (at earlier later r e).blocks (at earlier later r e).long);
         kept = λ earlier later r e. (at earlier later r e).kept;
-      }
+      })
 
 module _ (profile : Profile) (limits : Limits) (input : List ℕ) where
   -- The meaning of a verdict.

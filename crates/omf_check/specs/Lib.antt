@@ -4,6 +4,7 @@ pub mod Rules
 pub mod Listed
 pub mod WellFormed
 pub mod Sound
+pub mod Uses
 pub mod Refusal
 pub mod Module
 pub mod Session

@@ -13,6 +13,7 @@ use Rattle.omf_check.specs.Module.{records_in}
 use Rattle.omf_check.specs.Refusal.{IsRefused}
 use Rattle.omf_check.specs.WellFormed.{IsWellFormed}
 use Rattle.omf_check.specs.declared.profile.Profile.{Profile}
+use Rattle.omf_check.proofs.WellLaws.{well-read}
 use Rattle.omf_check.proofs.Passing.{bodies_of}
 use Rattle.omf_check.proofs.StepLaws.{sound_of}
 use Rattle.omf_dump.specs.Dump.{AreRecords}
@@ -21,7 +22,7 @@ use Rattle.omf_dump.proofs.WalkLaws.{in_between}
 pub module_records : (profile : Profile) (bytes shown : List ℕ) (count : ℕ) → shown ≡ bytes → IsWellFormed profile profile_limits bytes (records_in bytes) → count ≡ length (records_in bytes) → count < 2 ^ 32 → AreRecords shown (records_in bytes)
 module_records profile bytes shown count e w is few = record {
   spelled = e ∙ w.framed.spelled;
-  readable = λ k d low. record { is_record = w.framed.each k d low; taken = w.framed.types k d low; typed = w.spelled k d low };
+  readable = λ k d low. record { is_record = w.framed.each k d low; taken = w.framed.types k d low; typed = (well-read profile profile_limits bytes (records_in bytes) w).spelled k d low };
   few = omega (arith, is, few);
 }
 

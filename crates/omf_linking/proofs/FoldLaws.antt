@@ -13,6 +13,7 @@ use Rattle.omf_check.specs.Listed.{IsReadable, StartsWithRecord}
 use Rattle.omf_check.specs.Module.{Module, records_in, recs_of, typed_modules}
 use Rattle.omf_check.specs.WellFormed.{IsWellFormed}
 use Rattle.omf_check.specs.declared.profile.Profile.{Profile}
+use Rattle.omf_check.proofs.WellLaws.{well-read}
 use Rattle.omf_check.proofs.ListedLaws.{records_back}
 use Rattle.omf_linking.specs.Folded.{IsFolded, folded, folded_record}
 use Rattle.omf_linking.specs.Inner.Folding.{FoldTo}
@@ -27,7 +28,7 @@ pub readable-module : (profile : Profile) (limits : Limits) (bytes : List ℕ) �
 readable-module profile limits bytes w = record {
   records = records_in bytes;
   spelled = w.framed.spelled;
-  readable = λ k d low. record { is_record = w.framed.each k d low; taken = w.framed.types k d low; typed = w.spelled k d low };
+  readable = λ k d low. record { is_record = w.framed.each k d low; taken = w.framed.types k d low; typed = (well-read profile limits bytes (records_in bytes) w).spelled k d low };
 }
 
 all-head : (r : Raw) (rs : List Raw) → All IsReadable (r ∷ rs) → IsReadable r

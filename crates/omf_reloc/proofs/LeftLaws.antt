@@ -14,6 +14,7 @@ use Rattle.omf_check.specs.Listed.{IsReadable, StartsWithRecord}
 use Rattle.omf_check.specs.Module.{records_in}
 use Rattle.omf_check.specs.WellFormed.{IsWellFormed}
 use Rattle.omf_check.specs.declared.profile.Profile.{Profile}
+use Rattle.omf_check.proofs.WellLaws.{well-read}
 use Rattle.omf_check.proofs.ListedLaws.{front_taken, front_short}
 
 -- The contents that are read are those that are spelled.
@@ -31,7 +32,7 @@ pub record AreLeft (left : List ℕ) (records : List Raw) : Type 0 where
 pub all-left : (profile : Profile) (limits : Limits) (bytes : List ℕ) → IsWellFormed profile limits bytes (records_in bytes) → AreLeft bytes (records_in bytes)
 all-left profile limits bytes w = record {
   spelled = w.framed.spelled;
-  readable = λ k d low. record { is_record = w.framed.each k d low; taken = w.framed.types k d low; typed = w.spelled k d low };
+  readable = λ k d low. record { is_record = w.framed.each k d low; taken = w.framed.types k d low; typed = (well-read profile limits bytes (records_in bytes) w).spelled k d low };
 }
 
 some-left : (rs : List Raw) (bytes : List ℕ) → bytes ≡ flat_map raw_bytes rs → 0 < length bytes → (r : Raw) × (more : List Raw) × (rs ≡ r ∷ more)

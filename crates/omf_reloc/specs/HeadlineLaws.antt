@@ -6,8 +6,8 @@ use Rattle.omf_check.specs.declared.profile.Profile.{Profile}
 use Rattle.omf_placement.specs.Placement.{Places}
 use Rattle.omf_frame.specs.Framing.{Raw}
 use Rattle.omf_image.specs.Limits.{profile_limits}
-use Rattle.omf_check.specs.Sound.{ModuleHolds}
-use Rattle.omf_check.specs.WellFormed.{recs, IsAccepted}
+use Rattle.omf_check.specs.Uses.{UsesAreDefined}
+use Rattle.omf_check.specs.WellFormed.{IsAccepted}
 use Rattle.omf_reloc.specs.Headline.{Headline}
 use Rattle.omf_reloc.specs.Laws.{AllLieInside}
 use Rattle.omf_reloc.specs.declared.headline.Answer.{Answer}
@@ -29,5 +29,5 @@ AnswersAreUnique = (profile : Profile) (input : List ℕ) (pl : Places) (answer 
 -- In a module that an input begins with, every index and every thread that is used is defined. At every placement, every byte that is laid is
 -- inside its segment, and every byte that a fixup changes is inside its data record.
 abbrev pub AcceptedAreSafe : Type 0
-AcceptedAreSafe = (profile : Profile) (input : List ℕ) (records : List Raw) → IsAccepted profile profile_limits input records
-    → ModuleHolds profile_limits (recs records) × ((pl : Places) → AllLieInside pl (recs records))
+AcceptedAreSafe = (profile : Profile) (input : List ℕ) (records : List Raw) (a : IsAccepted profile profile_limits input records)
+    → UsesAreDefined a.well_formed.typed_records × ((pl : Places) → AllLieInside pl a.well_formed.typed_records)
