@@ -1,20 +1,32 @@
 -- How programs answer their arguments.
-use Rattle.std.proofs.Common.{◌≡◌, ◌⊎◌, ℕ, List, [], Result, Ok, Err, Option, Some, None, Bool, subst, inl, inr}
-use Rattle.std.specs.Prelude.{IfOk}
+use Rattle.std.proofs.Common.{◌≡◌, ◌≤◌, ◌⊎◌, ℕ, List, [], Result, Ok, Err, Option, Some, None, Bool, subst, inl, inr}
+use Rattle.std.specs.Prelude.{IfOk, OnErr}
 use Rattle.clap.specs.Words.{Text, fault_of, subcommand_of}
 use Rattle.omf_check.specs.declared.profile.Profile.{Profile}
-use Rattle.omf_frame.specs.Device.{Device}
+use Rattle.std.specs.IoError.{error_kind}
+use Rattle.std.specs.declared.io.Error.{Error}
+use Rattle.omf_frame.specs.Device.{Device, HasFailed, TriesAgain, Writes, is_interruption}
+use Rattle.omf_frame.proofs.Tries.{last_try}
 use Rattle.omf_cmd.specs.Reports.{report, AnswersTo, IsFound, IsPerformed}
 use Rattle.omf_cmd.specs.Parsed.{IsParsed}
-use Rattle.omf_cmd.specs.Programs.{Acts, ProgramAnswers}
-use Rattle.omf_cmd.specs.Runs.{IsWritten, PrintsOr}
+use Rattle.omf_cmd.specs.Programs.{Acts, EndsFlushed, FaultReport, HasRunOn, IsOutOfMemory, ProgramAnswers}
+use Rattle.omf_cmd.specs.Runs.{IsWritten}
 use Rattle.omf_cmd.specs.Words.{asks, job_named, omf_app, profile_of, usage}
 use Rattle.omf_cmd.specs.declared.words.Job.{Job}
 
--- a text is written, or a front of it
-pub written : {F : Type 0} (failed : F) (old new : Device) (text : List ℕ) (r : Result (Unit {0}) F) → PrintsOr failed old new (Ok text) r → IsWritten old new text
-written failed old new text (Ok done) p = inl p
-written failed old new text (Err e) p = inr (p.1, p.2)
+-- bytes that are pushed are written, or a front of them
+pub told : (old new : Device) (text : List ℕ) (r : Result (Unit {0}) Error) → Writes old.bytes new.bytes r text → OnErr r (HasFailed old.failures new.failures) → old.failures ≤ new.failures → TriesAgain old new r
+    → IsWritten old new text
+told old new text (Ok done) w f g t = inl ((t, g), w)
+told old new text (Err e) w f g t = inr ((f, last_try (is_interruption (error_kind e)) old new t), w)
+
+-- A program that ran out of memory before its arguments were read ran: it answers so to some arguments.
+pub ran_out : {T F : Type 0} (asks : List (List ℕ) → Option T → Type 0) (performs : T → Device → Device → Device → Device → Result (Unit {0}) F → Type 0) (report : F → FaultReport) (usage : List ℕ)
+    (writer writer' : Device) (flushed : Bool) (status : ℕ) → ((reader : Device) → EndsFlushed (IsOutOfMemory reader reader writer) writer' flushed status) → HasRunOn (ProgramAnswers asks performs report usage) writer writer' flushed status
+ran_out asks performs report usage writer writer' flushed status h =
+    let idle : Device = record { bytes = None; failures = 0; breaks = 0 } in
+    let e = h idle in
+    ([], idle, idle, record { between = e.between; ended = e.ended; answer = inr e.answer; kept = e.kept; is = e.is })
 
 -- what `command` finds
 pub is_found : {E : Type 0} (arguments : List Text) (r : Result (Option (Job × Profile)) E)

@@ -42,6 +42,16 @@ fault_words (fault.Reach f) = codes "reach" ∷ reach_words f
 abbrev pub fault_line : RunFault → List ℕ
 fault_line f = in_words (fault_words f)
 
+-- What a fault means.
+abbrev pub fault_sentence : RunFault → List ℕ
+fault_sentence fault.Memory = codes "memory ran out"
+fault_sentence fault.Read = codes "the input could not be read"
+fault_sentence fault.Write = codes "the output could not be written"
+fault_sentence (fault.Refused r p) = codes "the input does not begin with a well-formed module"
+fault_sentence (fault.Line n) = codes "a line of the placement gives no entry"
+fault_sentence fault.TooLong = codes "the placement has more than 4,194,304 bytes"
+fault_sentence (fault.Reach f) = codes "the placement does not reach"
+
 -- The text printed for a fault: its line and a line feed; nothing if the writer failed.
 abbrev pub fault_text : RunFault → List ℕ
 fault_text fault.Write = []

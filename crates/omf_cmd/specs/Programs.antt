@@ -55,11 +55,14 @@ pub record EndsFlushed (answers : Device → ℕ → Type 0) (writer' : Device) 
   pub kept : Keeps between.bytes writer'.bytes
   pub is : status ≡ status_after ended flushed
 
--- A program ran, on some arguments and devices, and ended with this status. The status is 3 also if memory ran out before, and if the output
--- could not be flushed.
+-- A program ran with this output, on some arguments and a reader, and the output was flushed at its end.
+abbrev pub HasRunOn : (List (List ℕ) → Device → Device → Device → Device → ℕ → Type 0) → Device → Device → Bool → ℕ → Type 0
+HasRunOn answers writer writer' flushed status =
+    (arguments : List (List ℕ)) × (reader : Device) × (reader' : Device) × EndsFlushed (answers arguments reader reader' writer) writer' flushed status
+
+-- A program ran so on some output, and ended with this status.
 abbrev pub HasRun : (List (List ℕ) → Device → Device → Device → Device → ℕ → Type 0) → ℕ → Type 0
-HasRun answers status =
-    ((arguments : List (List ℕ)) × (reader : Device) × (reader' : Device) × (writer : Device) × (writer' : Device) × answers arguments reader reader' writer writer' status) ⊎ (status ≡ 3)
+HasRun answers status = (writer : Device) × (writer' : Device) × (flushed : Bool) × HasRunOn answers writer writer' flushed status
 
 -- Bytes in memory as a device. Its only failures are refused growths, each of which is a break.
 abbrev pub in_memory : ℕ → List ℕ → Device

@@ -1,6 +1,7 @@
 //! Why a run of `omf` fails.
 
 ghost use Rattle.std.specs.Prelude.{◌≡◌};
+ghost use Rattle.omf_cmd.specs.FaultLine.{fault_sentence};
 ghost use Rattle.omf_cmd.specs.Reports.{report};
 ghost use Rattle.omf_cmd.specs.declared.fault.RunFault.TheVariants.{Memory, Reach};
 ghost use Rattle.omf_cmd.specs.Relocating.{of_text, of_relocate};
@@ -41,7 +42,9 @@ pub enum RunFault {
 
 impl RunFault {
     /// What the fault means, in a sentence without a period.
-    fn sentence(&self) -> &'static str {
+    fn sentence(&self) -> &'static str
+        ensures { result.now ≡ fault_sentence self.now }
+    {
         match self {
             RunFault::Memory => "memory ran out",
             RunFault::Read => "the input could not be read",
@@ -56,6 +59,11 @@ impl RunFault {
 
 /// What the fault means.
 impl fmt::Display for RunFault {
+    ghost use Rattle.std.specs.Prelude.{Some};
+    ghost use Rattle.omf_cmd.specs.FaultLine.{fault_sentence};
+
+    ghost output = { λ fault. Some (fault_sentence fault) };
+
     fn fmt<W: fmt::Write>(&self, f: &mut fmt::Formatter<W>) -> fmt::Result {
         f.write_str(self.sentence())
     }

@@ -1,7 +1,8 @@
 //! A run of a program whose output is flushed at its end.
 
 ghost use Rattle.std.specs.Prelude.{◌≡◌, ◌≤◌, map, string_bytes, is_ok};
-ghost use Rattle.omf_cmd.specs.Programs.{EndsFlushed, ProgramAnswers, status_after};
+ghost use Rattle.omf_cmd.specs.Programs.{EndsFlushed, IsOutOfMemory, ProgramAnswers, status_after};
+ghost use Rattle.omf_frame.specs.Device.{Device};
 
 use crate::program::{Program, fail_early, run_with};
 use omf_frame::{Sink, Source, Writing};
@@ -39,7 +40,8 @@ pub fn run_and_flush<P: Program, S: Source, W: Write>(
 
 /// Prints "memory", flushes the output, and returns the exit status 3.
 pub(crate) fn fail_and_flush<W: Write>(output: &mut Writing<W>) -> u8
-    ensures { result ≡ 3 }
+    ensures status { result ≡ 3 }
+    ensures prints { (reader : Device) → EndsFlushed (IsOutOfMemory reader reader (⟦<Writing<W> as Sink>⟧.seen output.old)) (⟦<Writing<W> as Sink>⟧.seen output.new) output.new.is_flushed result }
 {
     let status = fail_early(output);
     let _ = output.flush();

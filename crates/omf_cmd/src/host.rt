@@ -2,11 +2,11 @@
 
 ghost use Rattle.std.specs.Prelude.{◌≡◌, ◌≤◌};
 ghost use Rattle.std.specs.Process.{exit_status};
-ghost use Rattle.omf_cmd.specs.Programs.{HasRun, ProgramAnswers};
+ghost use Rattle.omf_cmd.specs.Programs.{HasRun, HasRunOn, ProgramAnswers};
 
 use crate::flushing::{fail_and_flush, run_and_flush};
 use crate::program::Program;
-use omf_frame::{Buffered, Writing};
+use omf_frame::{Buffered, Sink, Writing};
 use std::alloc::{AllocError, Global};
 use std::env;
 use std::io::{BufReader, ErrorKind, StdinLock, Write};
@@ -33,10 +33,11 @@ fn arguments_and_input(rt: &HostRuntime) -> Result<(Vec<String>, Buffered<StdinL
     Ok((arguments, Buffered::new(input)))
 }
 
-/// Runs a program on the arguments and the standard input of the process. Returns the exit status.
+/// Runs a program on the arguments and the standard input of the process, and flushes the output. Returns the exit status. If memory runs
+/// out before, it prints "memory", flushes, and returns 3.
 fn run_process<P: Program, W: Write>(rt: &HostRuntime, output: &mut Writing<W>) -> u8
     ensures known { result ≤ 3 }
-    ensures ran { HasRun (ProgramAnswers P.asks P.performs P.Fault.report P.called) result }
+    ensures ran { HasRunOn (ProgramAnswers P.asks P.performs P.Fault.report P.called) (⟦<Writing<W> as Sink>⟧.seen output.old) (⟦<Writing<W> as Sink>⟧.seen output.new) output.new.is_flushed result }
 {
     match arguments_and_input(rt) {
         Ok((arguments, mut input)) => {

@@ -1,6 +1,6 @@
 //! Reading the placement text.
 
-ghost use Rattle.std.specs.Prelude.{IfOk, IfErr};
+ghost use Rattle.std.specs.Prelude.{◌+◌, ◌*◌, ◌≤◌, length, IfOk, IfErr};
 ghost use Rattle.omf_cmd.specs.Relocating.{IsWholeText, IsTextFault};
 ghost use Rattle.omf_cmd.specs.Runs.{IsReadCause};
 
@@ -23,6 +23,9 @@ pub fn read_text<S: Source>(alloc: Global, source: &mut S) -> Result<Vec<u8>, Ru
     ensures text { IfOk result (λ text. IsWholeText (S.seen source.old).bytes (S.seen source.new).bytes text.items) }
     ensures fault { IfErr result (IsTextFault (S.seen source.old).bytes (S.seen source.new).bytes) }
     ensures cause { IsReadCause (S.seen source.old) (S.seen source.new) result }
+    // Before each byte, and before the end, at most a thousand failures are passed over. At most 4,194,305 bytes are read.
+    ensures bounded { IfOk result (λ text. (S.seen source.new).failures ≤ (S.seen source.old).failures + 1000 * (length text.items + 1)) }
+    ensures patient { (S.seen source.new).failures ≤ (S.seen source.old).failures + 1000 * 4194305 }
 {
     let mut buffer = [0; PIECE];
     let mut text = Vec::new(alloc);
