@@ -2,7 +2,7 @@
 
 ghost use Rattle.omf_placement.specs.Quoted.{hex};
 ghost use Rattle.std.specs.Option.{option_map_or};
-ghost use Rattle.std.specs.Prelude.{◌≡◌, ◌+◌, ◌^◌, ◌≤◌, ◌++◌, flat_map, length, option_map, OnErr, ◌∷◌, [], codes};
+ghost use Rattle.std.specs.Prelude.{◌≡◌, ◌+◌, ◌*◌, ◌^◌, ◌≤◌, ◌++◌, flat_map, length, option_map, OnErr, ◌∷◌, [], codes};
 ghost use Rattle.omf_frame.specs.Bytes.{AddsText};
 ghost use Rattle.omf_image.specs.Inner.Joined.{runs_of};
 ghost use Rattle.omf_image.specs.Overlay.{byte_at};
@@ -21,6 +21,9 @@ use std::alloc::{AllocError, Global};
 
 /// The most bytes in a line.
 const LINE_BYTES: usize = 16;
+
+/// The length of the longest line: 13 bytes of its place, 48 of 16 bytes, and a line feed.
+const LINE: usize = 62;
 
 /// Appends a segment and an offset in it, as `0001:00000010`.
 #[tactic(auto, using(omf_records::specs::Inner::Begins::begins_itself, omf_records::specs::Inner::Begins::begins_more, omf_records::specs::Inner::Begins::begins_then))]
@@ -45,15 +48,42 @@ pub fn print_bytes(text: &mut Vec<u8>, bytes: &[u8]) -> Result<(), AllocError>
     text.extend_from_slice(shown)
 }
 
-/// Appends a line: the place of its first byte, and its bytes.
+/// Writes a segment and an offset in it over 13 bytes, as `0001:00000010`.
+#[inline(always)]
+fn write_place(text: &mut [u8], segment: u16, offset: u32)
+    requires { length text.old ≡ 13 }
+    ensures { text.new ≡ place_text segment offset }
+{
+    let (number, others) = text.split_at_mut(4);
+    let (colon, place) = others.split_at_mut(1);
+    number.copy_from_slice(&four_digits(segment));
+    colon.copy_from_slice(b":");
+    place.copy_from_slice(&eight_digits(offset));
+}
+
+/// Writes a line over a text of its length: the place of its first byte, and its bytes.
+#[inline(always)]
+fn write_line(text: &mut [u8], segment: u16, offset: u32, bytes: &[u8])
+    requires { length text.old ≡ 14 + 3 * length bytes.now }
+    ensures { text.new ≡ line_text (place_text segment) offset bytes.now }
+{
+    let (place, others) = text.split_at_mut(13);
+    let (shown, end) = others.split_at_mut(3 * bytes.len());
+    write_place(place, segment, offset);
+    write_bytes(shown, bytes);
+    end.copy_from_slice(b"\n");
+}
+
+/// Appends a line: the place of its first byte, and its bytes. If memory runs out, the text is unchanged.
+#[inline(always)]
 fn print_line(text: &mut Vec<u8>, segment: u16, offset: u32, bytes: &[u8]) -> Result<(), AllocError>
     requires { length bytes.now ≤ 16 }
     ensures { AddsText result text.old.items text.new.items (line_text (place_text segment) offset bytes.now) }
 {
-    print_place(text, segment, offset)?;
-    print_bytes(text, bytes)?;
-    text.push(b'\n')?;
-    Ok(())
+    let mut line = [0; LINE];
+    let (shown, _rest) = line.split_at_mut(14 + 3 * bytes.len());
+    write_line(shown, segment, offset, bytes);
+    text.extend_from_slice(shown)
 }
 
 /// Prints a run of covered bytes in lines of 16; the last line has what is left.

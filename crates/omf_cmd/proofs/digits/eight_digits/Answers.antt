@@ -1,6 +1,6 @@
 use Rattle.std.proofs.Common.{arith}
-use Rattle.omf_cmd.proofs.Hexadecimal.{hex_eight}
+use Rattle.omf_cmd.proofs.Hexadecimal.{eight_by_bytes}
 use Rattle.omf_cmd.proofs.digits.eight_digits.Goals as goal
 
 pub returns : goal.returns
-returns c = rw (c.digit.ensures, c.digit-2.ensures, c.digit-3.ensures, c.digit-4.ensures, c.digit-5.ensures, c.digit-6.ensures, c.digit-7.ensures, c.digit-8.ensures) (hex_eight c.args.number (omega arith))
+returns c = eight_by_bytes c.args.number (omega arith) _ _ _ _ c.two_digits.ensures c.two_digits-2.ensures c.two_digits-3.ensures c.two_digits-4.ensures

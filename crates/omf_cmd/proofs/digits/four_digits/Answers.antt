@@ -1,6 +1,6 @@
 use Rattle.std.proofs.Common.{arith}
-use Rattle.omf_cmd.proofs.Hexadecimal.{hex_four}
+use Rattle.omf_cmd.proofs.Hexadecimal.{four_by_bytes}
 use Rattle.omf_cmd.proofs.digits.four_digits.Goals as goal
 
 pub returns : goal.returns
-returns c = rw (c.digit.ensures, c.digit-2.ensures, c.digit-3.ensures, c.digit-4.ensures, c.from-number.ensures) (hex_four c.args.number (omega arith))
+returns c = four_by_bytes c.args.number (omega arith) _ _ c.two_digits.ensures c.two_digits-2.ensures

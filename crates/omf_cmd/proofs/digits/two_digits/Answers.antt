@@ -1,6 +1,6 @@
 use Rattle.std.proofs.Common.{arith}
-use Rattle.omf_cmd.proofs.Hexadecimal.{hex_two}
+use Rattle.omf_cmd.proofs.Hexadecimal.{two_of_pairs}
 use Rattle.omf_cmd.proofs.digits.two_digits.Goals as goal
 
 pub returns : goal.returns
-returns c = rw (c.digit.ensures, c.digit-2.ensures, c.from-number.ensures) (hex_two c.args.byte (omega arith))
+returns c = two_of_pairs c.args.byte c.from-at.result (omega arith) c.from-at.ensures
