@@ -8,6 +8,7 @@ pub mod ShortestLaws
 pub mod ValueLaws
 pub mod DirectLaws
 pub mod PassingLaws
+pub mod DirectFixupLaws
 pub mod RoomLaws
 pub mod Heads
 pub mod LaidOut

@@ -54,7 +54,7 @@ pub if-some : {A : Type 0} {P Q : A → Type 0} (o : Option A) → ((x : A) → 
 if-some (Some x) f p = f x p
 if-some None f p = tt
 
-second : (a b : Bool) → a ≡ false → (a || b) ≡ true → b ≡ true
+pub second : (a b : Bool) → a ≡ false → (a || b) ≡ true → b ≡ true
 second true b e h = absurd cc
 second false b e h = h
 
@@ -90,7 +90,7 @@ passes wide at bytes h l f tail parts counts size high place within methods own_
 
 -- ---- one is passed
 
-not-empty : (bytes : List ℕ) (n : ℕ) → n < length bytes → bytes ≡ [] → ⊥
+pub not-empty : (bytes : List ℕ) (n : ℕ) → n < length bytes → bytes ≡ [] → ⊥
 not-empty [] n h e = absurd (omega (arith, h))
 not-empty (a ∷ bytes) n h e = absurd cc
 

@@ -1,5 +1,6 @@
 pub mod Begins
 pub mod Direct
+pub mod DirectFixups
 pub mod Each
 pub mod EntryReaders
 pub mod FieldReaders

@@ -1,10 +1,10 @@
 //! The packed bits of THREADs and FIXUPs (TIS OMF 1.1, "FIXUPP"). Each type keeps all bits of its field.
-ghost use Rattle.std.specs.Prelude.{◌≡◌, ◌<◌, ◌≤◌, ◌+◌, ◌*◌, IfOk, if◌then◌else◌};
+ghost use Rattle.std.specs.Prelude.{◌≡◌, ◌<◌, ◌≤◌, ◌+◌, ◌*◌, [], IfOk, if◌then◌else◌};
 ghost use Rattle.omf_frame.specs.Bytes.{bits};
 ghost use Rattle.omf_records.specs.Entries.{is_frame_method, wrong_methods, wrong_thread, wrong_location};
 ghost use Rattle.omf_records.specs.Location.{location};
 ghost use Rattle.omf_records.specs.Methods.{frame_code, frame_number, judged, kind_number, kind_of, refusal};
-ghost use Rattle.omf_records.specs.Values.{thread_is_frame, thread_method, is_segment_relative, location_type, location_offset};
+ghost use Rattle.omf_records.specs.Values.{thread_is_frame, thread_method, is_segment_relative, location_type, location_offset, frame_bits, target_bits};
 
 use crate::location::LocationType;
 use crate::method::{FrameCode, Kind};
@@ -193,6 +193,16 @@ impl Locat {
         }
     }
 
+    /// The first two bytes of a FIXUP, known to be valid.
+    #[inline(always)]
+    pub(crate) fn known(number: u16) -> Locat
+        requires fixup { 32768 ≤ number }
+        requires location { wrong_location number ≡ [] }
+        ensures { result ≡ number }
+    {
+        Locat(number)
+    }
+
     /// The two bytes as a number.
     #[inline(always)]
     pub fn number(self) -> u16
@@ -261,6 +271,15 @@ impl FixByte {
         Ok(FixByte(byte))
     }
 
+    /// The fix data byte, known to be valid.
+    #[inline(always)]
+    pub(crate) fn known(byte: u8) -> FixByte
+        requires { wrong_methods byte ≡ [] }
+        ensures { result ≡ byte }
+    {
+        FixByte(byte)
+    }
+
     /// The fix data byte with these methods, and no thread.
     #[inline(always)]
     pub fn of(frame: FrameCode, target: Kind, has_displacement: bool) -> FixByte
@@ -280,6 +299,22 @@ impl FixByte {
         ensures { result ≡ self }
     {
         self.0
+    }
+
+    /// The frame method, if no thread gives the frame.
+    #[inline(always)]
+    pub fn frame_method(self) -> FrameCode
+        ensures { result ≡ frame_code (frame_bits self) }
+    {
+        frame_code(self.0 / 16 % 8)
+    }
+
+    /// The target method, if no thread gives the target.
+    #[inline(always)]
+    pub fn target_method(self) -> Kind
+        ensures { result ≡ kind_of (target_bits self) }
+    {
+        kind_of(self.0 % 4)
     }
 }
 
@@ -307,7 +342,7 @@ impl Reference {
     pub fn frame_method(&self) -> FrameCode
         ensures { result ≡ frame_code (frame_bits self.now.fix.item) }
     {
-        frame_code(self.fix.item.byte() / 16 % 8)
+        self.fix.item.frame_method()
     }
 
     /// The number of the target thread, 0 to 3, if the target is given by a thread.
@@ -328,6 +363,6 @@ impl Reference {
     pub fn target_method(&self) -> Kind
         ensures { result ≡ kind_of (target_bits self.now.fix.item) }
     {
-        kind_of(self.fix.item.byte() % 4)
+        self.fix.item.target_method()
     }
 }

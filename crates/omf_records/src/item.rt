@@ -112,6 +112,14 @@ impl<T: Item> Items<T> {
         Items { from }
     }
 
+    /// The position of the next item.
+    #[inline(always)]
+    pub(crate) fn place(&self) -> T::From
+        ensures { Ok self.now ≡ each (T.reader (T.From.wide result)).read (T.From.place result) (T.From.rest result) }
+    {
+        self.from
+    }
+
     /// A copy of the iterator.
     pub fn iter(&self) -> Items<T>
         ensures { result ≡ self.now }

@@ -19,7 +19,7 @@ const ROOMS: [u8; 32] = [
 
 /// The size in bytes of the location of a FIXUP with this first byte; 0 if it is refused.
 #[inline(always)]
-fn room(high: u8) -> u8
+pub(crate) fn room(high: u8) -> u8
     ensures { result ≡ get_or rooms (high / 4 % 32) 0 }
 {
     ROOMS[usize::from(high / 4 % 32)]
@@ -44,7 +44,7 @@ fn is_within(high: u8, low: u8, len: usize) -> bool
 
 /// Whether a fix data byte is valid and names no thread.
 #[inline(always)]
-fn is_own(fix: u8) -> bool
+pub(crate) fn is_own(fix: u8) -> bool
     ensures methods { result ≡ true → wrong_methods fix ≡ [] }
     ensures frame { result ≡ true → frame_by_thread fix ≡ false }
     ensures target { result ≡ true → target_by_thread fix ≡ false }
