@@ -7,6 +7,7 @@ use Rattle.omf_frame.specs.declared.fault.Place.{Place}
 use Rattle.omf_frame.specs.declared.fault.Reason.{Reason}
 use Rattle.omf_image.specs.Limits.{profile_limits}
 use Rattle.omf_check.specs.Checking.{Decides}
+use Rattle.omf_check.specs.Module.{Module, records_in}
 use Rattle.omf_check.specs.Refusal.{IsRefused}
 use Rattle.omf_check.specs.WellFormed.{IsAccepted, recs}
 use Rattle.omf_check.specs.declared.profile.Profile.{Profile}
@@ -34,6 +35,9 @@ use Rattle.omf_reloc.specs.HeadlineLaws.{AcceptedAreSafe, IsSame}
 use Rattle.omf_reloc.specs.declared.headline.Answer.{Answer}
 use Rattle.omf_reloc.specs.declared.headline.Answer.TheVariants.{Refused, DoesNotReach, Relocated}
 
+pub begins : (profile : Profile) (input : List ℕ) (m : Module) → Decides profile input (Ok m) → BeginsWith profile input (records_in m.bytes)
+begins profile input m d = d.1.0
+
 refuses : (profile : Profile) (input : List ℕ) (pl : Places) (why : Reason) (at : Place) → IsRefused profile profile_limits input why at → Headline profile input pl (Refused why at)
 refuses profile input pl why at r = record { answers = λ records a. never_both profile profile_limits input records why at a r; reasons = r }
 
@@ -58,22 +62,18 @@ module _ (profile : Profile) (input : List ℕ) (pl : Places) where
     reasons = (records, a, ap (reach_fault pl) (typed_of records a) ∙ e);
   }
 
-  pub relocates : (records : List Raw) → BeginsWith profile input records → (placed : List Laid) (begin : Option (ℕ × ℕ)) → Reaches pl (recs records)
-      → ((segment offset : ℕ) → byte_at placed segment offset ≡ image profile_limits pl (recs records) segment offset) → begin ≡ start pl (recs records)
+  pub relocates : (records : List Raw) → BeginsWith profile input records → (placed : List Laid) (begin : Option (ℕ × ℕ)) → IsRelocated pl (recs records) (byte_at placed) begin
       → Headline profile input pl (Relocated placed begin)
-  relocates records a placed begin reaches bytes begins = record {
-    answers = (
-      records,
-      a,
-      subst (λ m. IsRelocated pl m (byte_at placed) begin) (sym (typed_of records a)) (record { reaches = (reach-decided pl (recs records)).decided.0 reaches; bytes = bytes; begins = begins }),
-    );
+  relocates records a placed begin r = record {
+    answers = (records, a, subst (λ m. IsRelocated pl m (byte_at placed) begin) (sym (typed_of records a)) r);
     reasons = tt;
   }
 
   of_module : (records : List Raw) → BeginsWith profile input records → (o : Option ReachFault) → reach_fault pl (recs records) ≡ o → (answer : Answer) × Headline profile input pl answer
   of_module records a None e = (
     Relocated (laid profile_limits pl (pieces (recs records))) (start pl (recs records)),
-    relocates records a (laid profile_limits pl (pieces (recs records))) (start pl (recs records)) e (λ segment offset. refl) refl,
+    relocates records a (laid profile_limits pl (pieces (recs records))) (start pl (recs records))
+    (record { reaches = (reach-decided pl (recs records)).decided.0 e; bytes = λ segment offset. refl; begins = refl }),
   )
   of_module records a (Some f) e = (DoesNotReach f, does_not_reach records a f e)
 
