@@ -24,7 +24,7 @@ use Rattle.omf_check.specs.declared.method.FrameMethod.TheVariants.{Of, Location
 use Rattle.omf_check.specs.WellFormed.{HasTrees, recs}
 use Rattle.omf_check.proofs.WellLaws.{IsWellRead}
 use Rattle.omf_check.specs.declared.profile.Profile.{Profile}
-use Rattle.omf_reloc.specs.Plain.{Piece, Kept, PlainFixup, plain_fixup, pieces}
+use Rattle.omf_reloc.specs.Plain.{Kept, PlainFixup, plain_fixup, pieces}
 use Rattle.omf_canon.specs.Inner.Names.{unthreaded_fixup}
 use Rattle.omf_canon.specs.Skeleton.{normal}
 use Rattle.omf_canon.proofs.NormalLaws.{normal_of, normal_at, normal-pieces}

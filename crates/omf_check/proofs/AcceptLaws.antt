@@ -2,22 +2,23 @@
 use Rattle.std.proofs.Common.{◌≡◌, ℕ, List, [], ◌∷◌, ◌++◌, refl, sym, ◌∙◌, ap, subst, arith, append_assoc, Bool, true, false}
 use Rattle.std.specs.Prelude.{All, flat_map, IsTrue, not, ◌||◌, slice_index}
 use Rattle.std.proofs.lemmas.List.{append_cancel_left, append-nil}
-use Rattle.omf_check.specs.Inner.Names.{steps, is_empty}
+use Rattle.omf_check.specs.Inner.Names.{is_empty}
 use Rattle.omf_check.specs.declared.profile.Profile.{Profile}
 use Rattle.omf_image.specs.declared.limits.Limits.{Limits}
 use Rattle.omf_frame.specs.declared.fault.Reason.{Reason}
 use Rattle.omf_frame.specs.declared.fault.Place.{Place}
-use Rattle.omf_frame.specs.Fault.{Fault, IsLeast, first_step}
+use Rattle.omf_frame.specs.Fault.{Fault}
 use Rattle.omf_frame.specs.Framing.{Raw, raw_bytes, IsRecord, IsFramed, is_taken, is_header, is_end, present}
 use Rattle.omf_records.specs.Records.{IsTyped}
 use Rattle.omf_records.specs.Inner.Reading.{typed}
-use Rattle.omf_check.specs.Refusal.{IsRefused}
+use Rattle.omf_check.specs.Refusal.{IsRefused, IsFirstFault}
 use Rattle.omf_check.specs.WellFormed.{IsWellFormed, IsAccepted, HasTrees}
 use Rattle.omf_records.specs.Inner.LawProofs.{are_typed}
 use Rattle.omf_check.proofs.TreeLaws.{no_block_fault}
 use Rattle.omf_frame.proofs.FaultLaws.{untrue, all_cons}
 use Rattle.omf_check.proofs.WellLaws.{well-read}
-use Rattle.omf_check.proofs.UniqueLaws.{AreSound, all_first, all_rest, same_front, no_fault_here, sound_rest}
+use Rattle.omf_check.proofs.UniqueLaws.{AreSound, AreClean, all_first, all_rest, same_front, no_fault_here, clean_rest}
+use Rattle.omf_check.proofs.FirstLaws.{none-first}
 use Rattle.omf_check.proofs.StepLaws.{no_step}
 
 pub all_left : {A : Type 0} (P : A → Type 0) (xs ys : List A) → All P (xs ++ ys) → All P xs
@@ -63,32 +64,30 @@ module _ (profile : Profile) (limits : Limits) where
   front_same r s rs ss p q hr hs e =
       let whole : raw_bytes r ++ (flat_map raw_bytes rs ++ p) ≡ raw_bytes s ++ (flat_map raw_bytes ss ++ q)
       = sym (append_assoc (raw_bytes r) (flat_map raw_bytes rs) p) ∙ e ∙ append_assoc (raw_bytes s) (flat_map raw_bytes ss) q in
-      let first : r ≡ s = same_front profile limits r s _ _ hr.0 hs.0 whole in
+      let first : r ≡ s = same_front r s _ _ hr.0 hs.0 whole in
       (first, append_cancel_left (raw_bytes s) _ _ (ap (λ x. raw_bytes x ++ (flat_map raw_bytes rs ++ p)) (sym first) ∙ whole))
 
   -- Sound records up to a MODEND, and records before a fault with no MODEND among them, do not begin one input.
-  no_both : (done front before : List Raw) (end : Raw) (p q : List ℕ) (f : Fault) → All IsRecord (front ++ end ∷ []) → All IsRecord before
-      → IsTrue (is_end end.kind) → All (λ r. IsTrue (not (is_end r.kind))) before
-      → AreSound profile limits done (front ++ end ∷ []) → flat_map raw_bytes (front ++ end ∷ []) ++ p ≡ flat_map raw_bytes before ++ q
-      → IsLeast (first_step (steps profile limits (done ++ before) (present q))) f → ⊥
-  no_both done [] [] end p q f rx ry is_last run sound e least =
-      let P : List Raw → Type 0 = λ d. IsLeast (first_step (steps profile limits d (present q))) f in
-      no_fault_here profile limits done [] end p q f sound (all_first IsRecord end [] rx).0 (sym e ∙ ap (λ bs. bs ++ p) (append-nil (raw_bytes end))) (subst P (append-nil done) least)
-  no_both done (x ∷ front) [] end p q f rx ry is_last run sound e least =
-      let P : List Raw → Type 0 = λ d. IsLeast (first_step (steps profile limits d (present q))) f in
-      no_fault_here profile limits done (front ++ end ∷ []) x (flat_map raw_bytes (front ++ end ∷ []) ++ p) q f sound (all_first IsRecord x (front ++ end ∷ []) rx).0
-      (sym e ∙ append_assoc (raw_bytes x) (flat_map raw_bytes (front ++ end ∷ [])) p) (subst P (append-nil done) least)
-  no_both done [] (y ∷ before) end p q f rx ry is_last run sound e least =
-      let same = front_same end y [] before p q (all_first IsRecord end [] rx) (all_first IsRecord y before ry) e in
-      ends (is_end y.kind) (subst (λ r. IsTrue (is_end r.kind)) same.0 is_last) (all_first (λ r. IsTrue (not (is_end r.kind))) y before run)
-  no_both done (x ∷ front) (y ∷ before) end p q f rx ry is_last run sound e least =
-      let same = front_same x y (front ++ end ∷ []) before p q (all_first IsRecord x (front ++ end ∷ []) rx) (all_first IsRecord y before ry) e in
-      let P : List Raw → Type 0 = λ d. IsLeast (first_step (steps profile limits d (present q))) f in
-      let least' : IsLeast (first_step (steps profile limits (done ++ x ∷ before) (present q))) f
-      = subst (λ r. IsLeast (first_step (steps profile limits (done ++ r ∷ before) (present q))) f) (sym same.0) least in
-      no_both (done ++ x ∷ []) front before end p q f (all_rest IsRecord x (front ++ end ∷ []) rx) (all_rest IsRecord y before ry) is_last
-      (all_rest (λ r. IsTrue (not (is_end r.kind))) y before run) (sound_rest profile limits done (front ++ end ∷ []) x sound) same.1
-      (subst P (sym (append_assoc done (x ∷ []) before)) least')
+  module _ (First : List Raw → List ℕ → Fault → Type 0) where
+    no_both : (done front before : List Raw) (end : Raw) (p q : List ℕ) (f : Fault) → All IsRecord (front ++ end ∷ []) → All IsRecord before
+        → IsTrue (is_end end.kind) → All (λ r. IsTrue (not (is_end r.kind))) before
+        → AreClean First done (front ++ end ∷ []) → flat_map raw_bytes (front ++ end ∷ []) ++ p ≡ flat_map raw_bytes before ++ q
+        → First (done ++ before) (present q) f → ⊥
+    no_both done [] [] end p q f rx ry is_last run sound e first =
+        no_fault_here First done [] end p q f sound (all_first IsRecord end [] rx).0 (sym e ∙ ap (λ bs. bs ++ p) (append-nil (raw_bytes end)))
+        (subst (λ d. First d (present q) f) (append-nil done) first)
+    no_both done (x ∷ front) [] end p q f rx ry is_last run sound e first =
+        no_fault_here First done (front ++ end ∷ []) x (flat_map raw_bytes (front ++ end ∷ []) ++ p) q f sound (all_first IsRecord x (front ++ end ∷ []) rx).0
+        (sym e ∙ append_assoc (raw_bytes x) (flat_map raw_bytes (front ++ end ∷ [])) p) (subst (λ d. First d (present q) f) (append-nil done) first)
+    no_both done [] (y ∷ before) end p q f rx ry is_last run sound e first =
+        let same = front_same end y [] before p q (all_first IsRecord end [] rx) (all_first IsRecord y before ry) e in
+        ends (is_end y.kind) (subst (λ r. IsTrue (is_end r.kind)) same.0 is_last) (all_first (λ r. IsTrue (not (is_end r.kind))) y before run)
+    no_both done (x ∷ front) (y ∷ before) end p q f rx ry is_last run sound e first =
+        let same = front_same x y (front ++ end ∷ []) before p q (all_first IsRecord x (front ++ end ∷ []) rx) (all_first IsRecord y before ry) e in
+        let first' : First (done ++ x ∷ before) (present q) f = subst (λ r. First (done ++ r ∷ before) (present q) f) (sym same.0) first in
+        no_both (done ++ x ∷ []) front before end p q f (all_rest IsRecord x (front ++ end ∷ []) rx) (all_rest IsRecord y before ry) is_last
+        (all_rest (λ r. IsTrue (not (is_end r.kind))) y before run) (clean_rest First done (front ++ end ∷ []) x sound) same.1
+        (subst (λ d. First d (present q) f) (sym (append_assoc done (x ∷ []) before)) first')
 
   -- Two lists of records, each up to its first MODEND, that begin one input, are one.
   same_records : (xs ys : List Raw) (x y : Raw) (p q : List ℕ) → All IsRecord (xs ++ x ∷ []) → All IsRecord (ys ++ y ∷ [])
@@ -138,8 +137,9 @@ never_both profile limits input rs why at a r =
     let f : IsFramed a.bytes rs = a.well_formed.framed in
     let ef : rs ≡ f.last.0 ++ f.last.1 ∷ [] = f.last.2 in
     let A : List Raw → Type 0 = λ z. All IsRecord z in
-    let S : List Raw → Type 0 = λ z. AreSound profile limits [] z in
+    let First = IsFirstFault profile limits in
     let sm : a.bytes ≡ flat_map raw_bytes (f.last.0 ++ f.last.1 ∷ []) = f.spelled ∙ ap (λ z. flat_map raw_bytes z) ef in
-    let sound : AreSound profile limits [] (f.last.0 ++ f.last.1 ∷ []) = subst S ef (module_sound profile limits a.bytes rs a.well_formed) in
-    no_both profile limits [] f.last.0 r.before f.last.1 a.rest r.rest r.fault (subst A ef f.each) r.records f.last.3 r.running sound
-    (ap (λ z. z ++ a.rest) (sym sm) ∙ sym a.spelled ∙ r.spelled) r.least
+    let old : AreSound profile limits [] (f.last.0 ++ f.last.1 ∷ []) = subst (λ z. AreSound profile limits [] z) ef (module_sound profile limits a.bytes rs a.well_formed) in
+    let clean : AreClean First [] (f.last.0 ++ f.last.1 ∷ []) = λ earlier later x e g h. none-first profile limits earlier (raw_bytes x) (old earlier later x e) g h in
+    no_both profile limits First [] f.last.0 r.before f.last.1 a.rest r.rest r.found (subst A ef f.each) r.records f.last.3 r.running clean
+    (ap (λ z. z ++ a.rest) (sym sm) ∙ sym a.spelled ∙ r.spelled) r.first

@@ -23,7 +23,8 @@ use Rattle.omf_check.specs.declared.profile.Profile.{Profile}
 use Rattle.omf_check.specs.Inner.Judging.{raw_fault}
 use Rattle.omf_check.specs.Inner.Kept.{Kept, Tells, nothing_kept, with_record}
 use Rattle.omf_check.specs.Laws.{NoneShorter}
-use Rattle.omf_check.specs.Refusal.{IsRefused, AreSoundSoFar, EndsWhereJudged, faults_after, record_steps}
+use Rattle.omf_check.specs.Inner.Faults.{faults_after, record_steps}
+use Rattle.omf_check.specs.Refusal.{IsRefused, AreSoundSoFar, EndsWhereJudged}
 use Rattle.omf_check.specs.Inner.Names.{is_empty}
 use Rattle.omf_check.specs.WellFormed.{IsAccepted, recs}
 use Rattle.omf_check.proofs.AcceptLaws.{never_both}
@@ -32,7 +33,8 @@ use Rattle.omf_check.proofs.Passing.{first_none, first_some, least_some}
 use Rattle.omf_check.proofs.ReasonLaws.{FaultInner, inner_of, raw_inner}
 use Rattle.omf_check.proofs.RecordLaws.{raw_law}
 use Rattle.omf_check.proofs.RefusalLaws.{refusal_stays}
-use Rattle.omf_check.proofs.Refusing.{type_ends, whole_length, whole_ends, inner_ends, body_small}
+use Rattle.omf_check.proofs.RefusedLaws.{refused-first, refused-read, bodies_of, body_small, present_small}
+use Rattle.omf_check.proofs.Refusing.{type_ends, whole_length, whole_ends, inner_ends}
 use Rattle.omf_check.proofs.SoundBytes.{no_other}
 use Rattle.omf_check.proofs.UniqueLaws.{nothing_least, refused_once}
 use Rattle.omf_check.proofs.VerdictLaws.{either}
@@ -190,17 +192,22 @@ record Front (profile : Profile) (limits : Limits) (input : List ℕ) (why : Rea
 module _ (profile : Profile) (limits : Limits) (input : List ℕ) (why : Reason) (at : Place) (small : AreBytes input) (r : IsRefused profile limits input why at) where
   front_of : is_end_of_input why ≡ false → Front profile limits input why at
   front_of n =
-      let flat : List ℕ = flat_map raw_bytes r.before in
-      let rest_small : AreBytes r.rest = AreBytes-back flat r.rest (subst AreBytes r.spelled small) in
-      let d : Decides profile limits r.before r.rest r.fault = decides profile limits r.before r.rest r.fault rest_small (ap is_end_of_input (sym r.named) ∙ n) r.least in
+      let o = refused-read profile limits input why at small r in
+      let flat : List ℕ = flat_map raw_bytes o.before in
+      let parts : AreBytes (flat ++ o.rest) = subst AreBytes o.spelled small in
+      let rest_small : AreBytes o.rest = AreBytes-back flat o.rest parts in
+      let d : Decides profile limits o.before o.rest o.found = decides profile limits o.before o.rest o.found rest_small (ap is_end_of_input (sym o.named) ∙ n) o.least in
+      let part_small : AreBytes d.part = AreBytes-front d.part d.behind (subst AreBytes d.parts rest_small) in
       record {
         before = flat;
         part = d.part;
         behind = d.behind;
-        spelled = r.spelled ∙ ap (λ x. flat ++ x) d.parts ∙ sym (append_assoc flat d.part d.behind);
-        starts = ap (λ (p : Place). p.start) r.there;
-        judged = subst (λ x. EndsWhereJudged x d.part) (sym r.named) d.judged;
-        refused = record { before = r.before; rest = d.part; fault = r.fault; spelled = refl; records = r.records; running = r.running; sound = r.sound; least = d.least_of; named = r.named; there = r.there };
+        spelled = o.spelled ∙ ap (λ x. flat ++ x) d.parts ∙ sym (append_assoc flat d.part d.behind);
+        starts = ap (λ (p : Place). p.start) o.there;
+        judged = subst (λ x. EndsWhereJudged x d.part) (sym o.named) d.judged;
+        refused = refused-first profile limits (flat ++ d.part) why at
+            (record { before = o.before; rest = d.part; found = o.found; spelled = refl; records = o.records; running = o.running; sound = o.sound; least = d.least_of; named = o.named; there = o.there })
+            (bodies_of o.before o.rest parts) (λ k. body_small (present d.part) (present_small d.part part_small));
       }
 
   -- from the record's start on

@@ -3,7 +3,9 @@ pub mod RefusalLaws
 pub mod StepLaws
 pub mod WellLaws
 pub mod TreeLaws
+pub mod FirstLaws
 pub mod AcceptLaws
+pub mod RefusedLaws
 pub mod VerdictLaws
 pub mod CellLaws
 pub mod Lesser

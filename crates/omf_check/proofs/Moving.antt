@@ -18,7 +18,8 @@ use Rattle.omf_check.specs.Inner.Names.{steps, place_after, is_empty}
 use Rattle.omf_check.specs.declared.profile.Profile.{Profile}
 use Rattle.omf_check.specs.Inner.Judging.{raw_fault, rec_of}
 use Rattle.omf_check.specs.Inner.Kept.{Kept, Tells, IsBounded, nothing_kept, with_record}
-use Rattle.omf_check.specs.Refusal.{AreSoundSoFar, record_steps}
+use Rattle.omf_check.specs.Inner.Faults.{record_steps}
+use Rattle.omf_check.specs.Refusal.{AreSoundSoFar}
 use Rattle.omf_check.specs.Tables.{item_count, items_in}
 use Rattle.omf_check.specs.WellFormed.{recs, IsWellFormed}
 use Rattle.omf_check.specs.Inner.Passing.{IsPassing}
@@ -31,6 +32,7 @@ use Rattle.omf_check.proofs.StepLaws.{sound_of}
 use Rattle.omf_check.proofs.KeptLaws.{tells_more, nothing_tells}
 use Rattle.omf_check.proofs.Passing.{first_none, first_number, bodies_of, flat_more, all_more}
 use Rattle.omf_check.proofs.RecordLaws.{raw_law}
+use Rattle.omf_check.proofs.RefusedLaws.{refused-first}
 use Rattle.omf_check.proofs.UniqueLaws.{AreSound}
 use Rattle.omf_check.proofs.VerdictLaws.{all_none, sound_more, sound_module}
 
@@ -237,10 +239,10 @@ module _ (profile : Profile) (held : Held) (taken : List ℕ) (kept : Kept) (p :
             reason.NoEnd,
             place_after (p.before ++ r ∷ []) none,
             refl,
-            record {
+            refused-first profile profile_limits (taken ++ take count piece) reason.NoEnd (place_after (p.before ++ r ∷ []) none) (record {
               before = p.before ++ r ∷ [];
               rest = [];
-              fault = none;
+              found = none;
               spelled = more_spelled ∙ sym (append-nil (flat_map raw_bytes (p.before ++ r ∷ [])));
               records = more_records;
               running = more_running e;
@@ -248,7 +250,7 @@ module _ (profile : Profile) (held : Held) (taken : List ℕ) (kept : Kept) (p :
               least = least_is_least none [];
               named = refl;
               there = refl;
-            },
+            }) (bodies_of (p.before ++ r ∷ []) [] (subst AreBytes (more_spelled ∙ sym (append-nil (flat_map raw_bytes (p.before ++ r ∷ [])))) small)) (λ n. small_none),
           )
 
       is_typed : IsReadable r

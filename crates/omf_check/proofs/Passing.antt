@@ -19,17 +19,19 @@ use Rattle.omf_frame.proofs.FaultLaws.{least_is_least, all_cons}
 use Rattle.omf_frame.proofs.FramingLaws.{present-append}
 use Rattle.omf_frame.proofs.Standing.{present_twice, present_part, whole_present, standing_stays}
 use Rattle.omf_frame.proofs.StepLaws.{clean_steps, framed_of}
-use Rattle.omf_records.specs.Inner.Steps.{AreBytes-front, AreBytes-back}
 use Rattle.omf_image.specs.Limits.{profile_limits}
 use Rattle.omf_check.specs.Inner.Names.{IsModule, is_empty}
 use Rattle.omf_check.specs.declared.fault.CheckFault.TheVariants as check
 use Rattle.omf_check.specs.declared.profile.Profile.{Profile}
 use Rattle.omf_check.specs.Inner.Judging.{raw_fault}
 use Rattle.omf_check.specs.Inner.Kept.{Kept}
-use Rattle.omf_check.specs.Refusal.{IsRefused, AreSoundSoFar, faults_after, record_steps}
+use Rattle.omf_check.specs.Inner.Faults.{faults_after, record_steps}
+use Rattle.omf_check.specs.Refusal.{IsRefused, AreSoundSoFar}
 use Rattle.omf_check.specs.WellFormed.{IsAccepted}
 use Rattle.omf_check.specs.Session.{Seen, IsOpen}
 use Rattle.omf_check.specs.Inner.Passing.{IsPassing, refused_at}
+pub use Rattle.omf_check.proofs.RefusedLaws.{bodies_of}
+use Rattle.omf_check.proofs.RefusedLaws.{refused-first, body_small}
 use Rattle.omf_check.proofs.AcceptLaws.{never_both}
 use Rattle.omf_check.proofs.RecordLaws.{raw_law}
 use Rattle.omf_check.proofs.VerdictLaws.{all_none}
@@ -84,14 +86,6 @@ some_wanted (t ∷ lo ∷ hi ∷ bytes) h = elim (leb_tells (lo + 256 * hi) (len
     both : true ≡ false → ⊥
     both e = cc
 
--- Bytes of records.
-pub bodies_of : (before : List Raw) (rest : List ℕ) → AreBytes (flat_map raw_bytes before ++ rest) → All (λ r. AreBytes r.body) before
-bodies_of [] rest h = all_none (λ r. AreBytes r.body)
-bodies_of (r ∷ before) rest h =
-    let whole : AreBytes (raw_bytes r ++ (flat_map raw_bytes before ++ rest)) = subst AreBytes (append_assoc (raw_bytes r) (flat_map raw_bytes before) rest) h in
-    let body : AreBytes (r.body ++ (r.checksum ∷ [])) = AreBytes-front (r.body ++ r.checksum ∷ []) (flat_map raw_bytes before ++ rest) (λ i. whole (suc (suc (suc i)))) in
-    all_cons (λ x. AreBytes x.body) r before (AreBytes-front r.body (r.checksum ∷ []) body) (bodies_of before rest (AreBytes-back (raw_bytes r) (flat_map raw_bytes before ++ rest) whole))
-
 pub flat_more : (before : List Raw) (r : Raw) → flat_map raw_bytes (before ++ r ∷ []) ≡ flat_map raw_bytes before ++ raw_bytes r
 flat_more before r = flat_map-append raw_bytes before (r ∷ []) ∙ ap (λ t. flat_map raw_bytes before ++ t) (append-nil (raw_bytes r))
 
@@ -102,13 +96,22 @@ module _ (profile : Profile) (held : Held) (taken : List ℕ) (kept : Kept) (p :
   is_first : held.number == 0 ≡ is_empty p.before
   is_first = first_number held.number p.before p.number
 
-  -- Refusals.
-  pub refused_by : held.ended ≡ false → (bytes : List ℕ) (f : Fault) → IsLeast (faults_after profile profile_limits p.before (present (held.bytes ++ bytes))) f
+  -- Refusals. A fault of framing is found whatever the contents are.
+  abbrev IsSmall : List ℕ → Type 0
+  IsSmall bytes = first_step (frame_steps (is_empty p.before) bytes) ≡ [] → AreBytes (front_record bytes).body
+
+  framing_small : (bytes : List ℕ) (f : Fault) → frame_fault (held.number == 0) bytes ≡ Some f → IsSmall bytes
+  framing_small bytes f e n = absurd (none_some f (sym (ap least n) ∙ ap (λ b. frame_fault b bytes) (sym is_first) ∙ e))
+    where
+      none_some : (f : Fault) → ◌≡◌ {A = Option Fault} None (Some f) → ⊥
+      none_some f e = cc
+
+  pub refused_by : held.ended ≡ false → (bytes : List ℕ) (f : Fault) → IsSmall (present (held.bytes ++ bytes)) → IsLeast (faults_after profile profile_limits p.before (present (held.bytes ++ bytes))) f
       → IsRefused profile profile_limits (taken ++ bytes) f.reason (record { number = held.number; start = held.start; within = f.within })
-  refused_by e bytes f least = record {
+  refused_by e bytes f small least = refused-first profile profile_limits (taken ++ bytes) f.reason (record { number = held.number; start = held.start; within = f.within }) (record {
     before = p.before;
     rest = held.bytes ++ bytes;
-    fault = f;
+    found = f;
     spelled = ap (λ t. t ++ bytes) p.spelled ∙ append_assoc (flat_map raw_bytes p.before) held.bytes bytes;
     records = p.records;
     running = p.running e;
@@ -116,7 +119,7 @@ module _ (profile : Profile) (held : Held) (taken : List ℕ) (kept : Kept) (p :
     least = least;
     named = refl;
     there = there f.within;
-  }
+  }) (bodies_of p.before held.bytes (subst AreBytes p.spelled p.small)) small
     where
       there : (w : ℕ) → let a : Place = record { number = held.number; start = held.start; within = w } in let b : Place = record { number = length p.before; start = length (flat_map raw_bytes p.before); within = w } in a ≡ b
       there w =
@@ -146,7 +149,8 @@ module _ (profile : Profile) (held : Held) (taken : List ℕ) (kept : Kept) (p :
   framing_refused e piece more f s =
       let stays : standing_fault (held.number == 0) (present (held.bytes ++ (piece ++ more))) ≡ Some f
       = ap (standing_fault (held.number == 0)) (sym (regroup piece more)) ∙ standing_stays (held.number == 0) (present (held.bytes ++ piece)) more f (present_twice (held.bytes ++ piece)) s in
-      back piece more _ _ (refused_by e (piece ++ more) f (frame_refused (present (held.bytes ++ (piece ++ more))) f (lasting_some (frame_fault (held.number == 0) (present (held.bytes ++ (piece ++ more)))) f stays)))
+      let found = lasting_some (frame_fault (held.number == 0) (present (held.bytes ++ (piece ++ more)))) f stays in
+      back piece more _ _ (refused_by e (piece ++ more) f (framing_small (present (held.bytes ++ (piece ++ more))) f found) (frame_refused (present (held.bytes ++ (piece ++ more))) f found))
 
   by_frame : held.ended ≡ false → (piece more : List ℕ) (o : Option Fault) (why : Reason) (at : Place) → standing_fault (held.number == 0) (present (held.bytes ++ piece)) ≡ o
       → option_map (refused held) o ≡ Some (frame.Refused why at) → IsRefused profile profile_limits ((taken ++ piece) ++ more) why at
@@ -169,33 +173,33 @@ module _ (profile : Profile) (held : Held) (taken : List ℕ) (kept : Kept) (p :
       by_frame e piece more _ why at refl (ap (λ b. option_map (refused held) (standing_fault (held.number == 0) (cond b [] (present (held.bytes ++ piece))))) (sym e) ∙ h)
 
   -- The same of a record.
-  record_refused : held.ended ≡ false → (piece more : List ℕ) (f : Fault) → is_whole (present (held.bytes ++ piece)) ≡ true → frame_fault (held.number == 0) (present (held.bytes ++ piece)) ≡ None
+  record_refused : held.ended ≡ false → (piece more : List ℕ) (f : Fault) → AreBytes (present (held.bytes ++ piece)) → is_whole (present (held.bytes ++ piece)) ≡ true → frame_fault (held.number == 0) (present (held.bytes ++ piece)) ≡ None
       → raw_fault profile profile_limits kept (front_record (present (held.bytes ++ piece))).kind (front_record (present (held.bytes ++ piece))).body ≡ Some f
       → IsRefused profile profile_limits ((taken ++ piece) ++ more) f.reason (record { number = held.number; start = held.start; within = f.within })
-  record_refused e piece more f whole sound h =
+  record_refused e piece more f small whole sound h =
       let now : List ℕ = present (held.bytes ++ piece) in
       let same : present (held.bytes ++ (piece ++ more)) ≡ now = sym (regroup piece more) ∙ whole_present now more whole (present_twice (held.bytes ++ piece)) in
       let here : IsLeast (faults_after profile profile_limits p.before now) f
       = least_some _ f (ap least (record_steps_only now sound) ∙ sym (raw_law profile profile_limits kept p.before p.tells (front_record now)) ∙ h) in
       let P : List ℕ → Type 0 = λ x. IsLeast (faults_after profile profile_limits p.before x) f in
-      back piece more _ _ (refused_by e (piece ++ more) f (subst P (sym same) here))
+      back piece more _ _ (refused_by e (piece ++ more) f (λ n. body_small (present (held.bytes ++ (piece ++ more))) (subst AreBytes (sym same) small)) (subst P (sym same) here))
 
-  by_record : held.ended ≡ false → (piece more : List ℕ) (o : Option Fault) (why : Reason) (at : Place) → is_whole (present (held.bytes ++ piece)) ≡ true → frame_fault (held.number == 0) (present (held.bytes ++ piece)) ≡ None
+  by_record : held.ended ≡ false → (piece more : List ℕ) (o : Option Fault) (why : Reason) (at : Place) → AreBytes (present (held.bytes ++ piece)) → is_whole (present (held.bytes ++ piece)) ≡ true → frame_fault (held.number == 0) (present (held.bytes ++ piece)) ≡ None
       → raw_fault profile profile_limits kept (front_record (present (held.bytes ++ piece))).kind (front_record (present (held.bytes ++ piece))).body ≡ o
       → option_map (refused_at held.number held.start) o ≡ Some (check.Refused why at) → IsRefused profile profile_limits ((taken ++ piece) ++ more) why at
-  by_record e piece more None why at whole sound r h = absurd cc
-  by_record e piece more (Some f) why at whole sound r h =
+  by_record e piece more None why at small whole sound r h = absurd cc
+  by_record e piece more (Some f) why at small whole sound r h =
       let here : Place = record { number = held.number; start = held.start; within = f.within } in
       let named : f.reason ≡ why = cc in
       let there : here ≡ at = cc in
       subst (λ x. IsRefused profile profile_limits ((taken ++ piece) ++ more) why x) there
-      (subst (λ x. IsRefused profile profile_limits ((taken ++ piece) ++ more) x here) named (record_refused e piece more f whole sound r))
+      (subst (λ x. IsRefused profile profile_limits ((taken ++ piece) ++ more) x here) named (record_refused e piece more f small whole sound r))
 
-  pub record_refuses : held.ended ≡ false → (piece more now : List ℕ) (why : Reason) (at : Place) → now ≡ present (held.bytes ++ piece) → is_whole now ≡ true → frame_fault (held.number == 0) now ≡ None
+  pub record_refuses : held.ended ≡ false → (piece more now : List ℕ) (why : Reason) (at : Place) → AreBytes now → now ≡ present (held.bytes ++ piece) → is_whole now ≡ true → frame_fault (held.number == 0) now ≡ None
       → option_map (refused_at held.number held.start) (raw_fault profile profile_limits kept (front_record now).kind (front_record now).body) ≡ Some (check.Refused why at)
       → IsRefused profile profile_limits ((taken ++ piece) ++ more) why at
-  record_refuses e piece more now why at same whole sound h =
-      by_record e piece more _ why at (ap is_whole (sym same) ∙ whole) (ap (frame_fault (held.number == 0)) (sym same) ∙ sound) refl
+  record_refuses e piece more now why at small same whole sound h =
+      by_record e piece more _ why at (subst AreBytes same small) (ap is_whole (sym same) ∙ whole) (ap (frame_fault (held.number == 0)) (sym same) ∙ sound) refl
       (ap (λ x. option_map (refused_at held.number held.start) (raw_fault profile profile_limits kept (front_record x).kind (front_record x).body)) (sym same) ∙ h)
 
   -- The end of the input here.
@@ -207,7 +211,7 @@ module _ (profile : Profile) (held : Held) (taken : List ℕ) (kept : Kept) (p :
       let here : present (held.bytes ++ []) ≡ held.bytes = ap present (append-nil held.bytes) ∙ present_part held.bytes p.partial in
       let P : List ℕ → Type 0 = λ x. IsLeast (faults_after profile profile_limits p.before x) f in
       subst (λ x. IsRefused profile profile_limits x f.reason (record { number = held.number; start = held.start; within = f.within })) (append-nil taken)
-      (refused_by e [] f (subst P (sym here) (frame_refused held.bytes f h)))
+      (refused_by e [] f (framing_small (present (held.bytes ++ [])) f (ap (frame_fault (held.number == 0)) here ∙ h)) (subst P (sym here) (frame_refused held.bytes f h)))
 
   clash : true ≡ false → ⊥
   clash e = cc
@@ -225,7 +229,7 @@ module _ (profile : Profile) (held : Held) (taken : List ℕ) (kept : Kept) (p :
       let same : present (held.bytes ++ front) ≡ now = ap present g ∙ present_part now w in
       let P : List ℕ → Type 0 = λ y. IsLeast (faults_after profile profile_limits p.before y) x.0 in
       let at : Place = record { number = held.number; start = held.start; within = x.0.within } in
-      inr (x.0.reason, at, x.2, refused_by e front x.0 (subst P (sym same) (frame_refused now x.0 x.1)))
+      inr (x.0.reason, at, x.2, refused_by e front x.0 (framing_small (present (held.bytes ++ front)) x.0 (ap (frame_fault (held.number == 0)) same ∙ x.1)) (subst P (sym same) (frame_refused now x.0 x.1)))
 
   -- not at the end, the input ends too early
   pub early : held.ended ≡ false → (o : Option Fault) → frame_fault (held.number == 0) held.bytes ≡ o

@@ -21,7 +21,7 @@ use Rattle.omf_check.specs.declared.profile.Profile.{Profile}
 use Rattle.omf_check.specs.Tables.{items_in}
 use Rattle.omf_check.specs.Rules.{rules, item_limit, table_limit, item_places, places}
 use Rattle.omf_check.specs.WellFormed.{recs}
-use Rattle.omf_check.specs.Refusal.{record_steps}
+use Rattle.omf_check.specs.Inner.Faults.{record_steps}
 use Rattle.omf_check.specs.Inner.Names.{moved, short_or_deep, too_long}
 use Rattle.omf_check.specs.Inner.Kept.{Kept, Tells, IsBounded, with_record, with_contents, starts}
 use Rattle.omf_check.specs.Inner.Judging.{fault_unless, lesser, room_fault, contents_fault, fault_moved, data_size, judged_by_size, record_fault, raw_fault, read_fault, IsNoFixupp}

@@ -20,7 +20,7 @@ use Rattle.omf_frame.proofs.Judged.{standing_is, sound_type}
 use Rattle.omf_frame.proofs.FaultLaws.{untrue}
 use Rattle.omf_frame.proofs.Standing.{present_twice}
 use Rattle.omf_frame.proofs.StepLaws.{known_supported}
-use Rattle.omf_records.specs.Inner.Steps.{AreBytes-back, AreBytes-take}
+use Rattle.omf_records.specs.Inner.Steps.{AreBytes-back}
 use Rattle.omf_image.specs.Limits.{profile_limits}
 use Rattle.omf_check.specs.declared.fault.CheckFault.TheVariants as check
 use Rattle.omf_check.specs.declared.profile.Profile.{Profile}
@@ -29,6 +29,7 @@ use Rattle.omf_check.specs.Inner.Kept.{Kept}
 use Rattle.omf_check.specs.Refusal.{EndsWhereJudged}
 use Rattle.omf_check.specs.Session.{RefusesHere, LacksMemory}
 use Rattle.omf_check.specs.Inner.Passing.{IsPassing, here, refused_at}
+pub use Rattle.omf_check.proofs.RefusedLaws.{body_small}
 use Rattle.omf_check.proofs.Passing.{framing_refuses, record_refuses, part_sound}
 use Rattle.omf_check.proofs.ReasonLaws.{IsInner, FaultInner, inner_of, raw_inner}
 
@@ -111,12 +112,6 @@ part_short [] h = omega arith
 part_short (t ∷ []) h = omega arith
 part_short (t ∷ lo ∷ []) h = omega arith
 part_short (t ∷ lo ∷ hi ∷ a) h = let less = leb-false (lo + 256 * hi) (length a) h in omega (arith, less)
-
-pub body_small : (bytes : List ℕ) → AreBytes bytes → AreBytes (front_record bytes).body
-body_small [] h = λ i. omega arith
-body_small (t ∷ []) h = λ i. omega arith
-body_small (t ∷ lo ∷ []) h = λ i. omega arith
-body_small (t ∷ lo ∷ hi ∷ bytes) h = AreBytes-take (lo + 256 * hi - 1) bytes (λ i. h (suc (suc (suc i))))
 
 -- the type byte that is refused is the first of the piece
 first_byte : (hand piece : List ℕ) (q : Reason × ℕ) → type_fault hand ≡ None → type_fault (present (hand ++ piece)) ≡ Some q
@@ -280,7 +275,7 @@ module _ (profile : Profile) (held : Held) (taken : List ℕ) (kept : Kept) (p :
           of_it = from_start at start_is (take count piece);
           judged = subst (λ x. EndsWhereJudged why x) g (inner_ends why now (subst IsInner reason_is (inner_of f inner)) long);
           whole = λ k. g;
-          refused = λ more. record_refuses profile held taken kept p e (take count piece) more now why at (sym same) w s (ap (option_map (refused_at held.number held.start)) r ∙ h);
+          refused = λ more. record_refuses profile held taken kept p e (take count piece) more now why at (part_small small) (sym same) w s (ap (option_map (refused_at held.number held.start)) r ∙ h);
         }
 
     pub record_here : AreBytes (take count piece) → (why : Reason) (at : Place) → is_whole (next_of held piece) ≡ true → frame_fault first (next_of held piece) ≡ None

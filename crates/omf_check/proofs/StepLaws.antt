@@ -9,7 +9,7 @@ use Rattle.omf_frame.specs.Fault.{Fault, first_step}
 use Rattle.omf_frame.specs.Framing.{Raw, raw_bytes, IsRecord, is_taken, is_header, frame_steps}
 use Rattle.omf_records.specs.Inner.Reading.{typed, layout_faults}
 use Rattle.omf_check.specs.Rules.{rules}
-use Rattle.omf_check.specs.Refusal.{record_steps}
+use Rattle.omf_check.specs.Inner.Faults.{record_steps}
 use Rattle.omf_check.specs.WellFormed.{recs}
 use Rattle.omf_frame.proofs.FaultLaws.{kept_none, none_kept}
 use Rattle.omf_frame.proofs.FramingLaws.{front_raw}

@@ -19,12 +19,12 @@ use Rattle.omf_check.specs.Inner.Names.{moved, short_or_deep, too_long}
 use Rattle.omf_check.specs.WellFormed.{HasTrees}
 
 -- the bytes of blocks in contents
-abbrev blocks_in : Contents → List ℕ
+abbrev pub blocks_in : Contents → List ℕ
 blocks_in (Iterated d) = d.bytes
 blocks_in _ = []
 
 -- Contents that are spelled by bytes below 256 have blocks of such.
-small_blocks : (kind at : ℕ) (bytes : List ℕ) (c : Contents) → AreBytes bytes → IsLaidOut kind at bytes c → AreBytes (blocks_in c)
+pub small_blocks : (kind at : ℕ) (bytes : List ℕ) (c : Contents) → AreBytes bytes → IsLaidOut kind at bytes c → AreBytes (blocks_in c)
 small_blocks kind at bytes (Iterated d) small (f1, b1, x1, p1, s1, (f2, b2, x2, p2, s2, (x, same, is))) =
     let rest_small : AreBytes x = subst AreBytes (sym same) (AreBytes-rest b1 f2 b2 p2 (AreBytes-rest bytes f1 b1 p1 small)) in
     subst (λ z. AreBytes z.bytes) (sym is) rest_small

@@ -1,16 +1,16 @@
 -- In a module whose records hold, every index and every thread that is used is defined.
-use Rattle.std.proofs.Common.{◌≡◌, ℕ, zero, suc, ◌≤◌, Bool, true, List, [], ◌∷◌, ◌++◌, refl, sym, ◌∙◌, ap, subst, arith, append_assoc, length, map}
-use Rattle.std.specs.Prelude.{Option, Some, None, option_map, unwrap_or, All, IsTrue, IsSome, nat_le, ◌&&◌, cond}
+use Rattle.std.proofs.Common.{◌≡◌, ℕ, zero, suc, true, List, [], ◌∷◌, ◌++◌, refl, sym, ◌∙◌, ap, subst, arith, append_assoc, map}
+use Rattle.std.specs.Prelude.{Option, Some, None, option_map, unwrap_or, All, IsSome, nat_le, ◌&&◌, cond}
 use Rattle.std.proofs.lemmas.Bool.{le-leb, ne_eqb}
-use Rattle.std.proofs.lemmas.List.{append-nil, map-append}
+use Rattle.std.proofs.lemmas.List.{map-append}
 use Rattle.std.proofs.lemmas.List.Elements.{All-append, All-cons, All-nil, All-head, All-tail}
 use Rattle.omf_frame.specs.Bytes.{with_before}
 use Rattle.omf_image.specs.declared.limits.Limits.{Limits}
 use Rattle.omf_records.specs.Values.{At, Rec, Contents, Header, Segment, Group, Publics, Plain, Iterated, Fixups, ModEnd, Subrecord, Thread, Fixup, Reference}
 use Rattle.omf_check.specs.Inner.Names.{frame_from, target_from}
 use Rattle.omf_check.specs.Sound.{FrameIsDefined, TargetIsDefined, ReferenceHolds, SubrecordHolds, SubrecordsHold, ContentsHold, ModuleHolds}
-use Rattle.omf_check.specs.Tables.{names, segments, groups, is_defined, is_none_or_defined, subrecords}
-use Rattle.omf_check.specs.Threads.{Setting, FrameMethod, Of, F4, F5, TargetMethod, T0, frame_setting, target_setting, frame_of, target_of}
+use Rattle.omf_check.specs.Tables.{is_defined, is_none_or_defined, subrecords}
+use Rattle.omf_check.specs.Threads.{Setting, FrameMethod, Of, F4, F5, T0, frame_setting, target_setting, frame_of, target_of}
 use Rattle.omf_check.specs.Uses.{use_or_none, method_uses, reference_uses, subrecord_uses, uses, IsDefinedUse, UsesAreDefined}
 
 abbrev Use : Type 0

@@ -13,7 +13,8 @@ use Rattle.omf_frame.specs.Fault.{Fault, IsLeast, least, least_or, first_step}
 use Rattle.omf_frame.specs.Framing.{Raw, raw_bytes, IsRecord, is_taken, is_header, is_end, present, front_record, after_front, frame_steps, HasFront}
 use Rattle.omf_records.specs.Records.{IsTyped}
 use Rattle.omf_records.specs.Inner.Reading.{typed}
-use Rattle.omf_check.specs.Refusal.{record_steps, IsRefused}
+use Rattle.omf_check.specs.Inner.Faults.{record_steps}
+use Rattle.omf_check.specs.Refusal.{IsRefused}
 use Rattle.omf_check.specs.Inner.Verdict.{Verdict, Accepted, Refused, Unknown, verdict, verdict_from}
 use Rattle.omf_check.specs.WellFormed.{IsWellFormed, IsAccepted, HasTrees}
 use Rattle.omf_frame.specs.Bytes.{AreBytes}
@@ -22,6 +23,7 @@ use Rattle.omf_records.specs.Inner.Steps.{AreBytes-front, AreBytes-back}
 use Rattle.omf_check.proofs.TreeLaws.{trees_of}
 use Rattle.omf_frame.proofs.FaultLaws.{all_cons, least_is_least}
 use Rattle.omf_check.proofs.WellLaws.{well-formed}
+use Rattle.omf_check.proofs.RefusedLaws.{refused-first, body_small, present_small}
 use Rattle.omf_check.proofs.UniqueLaws.{AreSound, sound_first, sound_rest, refused_once}
 use Rattle.omf_frame.proofs.StepLaws.{has_front, framed_of, first_parts}
 use Rattle.omf_check.proofs.StepLaws.{IsSound, sound_of}
@@ -116,8 +118,8 @@ module _ (profile : Profile) (limits : Limits) (input : List ℕ) where
       ∙ ap (λ t. (flat_map raw_bytes before ++ t) ++ rest) (sym end)
       ∙ ap (λ t. t ++ rest) (sym (flat_map-append raw_bytes before (r ∷ [])))
 
-  body_small : (r : Raw) (rest : List ℕ) → AreBytes (raw_bytes r ++ rest) → AreBytes r.body
-  body_small r rest h = AreBytes-front r.body (r.checksum ∷ []) (AreBytes-front (r.body ++ r.checksum ∷ []) rest (λ i. h (suc (suc (suc i)))))
+  small_body : (r : Raw) (rest : List ℕ) → AreBytes (raw_bytes r ++ rest) → AreBytes r.body
+  small_body r rest h = AreBytes-front r.body (r.checksum ∷ []) (AreBytes-front (r.body ++ r.checksum ∷ []) rest (λ i. h (suc (suc (suc i)))))
 
   module _ (before : List Raw) (bytes rest : List ℕ) (r : Raw) (now : Reached before bytes) (is_record : IsRecord r) (parts : bytes ≡ raw_bytes r ++ rest)
       (step : first_step (steps profile limits before (raw_bytes r)) ≡ []) where
@@ -133,7 +135,7 @@ module _ (profile : Profile) (limits : Limits) (input : List ℕ) where
     more_bodies : All (λ r. AreBytes r.body) (before ++ r ∷ [])
     more_bodies =
         let P : Raw → Type 0 = λ x. AreBytes x.body in
-        All-append P before (r ∷ []) now.bodies (all_cons P r [] (body_small r rest small_parts) (all_none P))
+        All-append P before (r ∷ []) now.bodies (all_cons P r [] (small_body r rest small_parts) (all_none P))
 
     more_sound : AreSound profile limits [] (before ++ r ∷ [])
     more_sound = sound_more profile limits [] before r now.sound step
@@ -175,10 +177,10 @@ module _ (profile : Profile) (limits : Limits) (input : List ℕ) where
   refused_here : (before : List Raw) (bytes : List ℕ) (f : Fault) (fs : List Fault) → Reached before bytes
       → first_step (steps profile limits before (present bytes)) ≡ f ∷ fs → Means (Refused (least_or f fs).reason (place_after before (least_or f fs)))
   unfolding Means AreSound
-  refused_here before bytes f fs now e = record {
+  refused_here before bytes f fs now e = refused-first profile limits input (least_or f fs).reason (place_after before (least_or f fs)) (record {
     before = before;
     rest = bytes;
-    fault = least_or f fs;
+    found = least_or f fs;
     spelled = now.spelled;
     records = now.records;
     running = now.running;
@@ -186,7 +188,7 @@ module _ (profile : Profile) (limits : Limits) (input : List ℕ) where
     least = subst (λ gs. IsLeast gs (least_or f fs)) (sym e) (least_is_least f fs);
     named = refl;
     there = refl;
-  }
+  }) now.bodies (λ n. body_small (present bytes) (present_small bytes now.small))
 
   front_here : (before : List Raw) (bytes : List ℕ) → Reached before bytes → first_step (steps profile limits before (present bytes)) ≡ [] → HasFront bytes
   front_here before bytes now e =

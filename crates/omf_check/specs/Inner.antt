@@ -1,6 +1,7 @@
 pub mod Ahead
 pub mod Cells
 pub mod Contents
+pub mod Faults
 pub mod Judging
 pub mod Kept
 pub mod Parts

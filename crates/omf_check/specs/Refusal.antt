@@ -1,54 +1,72 @@
 -- The first refusal of an input that does not begin with a module.
-use Rattle.std.specs.Prelude.{◌≡◌, ◌⊎◌, ℕ, ◌+◌, List, [], ◌∷◌, ◌++◌, length, map, flat_map, All, not, IsTrue, slice_get, is_none}
-use Rattle.omf_frame.specs.Fault.{Fault, IsLeast, broken, first_step}
+use Rattle.std.specs.Prelude.{◌≡◌, ◌⊎◌, ℕ, ◌+◌, ◌<◌, List, ◌∷◌, ◌++◌, length, flat_map, All, Contains, not, IsTrue, slice_get, is_none}
+use Rattle.std.specs.List.{AllZip}
+use Rattle.omf_frame.specs.Bytes.{AreBytes}
+use Rattle.omf_frame.specs.Fault.{Fault, broken, first_step}
 use Rattle.omf_frame.specs.Framing.{Raw, raw_bytes, IsRecord, is_end, is_end_of_input, frame_steps, front_record, present, stated_length}
 use Rattle.omf_frame.specs.declared.fault.Place.{Place}
 use Rattle.omf_frame.specs.declared.fault.Reason.{Reason}
 use Rattle.omf_frame.specs.declared.fault.Reason.TheVariants as reason
--- computed: readings_meet_layouts and contents_are_typed_once of omf_records.
-use Rattle.omf_records.specs.Inner.Reading.{typed, layout_faults}
-use Rattle.omf_records.specs.Values.{Contents, Iterated, width}
--- computed: blocks_are_read and lengths_are_decided of omf_image.
-use Rattle.omf_image.specs.Inner.Expanding.{block_faults, length_faults}
+use Rattle.omf_records.specs.Layout.{fault}
+use Rattle.omf_records.specs.Records.{contents}
+use Rattle.omf_records.specs.Values.{Rec, Contents, Iterated, width}
+use Rattle.omf_image.specs.Blocks.{Blocks, blocks, blocks_size}
+use Rattle.omf_image.specs.Laws.{IsLeastOf}
 use Rattle.omf_image.specs.declared.limits.Limits.{Limits}
 use Rattle.omf_check.specs.Rules.{rules}
-use Rattle.omf_check.specs.WellFormed.{IsWellFormed, recs}
+use Rattle.omf_check.specs.WellFormed.{IsWellFormed, IsRecOf}
 use Rattle.omf_check.specs.declared.profile.Profile.{Profile}
 
 -- A fault whose place counts from a place in the record, with a place that counts from its start.
 abbrev pub fault_from : ℕ → Fault → Fault
 fault_from at f = record f { within = at + f.within }
 
--- Faults of the blocks of an LIDATA, which follow its offset.
-abbrev pub of_blocks : (ℕ → Limits → List ℕ → List Fault) → Limits → ℕ → Contents → List Fault
-of_blocks faults limits kind (Iterated d) = map (fault_from (d.offset.within + width kind)) (faults (width kind) limits d.bytes)
-of_blocks faults limits kind _ = []
+-- The faults of the blocks of an LIDATA, which follow its offset: of their layout, Short or TooDeep; and DataTooLong, if they expand to more
+-- bytes than the limit.
+abbrev pub IsBlockFault : Limits → ℕ → Contents → Fault → Type 0
+IsBlockFault limits kind (Iterated d) e = (f : Fault) × (blocks (width kind) limits.nesting).Faults 0 d.bytes f × (e ≡ fault_from (d.offset.within + width kind) f)
+IsBlockFault limits kind _ e = ⊥
 
--- The faults of a whole record after these records, in the order of the steps that check them: layout, and the first Short or TooDeep of
--- blocks; DataTooLong; meaning.
-abbrev pub record_steps : Profile → Limits → List Raw → Raw → List (List Fault)
-record_steps profile limits before r = (layout_faults r ++ of_blocks block_faults limits r.kind (typed r).contents)
-    ∷ of_blocks length_faults limits r.kind (typed r).contents
-    ∷ broken (rules profile limits (recs before) (typed r))
-    ∷ []
+abbrev pub IsLengthFault : Limits → ℕ → Contents → Fault → Type 0
+IsLengthFault limits kind (Iterated d) e = (trees : Blocks) × (blocks (width kind) limits.nesting).Spells 0 d.bytes trees × (limits.expanded < blocks_size trees)
+    × (e ≡ fault_from (d.offset.within + width kind) (fault 0 reason.DataTooLong))
+IsLengthFault limits kind _ e = ⊥
 
--- The faults of the bytes present of one record after these records: those of the first step that has any; framing comes first.
-abbrev pub faults_after : Profile → Limits → List Raw → List ℕ → List Fault
-faults_after profile limits before bytes = first_step (frame_steps (is_none (slice_get before 0)) bytes ++ record_steps profile limits before (front_record bytes))
+-- The faults of a record after these records, in four steps: of the framing of the bytes that are present; of the layout of its contents, or of
+-- its blocks; of their length; of its rules.
+abbrev pub IsFramingFault : List Raw → List ℕ → Fault → Type 0
+IsFramingFault before bytes e = Contains (first_step (frame_steps (is_none (slice_get before 0)) bytes)) e
+
+abbrev pub IsLayoutFault : Limits → Raw → Fault → Type 0
+IsLayoutFault limits r e = AreBytes r.body × ((contents r.kind).Faults 3 r.body e ⊎ ((t : Rec) × IsRecOf t r × IsBlockFault limits t.kind t.contents e))
+
+abbrev pub IsTooLong : Limits → Raw → Fault → Type 0
+IsTooLong limits r e = (t : Rec) × IsRecOf t r × IsLengthFault limits t.kind t.contents e
+
+abbrev pub IsRuleFault : Profile → Limits → List Raw → Raw → Fault → Type 0
+IsRuleFault profile limits before r e = (m : List Rec) × (t : Rec) × AllZip IsRecOf m before × IsRecOf t r × Contains (broken (rules profile limits m t)) e
+
+-- The least fault of the first step that has any: of this step, or of a later one if this has none.
+abbrev pub IsFirstOf : (Fault → Type 0) → (Fault → Type 0) → Fault → Type 0
+IsFirstOf Step Later f = IsLeastOf Step f ⊎ (((e : Fault) → Step e → ⊥) × Later f)
+
+abbrev pub IsFirstFault : Profile → Limits → List Raw → List ℕ → Fault → Type 0
+IsFirstFault profile limits before bytes f = IsFirstOf (IsFramingFault before bytes) (IsFirstOf (IsLayoutFault limits (front_record bytes))
+    (IsFirstOf (IsTooLong limits (front_record bytes)) (IsLeastOf (IsRuleFault profile limits before (front_record bytes))))) f
 
 -- The input is refused for this reason at this place: it begins with records without fault, none of them a MODEND, and this is the
--- first fault, in the first step that has any, of the bytes that follow them.
+-- first fault of the bytes that follow them.
 pub record IsRefused (profile : Profile) (limits : Limits) (input : List ℕ) (why : Reason) (at : Place) : Type 0 where
   pub before : List Raw
   pub rest : List ℕ
-  pub fault : Fault
+  pub found : Fault
   pub spelled : input ≡ flat_map raw_bytes before ++ rest
   pub records : All IsRecord before
   pub running : All (λ r. IsTrue (not (is_end r.kind))) before
-  pub sound : (earlier later : List Raw) (r : Raw) → before ≡ earlier ++ r ∷ later → faults_after profile limits earlier (raw_bytes r) ≡ []
-  pub least : IsLeast (faults_after profile limits before (present rest)) fault
-  pub named : why ≡ fault.reason
-  pub there : at ≡ (record { number = length before; start = length (flat_map raw_bytes before); within = fault.within })
+  pub sound : (earlier later : List Raw) (r : Raw) → before ≡ earlier ++ r ∷ later → (f : Fault) → IsFirstFault profile limits earlier (raw_bytes r) f → ⊥
+  pub first : IsFirstFault profile limits before (present rest) found
+  pub named : why ≡ found.reason
+  pub there : at ≡ (record { number = length before; start = length (flat_map raw_bytes before); within = found.within })
 
 -- The bytes of a record at fault end where it is refused for this reason: after its type byte, after a length of 0, or at its end.
 -- NoEnd and Cut are decided only by the end of the input.

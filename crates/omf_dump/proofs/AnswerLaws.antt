@@ -15,6 +15,7 @@ use Rattle.omf_check.specs.WellFormed.{IsWellFormed}
 use Rattle.omf_check.specs.declared.profile.Profile.{Profile}
 use Rattle.omf_check.proofs.WellLaws.{well-read}
 use Rattle.omf_check.proofs.Passing.{bodies_of}
+use Rattle.omf_check.proofs.RefusedLaws.{refused-read}
 use Rattle.omf_check.proofs.StepLaws.{sound_of}
 use Rattle.omf_dump.specs.Dump.{AreRecords}
 use Rattle.omf_dump.proofs.WalkLaws.{in_between}
@@ -36,7 +37,8 @@ take_front n [] ys e = rw e refl
 take_front n (x ∷ xs) ys e = rw e (ap (λ (t : List ℕ). x ∷ t) (take_front (length xs) xs ys refl))
 
 pub refused_records : (profile : Profile) (input front : List ℕ) (why : Reason) (at : Place) (r : IsRefused profile profile_limits input why at) → AreBytes input → front ≡ take at.start input → at.number < 2 ^ 32 → AreRecords front r.before
-refused_records profile input front why at r bytes e few =
+refused_records profile input front why at refusal bytes e few =
+    let r = refused-read profile profile_limits input why at bytes refusal in
     let start : at.start ≡ length (flat_map raw_bytes r.before) = ap (λ (p : Place). p.start) r.there in
     let number : at.number ≡ length r.before = ap (λ (p : Place). p.number) r.there in
     let bodies : All (λ (x : Raw). AreBytes x.body) r.before = bodies_of r.before r.rest (subst AreBytes r.spelled bytes) in

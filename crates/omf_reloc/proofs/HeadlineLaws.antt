@@ -18,7 +18,7 @@ use Rattle.omf_check.proofs.WellLaws.{typed-read}
 use Rattle.omf_check.specs.Uses.{UsesAreDefined}
 use Rattle.omf_image.specs.Overlay.{Laid, byte_at}
 use Rattle.omf_reloc.specs.Inner.Names.{BeginsWith}
-use Rattle.omf_reloc.specs.Headline.{Headline, IsRelocated}
+use Rattle.omf_reloc.specs.Headline.{Headline, HasImage, IsRelocated}
 use Rattle.omf_reloc.specs.Laws.{AllReach, AllLieInside}
 use Rattle.omf_reloc.proofs.ReachLaws.{reach-decided}
 use Rattle.std.specs.Prelude.{Option}
@@ -28,7 +28,7 @@ use Rattle.omf_check.proofs.VerdictLaws.{either}
 use Rattle.omf_placement.specs.Placement.{Places}
 use Rattle.omf_reloc.specs.Image.{image, laid, start}
 use Rattle.omf_reloc.specs.Plain.{pieces}
-use Rattle.omf_reloc.specs.Reach.{Reaches, reach_fault}
+use Rattle.omf_reloc.specs.Reach.{reach_fault}
 use Rattle.omf_reloc.specs.declared.fault.ReachFault.{ReachFault}
 use Rattle.omf_reloc.proofs.InsideLaws.{all-inside}
 use Rattle.omf_reloc.specs.HeadlineLaws.{AcceptedAreSafe, IsSame}
@@ -62,18 +62,22 @@ module _ (profile : Profile) (input : List ℕ) (pl : Places) where
     reasons = (records, a, ap (reach_fault pl) (typed_of records a) ∙ e);
   }
 
-  pub relocates : (records : List Raw) → BeginsWith profile input records → (placed : List Laid) (begin : Option (ℕ × ℕ)) → IsRelocated pl (recs records) (byte_at placed) begin
+  pub relocates : (records : List Raw) → BeginsWith profile input records → (placed : List Laid) (begin : Option (ℕ × ℕ)) → IsRelocated pl records (byte_at placed) begin
       → Headline profile input pl (Relocated placed begin)
   relocates records a placed begin r = record {
-    answers = (records, a, subst (λ m. IsRelocated pl m (byte_at placed) begin) (sym (typed_of records a)) r);
+    answers = (
+      records,
+      a,
+      subst (λ m. HasImage pl m (byte_at placed) begin) (sym (typed_of records a))
+          (record { reaches = (reach-decided pl (recs records)).decided.0 r.reaches; bytes = r.bytes; begins = r.begins }),
+    );
     reasons = tt;
   }
 
   of_module : (records : List Raw) → BeginsWith profile input records → (o : Option ReachFault) → reach_fault pl (recs records) ≡ o → (answer : Answer) × Headline profile input pl answer
   of_module records a None e = (
     Relocated (laid profile_limits pl (pieces (recs records))) (start pl (recs records)),
-    relocates records a (laid profile_limits pl (pieces (recs records))) (start pl (recs records))
-    (record { reaches = (reach-decided pl (recs records)).decided.0 e; bytes = λ segment offset. refl; begins = refl }),
+    relocates records a (laid profile_limits pl (pieces (recs records))) (start pl (recs records)) (record { reaches = e; bytes = λ segment offset. refl; begins = refl }),
   )
   of_module records a (Some f) e = (DoesNotReach f, does_not_reach records a f e)
 

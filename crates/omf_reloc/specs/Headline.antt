@@ -14,7 +14,7 @@ use Rattle.omf_check.specs.declared.profile.Profile.{Profile}
 use Rattle.omf_placement.specs.Placement.{Places}
 use Rattle.omf_reloc.specs.Image.{image, start}
 use Rattle.omf_reloc.specs.Laws.{AllReach}
-use Rattle.omf_reloc.specs.Reach.{reach_fault}
+use Rattle.omf_reloc.specs.Reach.{Reaches, reach_fault}
 use Rattle.omf_reloc.specs.declared.headline.Answer.{Answer}
 use Rattle.omf_reloc.specs.declared.headline.Answer.TheVariants.{Refused, DoesNotReach, Relocated}
 use Rattle.omf_reloc.specs.declared.headline.AnswerAt.{AnswerAt}
@@ -24,23 +24,30 @@ use Rattle.omf_reloc.specs.declared.headline.NoAnswer.TheVariants.{Memory, Read}
 
 -- A module is relocated: its placement reaches; the image has the defined byte, or none, at each offset of each segment; and the start is the
 -- defined one.
-pub record IsRelocated (pl : Places) (m : List Rec) (laid : ℕ → ℕ → Option ℕ) (begin : Option (ℕ × ℕ)) : Type 0 where
+pub record IsRelocated (pl : Places) (records : List Raw) (laid : ℕ → ℕ → Option ℕ) (begin : Option (ℕ × ℕ)) : Type 0 where
+  pub reaches : Reaches pl (recs records)
+  pub bytes : (segment offset : ℕ) → laid segment offset ≡ image profile_limits pl (recs records) segment offset
+  pub begins : begin ≡ start pl (recs records)
+
+-- A module has this image and this start at a placement: the placement reaches; the image has the defined byte, or none, at each offset of each
+-- segment; and the start is the defined one.
+pub record HasImage (pl : Places) (m : List Rec) (laid : ℕ → ℕ → Option ℕ) (begin : Option (ℕ × ℕ)) : Type 0 where
   pub reaches : AllReach pl m
   pub bytes : (segment offset : ℕ) → laid segment offset ≡ image profile_limits pl m segment offset
   pub begins : begin ≡ start pl m
 
 -- The answer to a module and a placement: the module is relocated exactly if the placement reaches; or else the answer is the first reason why
 -- it does not.
-abbrev pub IsAnswerAt : Places → List Rec → AnswerAt → Type 0
-IsAnswerAt pl m (at.DoesNotReach fault) = reach_fault pl m ≡ Some fault
-IsAnswerAt pl m (at.Relocated laid begin) = IsRelocated pl m (byte_at laid) begin
+abbrev pub IsAnswerAt : Places → List Raw → AnswerAt → Type 0
+IsAnswerAt pl records (at.DoesNotReach fault) = reach_fault pl (recs records) ≡ Some fault
+IsAnswerAt pl records (at.Relocated laid begin) = IsRelocated pl records (byte_at laid) begin
 
 -- An input is refused exactly if it begins with no well-formed module. If it begins with one, it is relocated exactly if the placement reaches.
 abbrev pub IsAnswer : Profile → List ℕ → Places → Answer → Type 0
 IsAnswer profile input pl (Refused reason place) = (records : List Raw) → IsAccepted profile profile_limits input records → ⊥
 IsAnswer profile input pl (DoesNotReach fault) = (records : List Raw) × (a : IsAccepted profile profile_limits input records) × (AllReach pl a.well_formed.typed_records → ⊥)
 IsAnswer profile input pl (Relocated laid begin) = (records : List Raw) × (a : IsAccepted profile profile_limits input records)
-    × IsRelocated pl a.well_formed.typed_records (byte_at laid) begin
+    × HasImage pl a.well_formed.typed_records (byte_at laid) begin
 
 -- The reason of a refusal is the first, at its place; the fault of a placement is the first reason why it does not reach.
 abbrev pub HasReason : Profile → List ℕ → Places → Answer → Type 0
@@ -65,15 +72,15 @@ pub record IsModuleRead (profile : Profile) (old new : Device) (records : List R
 -- for it.
 abbrev pub IsReadAs : Profile → Places → Device → Device → Answer → Type 0
 IsReadAs profile pl old new (Refused reason place) = (read : List ℕ) × Consumes old.bytes new.bytes read × IsReadTo profile read new.bytes reason place
-IsReadAs profile pl old new (DoesNotReach fault) = (records : List Raw) × IsModuleRead profile old new records × IsAnswerAt pl (recs records) (at.DoesNotReach fault)
-IsReadAs profile pl old new (Relocated laid begin) = (records : List Raw) × IsModuleRead profile old new records × IsAnswerAt pl (recs records) (at.Relocated laid begin)
+IsReadAs profile pl old new (DoesNotReach fault) = (records : List Raw) × IsModuleRead profile old new records × IsAnswerAt pl records (at.DoesNotReach fault)
+IsReadAs profile pl old new (Relocated laid begin) = (records : List Raw) × IsModuleRead profile old new records × IsAnswerAt pl records (at.Relocated laid begin)
 
 -- Why there is no answer: the reader failed, or memory ran out. The bytes read then have no refusal other than for ending too early; or, if memory
 -- ran out, they are a module that the placement reaches.
 abbrev pub IsAside : Profile → Places → Device → Device → NoAnswer → Type 0
 IsAside profile pl old new Read = IsCheckFault profile old.bytes new.bytes old.failures new.failures check.Read
 IsAside profile pl old new Memory = IsCheckFault profile old.bytes new.bytes old.failures new.failures check.Memory
-    ⊎ ((records : List Raw) × IsModuleRead profile old new records × AllReach pl (recs records))
+    ⊎ ((records : List Raw) × IsModuleRead profile old new records × Reaches pl (recs records))
 
 -- Only interruptions of the reader are retried: Read means one failure of another kind, or a thousand interruptions; otherwise the reader had no
 -- failure but interruptions.

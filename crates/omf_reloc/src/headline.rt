@@ -11,9 +11,9 @@
 //! `relocate_at` is its second half, for a module that is checked already.
 
 ghost use Rattle.std.specs.Prelude.{◌≡◌, ◌≤◌, ℕ, List, Some, IfOk, IfErr};
-ghost use Rattle.omf_check.specs.Module.{recs_of};
+ghost use Rattle.omf_check.specs.Module.{records_in, recs_of};
 ghost use Rattle.omf_reloc.specs.Headline.{Headline, IsAnswerAt, IsAside, IsReadAs, ReadsPatiently};
-ghost use Rattle.omf_reloc.specs.Laws.{AllReach};
+ghost use Rattle.omf_reloc.specs.Reach.{Reaches};
 
 pub mod laws;
 
@@ -84,8 +84,8 @@ pub fn relocate_at(
     module: &Checked,
     placement: &Placement,
 ) -> Result<AnswerAt, AllocError>
-    ensures answer { IfOk result (IsAnswerAt placement.now (recs_of «module».now.bytes)) }
-    ensures memory { IfErr result (λ e. AllReach placement.now (recs_of «module».now.bytes)) }
+    ensures answer { IfOk result (IsAnswerAt placement.now (records_in «module».now.bytes)) }
+    ensures memory { IfErr result (λ e. Reaches placement.now (recs_of «module».now.bytes)) }
 {
     match reach_and_relocate(alloc, module, placement) {
         Ok(image) => {

@@ -5,7 +5,8 @@ use Rattle.omf_frame.specs.Fault.{Fault, Rule}
 use Rattle.omf_frame.specs.Framing.{frame_steps, Raw, front_record, raw_bytes, is_end_of_input}
 use Rattle.omf_check.specs.declared.profile.Profile.{Profile}
 use Rattle.omf_image.specs.declared.limits.Limits.{Limits}
-use Rattle.omf_check.specs.Refusal.{fault_from, record_steps}
+use Rattle.omf_check.specs.Inner.Faults.{record_steps}
+use Rattle.omf_check.specs.Refusal.{fault_from}
 use Rattle.omf_image.specs.Inner.Expanding.{block_faults, length_faults}
 use Rattle.omf_frame.specs.declared.fault.Place.{Place}
 use Rattle.omf_records.specs.Values.{Subrecord, Rec, At, SegmentItem, Contents, Iterated, width}

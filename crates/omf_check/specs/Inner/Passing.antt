@@ -10,7 +10,7 @@ use Rattle.omf_frame.specs.Framing.{Raw, raw_bytes, IsRecord, is_end, is_whole, 
 use Rattle.omf_image.specs.Limits.{profile_limits}
 use Rattle.omf_check.specs.Inner.Kept.{Kept, Tells, IsBounded}
 use Rattle.omf_check.specs.Inner.Points.{PointsTo}
-use Rattle.omf_check.specs.Refusal.{faults_after}
+use Rattle.omf_check.specs.Inner.Faults.{faults_after}
 use Rattle.omf_check.specs.WellFormed.{IsWellFormed, recs}
 use Rattle.omf_check.specs.declared.fault.CheckFault.{CheckFault}
 use Rattle.omf_check.specs.declared.fault.CheckFault.TheVariants.{Memory, Read, Refused}

@@ -6,7 +6,7 @@ use Rattle.omf_frame.specs.declared.fault.Place.{Place}
 use Rattle.omf_frame.specs.declared.fault.Reason.{Reason}
 use Rattle.omf_image.specs.declared.limits.Limits.{Limits}
 use Rattle.omf_check.specs.Inner.Names.{place_after}
-use Rattle.omf_check.specs.Refusal.{faults_after}
+use Rattle.omf_check.specs.Inner.Faults.{faults_after}
 use Rattle.omf_check.specs.declared.profile.Profile.{Profile}
 
 -- Accepted with these records, or refused. `Unknown` does not occur.
