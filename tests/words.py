@@ -5,8 +5,8 @@ words.py          compares with tests/words.txt: status 1 where a count has grow
 words.py --set    stores the counts
 words.py --show   prints each place
 
-Counted are the documents (README.md, docs/, man/, examples/, include/, the scripts) and the comments of the crates' sources. docs/CALLS.md and docs/BELIEVE.md,
-which are made from these, are left out, and so are the tables that tests/house.py makes, tests/words.py and tests/words.txt.
+Counted are the documents (README.md, docs/, man/, examples/, include/, the scripts) and the comments of the crates' sources. docs/CALLS.md, docs/BELIEVE.md and
+docs/REFUSALS.md, which are made from these, are left out, and so are the tables that tests/house.py makes, tests/words.py and tests/words.txt.
 """
 import pathlib
 import re
@@ -41,7 +41,7 @@ def documents():
     for folder in ("docs", "man", "examples", "include", "tests", "bench"):
         for path in sorted((ROOT / folder).rglob("*")):
             known = path.suffix in (".md", ".1", ".h", ".in", ".sh", ".py", ".c", ".asm", ".place", ".link")
-            if path.is_file() and known and path.name not in ("CALLS.md", "BELIEVE.md", "words.py", "words.txt"):
+            if path.is_file() and known and path.name not in ("CALLS.md", "BELIEVE.md", "REFUSALS.md", "words.py", "words.txt"):
                 yield path
 
 
