@@ -75,6 +75,7 @@ class Page {
   async file(file) {
     this.isTaken = true;
     $("examples-list").value = "";
+    $("file-kind").hidden = true;
     if (file.size <= MOST_BYTES) return this.open(file.name, new Uint8Array(await file.arrayBuffer()));
     this.close(file.name);
     this.say("bad", `${file.name} has ${count(file.size, "byte")}; this page takes files of up to 64 MB.`);
@@ -84,6 +85,7 @@ class Page {
     const example = this.examples[i];
     this.files.set([]);
     $("examples-list").value = i;
+    $("file-kind").hidden = false;
     return this.open(example.name, fromBase64(example.bytes), example.placement);
   }
 
@@ -92,6 +94,7 @@ class Page {
     this.engine.renew();
     const turn = this.turn = Symbol(name);
     $("file-name").textContent = name;
+    document.title = `${name}: omf`;
     this.library.clear();
     this.empty();
     return () => turn !== this.turn;

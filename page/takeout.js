@@ -18,22 +18,24 @@ class TakeOut {
 
   buttons(kind) {
     const { program, isBinary } = TAKEN[kind], what = `what ${program} prints${isBinary ? ", in hexadecimal" : ""}`;
-    const button = (word, title, act) => element("button", { type: "button", class: "small", title, "data-act": `${word.toLowerCase()}-${kind}`,
-      onclick: event => this.act(event.target, () => act.call(this, kind)) }, kind === "json" ? `${word} JSON` : word);
+    const button = (word, title, act) => {
+      const label = kind === "json" ? `${word} JSON` : word;
+      return element("button", { type: "button", class: "small", title, "data-act": `${word.toLowerCase()}-${kind}`, "data-label": label,
+        onclick: event => this.act(event.target, () => act.call(this, kind)) }, label);
+    };
     return [button("Copy", `Copy ${what}`, this.copy), " ", button("Save", `Save what ${program} prints`, this.save)];
   }
 
   // Does it, and shows for a moment in the button how it went.
   async act(button, act) {
-    const word = button.textContent;
-    button.disabled = true;
+    const { label } = button.dataset;
     try {
       button.textContent = await act();
     } catch (fault) {
       button.textContent = "failed";
       button.title = fault.message;
     }
-    setTimeout(() => { button.textContent = word; button.disabled = false; }, 900);
+    setTimeout(() => { button.textContent = label; }, 900);
   }
 
   async save(kind) {

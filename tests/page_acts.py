@@ -2,7 +2,7 @@
 import base64
 import time
 
-from page_shared import ROOT, STATE, hostile, large, library, open_file, record, text_of
+from page_shared import ROOT, STATE, hostile, large, library, named, open_file, record, text_of
 
 
 def after(tab, act, until=f"{STATE} === 'done'"):
@@ -49,7 +49,7 @@ def libraries(tab, tries, folder):
     tab.value(f"{STATE} = 'waiting'")
     tab.press("n")
     tab.until(f"{STATE} === 'done'")
-    tries.see("library: the next fault", "in four.lib is refused: the checksum" in tab.value(text_of("verdict")), True)
+    tries.see("library: the next fault", "in four.lib is refused: the record's checksum is wrong" in tab.value(text_of("verdict")), True)
     tab.value("document.getElementById('members-search').focus(); 0")
     tab.type("boot.a")
     tries.see("library: a search", tab.value("[...document.querySelectorAll('#members .row')].map(it => it.innerText.includes('boot.asm'))"), [True])
@@ -113,8 +113,8 @@ def keys(tab, tries, folder):
     tab.value("page.tree.choose(0); document.activeElement.blur(); 0")
     tab.press("n")
     tries.see("key n", tab.value(at), 3)
-    tab.value("page.tree.choose(4); 0")
-    tries.see("the record after the fault", "8A MODEND length 0001H  not judged" in tab.value("document.getElementById('row4')?.innerText ?? [...document.querySelectorAll('#tree .row')].at(-1).innerText"), True)
+    row = tab.value("(() => { const i = page.tree.indexOf(4); page.tree.choose(i); return document.getElementById('row' + i).innerText; })()")
+    tries.see("the record after the fault", "8A MODEND length 0001H  not judged" in row, True)
 
 
 def copied(tab, tries, folder):
@@ -169,14 +169,15 @@ def placements(tab, tries, folder):
     tries.see("no address", "123456789” is no address" in tab.value(text_of("said-a")), True)
     open_file(tab, ROOT / "examples/boot/boot.omf")
     tries.see("a draft that reaches is taken", [tab.value("kind.value"), tab.value("document.querySelectorAll('#said-a .good').length")], ["flat", 1])
-    file = folder / "far.obj"   # an offset in a frame that begins after it
-    file.write_bytes(b"".join((record(0x80, b"\x01a"), record(0x96, b"\0\x01A\x01B"), record(0x98, bytes([0x60, 0xF0, 0xFF, 2, 1, 1])),
-                               record(0x98, bytes([0x60, 4, 0, 3, 1, 1])), record(0xA0, bytes([1, 0, 0, 0, 0])), record(0x9C, bytes([0xC4, 0, 4, 2, 1, 0xFF, 0xFF])),
-                               record(0x8A, b"\0"))))
+    # The first fixup does not reach in real mode, since its frame begins after its target, and the second not in one frame of 64 KB.
+    file = folder / "far.obj"
+    file.write_bytes(b"".join((record(0x80, named(b"a")), record(0x96, named(b"") + named(b"A") + named(b"B")), record(0x98, bytes([0x60, 0xF0, 0xFF, 2, 1, 1])),
+                               record(0x98, bytes([0x60, 4, 0, 3, 1, 1])), record(0xA0, bytes([1, 0, 0, 0, 0, 0, 0])),
+                               record(0x9C, bytes([0xC4, 0, 4, 2, 1, 0xC4, 2, 4, 1, 2])), record(0x8A, b"\0"))))
     open_file(tab, file)
-    if not tab.value("document.querySelectorAll('#said-a .good').length"):
-        tries.see("a good module whose drafts do not reach", tab.value("[verdict.className, document.querySelectorAll('#said-a .warn, .arrow.warn').length > 0, "
-                                                                       "document.querySelectorAll('#said-a .bad, .arrow.bad').length]"), ["good", True, 0])
+    seen = tab.value("[verdict.className, document.querySelectorAll('#said-a .warn').length, document.querySelectorAll('.arrow.warn').length, "
+                     "document.querySelectorAll('#said-a .bad, .arrow.bad').length]")
+    tries.see("a good module whose drafts do not reach", seen, ["good", 1, 1, 0])
 
 
 def compared(tab, tries, folder):
