@@ -1,5 +1,5 @@
 #!/usr/bin/env bash
-# Packs what `make build library` (and `make page`) left into build/omf-VERSION-x86_64-linux.tar.gz: pack.sh PROGRAM..
+# Packs what `make build library page` left into build/omf-VERSION-x86_64-linux.tar.gz: pack.sh PROGRAM..
 #
 # A PROGRAM is NAME=FILE: its name in bin/, and the proved program. GATE names a log of `.ci/run`, whose last line is packed; without it the
 # file GATE states that none was named. The same files give the same bytes: names are sorted, times are 0, and the owner is 0.
@@ -23,14 +23,15 @@ mkdir -p "$to/lib/pkgconfig" "$to/python/omf"
 sed "s|@PREFIX@|\${pcfiledir}/../..|; s|@VERSION@|$version|" include/omf.pc.in > "$to/lib/pkgconfig/omf.pc"
 cp python/omf/__init__.py python/omf/py.typed "$to/python/omf/"
 cp LICENSE "$to/LICENSE"
-if [ -f build/omf.html ]; then cp build/omf.html "$to/omf.html"; fi
+cp build/omf.html "$to/omf.html"
 if [ -n "${GATE:-}" ]; then tail -n 1 "$GATE" > "$to/GATE"; else echo "no run of the gate was named" > "$to/GATE"; fi
 glibc=$(objdump -T "$to"/bin/* "$to/lib/libomf.so" | grep -o 'GLIBC_[0-9.]*' | sort -Vu | tail -n 1)
 cat > "$to/README" << END
 Tools for object modules in OMF (TIS OMF 1.1), version $version, for Linux on x86-64 with glibc ${glibc#GLIBC_} or later.
 
 bin/ has the programs, share/man/man1/ a page for each, lib/ and include/ the library for C, python/ the package for Python (set PYTHONPATH to
-that folder, and LIBOMF to lib/libomf.so). GATE has the last line of the run that proved and tested the sources. To check the files:
+that folder, and LIBOMF to lib/libomf.so). omf.html shows a module in a browser. GATE has the last line of the run that proved and tested the
+sources. To check the files:
 
     sha256sum -c SHA256SUMS
 END
