@@ -4,6 +4,7 @@
 #                       it in build/unproved/
 # make draft FILE=x.obj drafts a placement the same way; WORDS=--real, or WORDS="--base 7C00 --flat 1B", has the options
 # make look             the first example the same way
+# make try-all          builds the five programs without their proofs, under their names in build/unproved/bin (minutes, once)
 # make library          proves and builds the library for C: build/libomf.a, build/libomf.so; with UNPROVED=1 both are in build/unproved/,
 #                       built without proofs in some minutes
 # make try-c            tests the library for C (tests/c/run.sh) over examples/ and the folder MODULES
@@ -36,7 +37,7 @@ export FILE PLACE UNPROVED
 # Programs of `tests/unproved.sh` for a test of what was built without proofs.
 unproved_programs = OMF=$$(tests/unproved.sh omf) OMF_DUMP=$$(tests/unproved.sh omf_dump) OMF_PLACE=$$(tests/unproved.sh omf_place) OMF_LIB=$$(tests/unproved.sh omf_lib)
 
-.PHONY: first look try draft build library try-c page try-page proved install dist vendor shown docs ci
+.PHONY: first look try try-all draft build library try-c page try-page proved install dist vendor shown docs ci
 
 first:
 	@cd crates/omf && cat ../../examples/first.omf ../../examples/first.place | rt run -- reloc
@@ -50,6 +51,13 @@ try:
 	@test -f "$$FILE" || { echo "no such file: $$FILE"; exit 2; }
 	@test -z "$$PLACE" || test -f "$$PLACE" || { echo "no such file: $$PLACE"; exit 2; }
 	@program=$$(tests/unproved.sh omf) && cat "$$FILE" $${PLACE:+"$$PLACE"} | "$$program" "$(JOB)" $(FLAG)
+
+try-all:
+	@mkdir -p build/unproved/bin
+	@for crate in omf omf_place omf_link omf_dump omf_lib; do \
+		program=$$(tests/unproved.sh $$crate) && ln -sf "../$$crate" "build/unproved/bin/$$(echo $$crate | tr _ -)" || exit 1; \
+	done
+	@echo "the programs are in build/unproved/bin, built without their proofs"
 
 draft:
 	@test -n "$$FILE" || { echo "usage: make draft FILE=x.obj [WORDS=\"--base 7C00 --real\"]"; exit 2; }
