@@ -17,7 +17,7 @@ program_byte program base address = if nat_le base address then slice_get progra
 abbrev pub byte_there : Places → List ℕ → ℕ → ℕ → ℕ → Option ℕ
 byte_there pl program base segment x = option_and_then (λ p. program_byte program base (p.address + x)) (entry pl.segments segment)
 
--- The placement reaches, and each byte of the image is the program's at its address, but for the segments that are said to be absent: a
+-- The placement reaches, and each byte of the image is the program's at its address, but for the segments that are named as absent: a
 -- linker may leave out what nothing refers to.
 pub record IsFound (m : List Rec) (pl : Places) (absent program : List ℕ) (base : ℕ) : Type 0 where
   pub reaches : Reaches pl m

@@ -5,6 +5,7 @@ use Rattle.std.specs.Prelude.{ℕ, ◌-◌, List, [], ◌∷◌, filter_map, Boo
 use Rattle.std.specs.List.{list_any}
 use Rattle.omf_frame.specs.Bytes.{with_after, last}
 use Rattle.omf_records.specs.Values.{Rec, Contents, Plain, Iterated, width, location_offset}
+-- computed: blocks_are_read and lengths_are_decided of omf_image.
 use Rattle.omf_image.specs.Inner.Expanding.{expanded}
 use Rattle.omf_image.specs.Overlay.{Laid, byte_of}
 use Rattle.omf_image.specs.declared.limits.Limits.{Limits}

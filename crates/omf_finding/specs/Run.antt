@@ -3,6 +3,7 @@ use Rattle.std.specs.Prelude.{◌≡◌, ℕ, List, map, length, Option, Some, N
 use Rattle.std.specs.List.{range_with_len}
 use Rattle.omf_image.specs.Overlay.{byte_at, IsRunAt}
 use Rattle.omf_finding.specs.declared.patterning.PatternByte.{PatternByte}
+-- computed: images_have_the_pattern of omf_finding.
 use Rattle.omf_finding.specs.Inner.Walking.{Marks, byte_in}
 
 abbrev pub closed_byte : Option PatternByte → Option ℕ

@@ -1,4 +1,4 @@
--- What a fixup says of its target: the value that a program has at its location, in a frame.
+-- What a fixup shows of its target: the value that a program has at its location, in a frame.
 use Rattle.std.specs.Prelude.{◌↔◌, ◌<◌, ℕ, ◌+◌, ◌^◌, List, filter_map, Contains}
 use Rattle.omf_frame.specs.Bytes.{difference}
 use Rattle.omf_reloc.specs.Offsets.{readings, offsets}

@@ -150,7 +150,7 @@ fn expanded(alloc: Global, blocks: Blocks<'_>) -> Result<Vec<u8>, AllocError>
     Ok(bytes)
 }
 
-/// A byte so many times.
+/// A byte, repeated n times.
 fn repeated(alloc: Global, byte: u8, count: usize) -> Result<Vec<u8>, AllocError>
     ensures { IfOk result (λ v. v.items ≡ replicate count byte) }
 {
