@@ -46,7 +46,7 @@ run-shown p segment k run bytes h e =
       e ∙ ap (λ (n : ℕ). cells (byte_in p segment) run.first n) (sym size),
     )
 
--- ---- a pattern lies where each of its bytes agrees
+-- ---- a pattern is where each of its bytes agrees
 
 pub record Meets (byte : Option PatternByte) (there : Option ℕ) : Type 0 where
   pub value : ℕ

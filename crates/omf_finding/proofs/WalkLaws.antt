@@ -1,4 +1,4 @@
--- What is known during the walk that makes a pattern: what is laid so far, and what is left to lay, are all.
+-- What is known during the walk that makes a pattern: the pieces so far, and the pieces that are left, are all.
 use Rattle.std.proofs.Common.{◌≡◌, ℕ, List, [], ◌∷◌, length, refl, sym, ap, ap₂, subst, ◌∙◌, arith}
 use Rattle.std.specs.Prelude.{flat_map, Option, Some, None, IfSome}
 use Rattle.omf_records.specs.Values.{Rec, Contents, Names, Plain, Iterated, DataItem}

@@ -1,4 +1,4 @@
--- Where a pattern lies in a program. An open byte of a pattern is None.
+-- Where a pattern is in a program. An open byte of a pattern is None.
 use Rattle.std.specs.Prelude.{ℕ, ◌+◌, List, drop, length, filter, Bool, true, ◌==◌, ◌&&◌, nat_le, Option, Some, None}
 use Rattle.std.specs.List.{range_with_len, list_all, zip}
 

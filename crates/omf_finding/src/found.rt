@@ -27,7 +27,7 @@ fn lies_in(program: &[u8], base: u32, address: u64, bytes: &[u8]) -> bool
     program[start.min(program.len())..].starts_with(bytes)
 }
 
-/// Each byte of a segment that lies at an address is the program's.
+/// Each byte of a segment that is at an address is the program's.
 fn segment_agrees(image: &Image, segment: u16, address: u32, program: &[u8], base: u32) -> bool
     ensures found { result ≡ true → SegmentAgrees image.now segment address program.now base }
     ensures wrong { result ≡ false → SegmentAgrees image.now segment address program.now base → ⊥ }

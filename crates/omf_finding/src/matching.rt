@@ -1,4 +1,4 @@
-//! The places of a program at which a pattern lies.
+//! The places of a program at which a pattern is.
 
 ghost use Rattle.std.specs.Prelude.{◌≡◌, IfOk};
 ghost use Rattle.std.specs.List.{list_all, zip};
@@ -26,14 +26,14 @@ fn all_agree(pattern: &[Option<u8>], bytes: &[u8]) -> bool
         .all(|(cell, byte)| agrees(*cell, *byte))
 }
 
-/// The pattern lies at an offset of a program: it is whole inside it, and each closed byte agrees.
+/// The pattern is at an offset of a program: it is whole inside it, and each closed byte agrees.
 fn lies_at(pattern: &[Option<u8>], program: &[u8], at: usize) -> bool
     ensures { result ≡ lies_at pattern.now program.now at }
 {
     at <= program.len() && pattern.len() <= program.len() - at && all_agree(pattern, &program[at..])
 }
 
-/// The offsets of a program at which a pattern lies, in ascending order. An open byte is `None`.
+/// The offsets of a program at which a pattern is, in ascending order. An open byte is `None`.
 ///
 /// # Errors
 ///

@@ -29,7 +29,7 @@ pub fn blocks_are_closed()
     ensures { pattern_row with_blocks 5 ≡ closed 0xAA ∷ closed 0xAA ∷ closed 0xBB ∷ closed 0xCC ∷ closed 0xAA ∷ [] }
 {}
 
-/// The first module's pattern lies where its closed bytes are; a place past the last byte is none.
+/// The first module's pattern is where its closed bytes are; a place past the last byte is none.
 pub fn places_of_the_first()
     ensures two { places (Some 0xB8 ∷ None ∷ None ∷ Some 0x90 ∷ []) (hex (codes "00 B8 20 00 90 B8 90 90 90")) ≡ 1 ∷ 5 ∷ [] }
     ensures cut { places (Some 0xB8 ∷ None ∷ None ∷ Some 0x90 ∷ []) (hex (codes "B8 20 00")) ≡ [] }

@@ -13,7 +13,7 @@ const MODULE: [u8; 48] = [
     0x90, 0x0F, 0x9C, 0x06, 0x00, 0xC4, 0x01, 0x04, 0x01, 0x01, 0x93, 0x8A, 0x02, 0x00, 0x00, 0x74,
 ];
 
-/// The pattern lies at 1 and at 5; the module only at 1, if its address is 10020H in the frame of 10000H.
+/// The pattern is at 1 and at 5; the module only at 1, if its address is 10020H in the frame of 10000H.
 const PROGRAM: [u8; 9] = [0x90, 0xB8, 0x20, 0x00, 0x90, 0xB8, 0x21, 0x00, 0x90];
 
 fn module_in(alloc: Global) -> Option<Checked> {

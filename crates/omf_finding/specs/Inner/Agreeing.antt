@@ -10,7 +10,7 @@ use Rattle.omf_finding.specs.Found.{program_byte}
 abbrev pub lies_in : List ℕ → ℕ → ℕ → List ℕ → Bool
 lies_in program base address bytes = nat_le base address && starts_with (λ a b. a == b) (drop (address - base) program) bytes
 
--- Each byte of a segment that lies at an address is the program's.
+-- Each byte of a segment that is at an address is the program's.
 abbrev pub SegmentAgrees : List Laid → ℕ → ℕ → List ℕ → ℕ → Type 0
 SegmentAgrees image segment address program base = (x b : ℕ) → byte_at image segment x ≡ Some b → program_byte program base (address + x) ≡ Some b
 
