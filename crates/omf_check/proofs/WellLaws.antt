@@ -28,7 +28,7 @@ read-once [] (r ∷ records) h = absurd h
 read-once (t ∷ m) [] h = absurd h
 read-once (t ∷ m) (r ∷ records) h = ap₂ (λ x xs. x ∷ xs) (are_typed r t h.0.0 h.0.1).0 (read-once m records h.1)
 
-abbrev IsSpelled : Raw → Type 0
+abbrev pub IsSpelled : Raw → Type 0
 IsSpelled r = IsTyped (typed r) r.body
 
 spelled-by : (m : List Rec) (records : List Raw) → AllZip IsRecOf m records → All IsSpelled records
@@ -38,7 +38,7 @@ spelled-by (t ∷ m) [] h = absurd h
 spelled-by (t ∷ m) (r ∷ records) h =
     All-cons IsSpelled r records (subst (λ x. IsTyped x r.body) (are_typed r t h.0.0 h.0.1).0 h.0.1) (spelled-by m records h.1)
 
-zipped : (records : List Raw) → All IsSpelled records → AllZip IsRecOf (recs records) records
+pub zipped : (records : List Raw) → All IsSpelled records → AllZip IsRecOf (recs records) records
 zipped [] h = tt
 zipped (r ∷ records) h = ((refl, All-head IsSpelled r records h), zipped records (All-tail IsSpelled r records h))
 
