@@ -47,25 +47,10 @@ fn lowest_of(members: Items<Member<'_>>, segments: &[Placed]) -> Option<Placed>
 pub fn lowest_member(rec: &Rec<'_>, segments: &[Placed]) -> Option<Placed>
     ensures { result ≡ lowest_in segments.now (contents_seen rec.now) }
 {
-    match rec {
-        Rec::Group { members, .. } => lowest_of(members.iter(), segments),
-        Rec::Header { .. }
-        | Rec::Comment { .. }
-        | Rec::Names(_)
-        | Rec::Segment { .. }
-        | Rec::Externs(_)
-        | Rec::Publics { .. }
-        | Rec::Communals(_)
-        | Rec::Plain { .. }
-        | Rec::Iterated { .. }
-        | Rec::Fixups { .. }
-        | Rec::ModEnd { .. }
-        | Rec::LocalNames(_)
-        | Rec::LocalExterns { .. }
-        | Rec::LocalPublics { .. }
-        | Rec::LocalCommunals(_)
-        | Rec::Carried { .. } => None,
-    }
+    let Rec::Group { members, .. } = rec else {
+        return None;
+    };
+    lowest_of(members.iter(), segments)
 }
 
 /// The frame of the `k`th group by its members, with the segments at these places.

@@ -2,12 +2,10 @@
 
 ghost use Rattle.std.specs.Prelude.{◌≡◌, ◌++◌, ◌<◌, ◌≤◌, IfOk, IfSome, OnOk, false, length, option_map};
 ghost use Rattle.omf_check.specs.Module.{recs_of};
-ghost use Rattle.omf_records.specs.Inner.Seen.{contents_seen};
 ghost use Rattle.omf_placement.specs.Inner.Pairing.{front_index, pairs_after};
 ghost use Rattle.omf_placement.specs.Weak.{indices, paired, pairs_in, weak_pairs};
 
 use omf_check::{Checked, Undecoded};
-use omf_records::Rec;
 use std::alloc::{AllocError, Global};
 
 /// The classes of comments that have such pairs: WKEXT and LZEXT.
@@ -67,44 +65,17 @@ fn put_pairs(pairs: &mut Vec<WeakPair>, text: &[u8]) -> Result<(), AllocError>
     Ok(())
 }
 
-/// Appends the pairs of a record.
-fn put_record(pairs: &mut Vec<WeakPair>, rec: &Rec<'_>) -> Result<(), AllocError>
-    ensures { OnOk result (pairs.new.items ≡ pairs.old.items ++ pairs_in (contents_seen rec.now)) }
+/// Appends the pairs of a record. No record but a comment is decoded.
+fn put_record(pairs: &mut Vec<WeakPair>, rec: &Undecoded<'_>) -> Result<(), AllocError>
+    ensures { OnOk result (pairs.new.items ≡ pairs.old.items ++ pairs_in rec.now.contents) }
 {
-    match rec {
-        Rec::Comment { class, text, .. } => {
-            if *class == WEAK || *class == LAZY {
-                return put_pairs(pairs, text);
-            }
-            Ok(())
-        }
-        Rec::Header { .. }
-        | Rec::Names(_)
-        | Rec::Segment { .. }
-        | Rec::Group { .. }
-        | Rec::Externs(_)
-        | Rec::Publics { .. }
-        | Rec::Communals(_)
-        | Rec::Plain { .. }
-        | Rec::Iterated { .. }
-        | Rec::Fixups { .. }
-        | Rec::ModEnd { .. }
-        | Rec::LocalNames(_)
-        | Rec::LocalExterns { .. }
-        | Rec::LocalPublics { .. }
-        | Rec::LocalCommunals(_)
-        | Rec::Carried { .. } => Ok(()),
+    let Some(comment) = rec.as_comment() else {
+        return Ok(());
+    };
+    if comment.class == WEAK || comment.class == LAZY {
+        return put_pairs(pairs, comment.text);
     }
-}
-
-/// The same for a record that is not decoded yet. It is decoded only if it is a comment.
-fn put_undecoded(pairs: &mut Vec<WeakPair>, record: &Undecoded<'_>) -> Result<(), AllocError>
-    ensures { OnOk result (pairs.new.items ≡ pairs.old.items ++ pairs_in «record».now.contents) }
-{
-    match record.comment() {
-        Some(rec) => put_record(pairs, &rec),
-        None => Ok(()),
-    }
+    Ok(())
 }
 
 /// Returns the pairs of a module, in order.
@@ -116,8 +87,8 @@ pub fn weak_pairs(alloc: Global, module: &Checked) -> Result<Vec<WeakPair>, Allo
     ensures { IfOk result (λ v. v.items ≡ weak_pairs (recs_of «module».now.bytes)) }
 {
     let mut pairs = Vec::new(alloc);
-    for (_, record) in module.undecoded() {
-        put_undecoded(&mut pairs, &record)?;
+    for (_, rec) in module.undecoded() {
+        put_record(&mut pairs, &rec)?;
     }
     Ok(pairs)
 }

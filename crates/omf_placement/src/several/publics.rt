@@ -2,7 +2,6 @@
 
 ghost use Rattle.std.specs.Prelude.{◌≡◌, ◌+◌, [], ◌∷◌, length, OnOk, IfOk, List, flat_map, filter_map, option_to_list, true, false};
 ghost use Rattle.omf_check.specs.Module.{recs_of};
-ghost use Rattle.omf_records.specs.Inner.Seen.{contents_seen, kind_seen};
 ghost use Rattle.omf_placement.specs.Derive.{PlacedPublic, paragraph, base_of, public_at, publics_at, record_publics, publics, all_publics, placed_modules};
 ghost use Rattle.omf_placement.specs.Inner.Derived.{of_name, one_public};
 ghost use Rattle.omf_placement.specs.Inner.PublicTable.{IsTable, HasMore, based, found_after, summed};
@@ -14,7 +13,7 @@ use crate::several::fault::DeriveFault;
 use omf_check::{Checked, Undecoded};
 use omf_frame::Index;
 use omf_names::NameKey;
-use omf_records::{Items, Public, Rec};
+use omf_records::{Items, Public};
 use std::alloc::{AllocError, Global};
 use std::collections::BTreeMap;
 
@@ -72,67 +71,23 @@ pub(crate) fn base_of(
     })
 }
 
-/// These items with their base, if there is one.
-fn at_base<'a>(
-    base: Option<Placed>,
-    items: Items<Public<'a>>,
-) -> Option<(Placed, Items<Public<'a>>)>
-    ensures { based result ≡ flat_map (λ b. publics_at b items.entry) (option_to_list base) }
-{
-    Some((base?, items))
-}
-
-/// The publics of a record, with their base: of an LPUBDEF if `local` is set, of a PUBDEF if not. `None` for any other record.
+/// The publics of a record, with their base: of an LPUBDEF if `local` is set, of a PUBDEF if not. `None` for any other record, which is
+/// not decoded, and if the placement has no entry for the base.
 pub(crate) fn publics_of<'a>(
     local: bool,
-    rec: &Rec<'a>,
+    rec: &Undecoded<'a>,
     placement: &Placement,
 ) -> Option<(Placed, Items<Public<'a>>)>
-    ensures { based result ≡ record_publics local placement.now (kind_seen rec.now) (contents_seen rec.now) }
+    ensures { based result ≡ record_publics local placement.now rec.now.kind rec.now.contents }
 {
-    match rec {
-        Rec::Publics {
-            group,
-            segment,
-            frame,
-            publics,
-            ..
-        } => {
-            if local {
-                return None;
-            }
-            let base = base_of(placement, group.item, segment.item, *frame);
-            at_base(base, publics.iter())
-        }
-        Rec::LocalPublics {
-            group,
-            segment,
-            frame,
-            publics,
-            ..
-        } => {
-            if !local {
-                return None;
-            }
-            let base = base_of(placement, group.item, segment.item, *frame);
-            at_base(base, publics.iter())
-        }
-        Rec::Header { .. }
-        | Rec::Comment { .. }
-        | Rec::Names(_)
-        | Rec::Segment { .. }
-        | Rec::Group { .. }
-        | Rec::Externs(_)
-        | Rec::Communals(_)
-        | Rec::Plain { .. }
-        | Rec::Iterated { .. }
-        | Rec::Fixups { .. }
-        | Rec::ModEnd { .. }
-        | Rec::LocalNames(_)
-        | Rec::LocalExterns { .. }
-        | Rec::LocalCommunals(_)
-        | Rec::Carried { .. } => None,
-    }
+    let publics = rec.as_publics(local)?;
+    let base = base_of(
+        placement,
+        publics.group.item,
+        publics.segment.item,
+        publics.frame,
+    )?;
+    Some((base, publics.items))
 }
 
 /// Publics by name.
@@ -185,28 +140,13 @@ impl<'a> PublicTable<'a> {
     fn add_record(
         &mut self,
         local: bool,
-        rec: &Rec<'a>,
+        rec: &Undecoded<'a>,
         placement: &Placement,
     ) -> Result<(), AllocError>
-        ensures { OnOk result (HasMore self.old.by_name self.new.by_name (record_publics local placement.now (kind_seen rec.now) (contents_seen rec.now))) }
+        ensures { OnOk result (HasMore self.old.by_name self.new.by_name (record_publics local placement.now rec.now.kind rec.now.contents)) }
     {
         match publics_of(local, rec, placement) {
             Some((base, items)) => self.add_items(items, base),
-            None => Ok(()),
-        }
-    }
-
-    /// The same for a record that is not decoded yet. It is decoded only if it has such publics.
-    fn add_undecoded(
-        &mut self,
-        local: bool,
-        record: &Undecoded<'a>,
-        placement: &Placement,
-    ) -> Result<(), AllocError>
-        ensures { OnOk result (HasMore self.old.by_name self.new.by_name (record_publics local placement.now «record».now.kind «record».now.contents)) }
-    {
-        match record.publics(local) {
-            Some(rec) => self.add_record(local, &rec, placement),
             None => Ok(()),
         }
     }
@@ -220,8 +160,8 @@ impl<'a> PublicTable<'a> {
     ) -> Result<(), AllocError>
         ensures { OnOk result (HasMore self.old.by_name self.new.by_name (publics local (recs_of «module».entry.now.bytes, placement.now))) }
     {
-        for (_, record) in module.undecoded() {
-            self.add_undecoded(local, &record, placement)?;
+        for (_, rec) in module.undecoded() {
+            self.add_record(local, &rec, placement)?;
         }
         Ok(())
     }

@@ -2,7 +2,6 @@
 
 ghost use Rattle.std.specs.Prelude.{◌≡◌, ◌+◌, ◌<◌, ◌^◌, List, length};
 ghost use Rattle.omf_check.specs.Module.{recs_of};
-ghost use Rattle.omf_records.specs.Inner.Seen.{contents_seen, kind_seen};
 ghost use Rattle.omf_placement.specs.declared.frame.Placed.{Placed as Place};
 ghost use Rattle.omf_placement.specs.Derive.{PlacedModule, public_at, publics_at, record_publics, publics, all_publics, placed_modules, seen_publics};
 ghost use Rattle.omf_placement.specs.Inner.Derived.{given_place, one_public, given_or, external_places, derived};
@@ -14,8 +13,8 @@ use crate::placement::Placement;
 use crate::several::fault::DeriveFault;
 use crate::several::given::Given;
 use crate::several::publics::{Found, place_found, publics_of, with_one_more};
-use omf_check::Checked;
-use omf_records::{Items, Public, Rec};
+use omf_check::{Checked, Undecoded};
+use omf_records::{Items, Public};
 
 /// What is found for this name after one more public of a PUBDEF or an LPUBDEF with this base.
 fn after_public(
@@ -54,10 +53,10 @@ fn after_record(
     name: &[u8],
     found: Option<Found>,
     local: bool,
-    rec: &Rec<'_>,
+    rec: &Undecoded<'_>,
     placement: &Placement,
 ) -> Option<Found>
-    ensures { result ≡ found_over name.now found (record_publics local placement.now (kind_seen rec.now) (contents_seen rec.now)) }
+    ensures { result ≡ found_over name.now found (record_publics local placement.now rec.now.kind rec.now.contents) }
 {
     match publics_of(local, rec, placement) {
         Some((base, items)) => after_items(name, found, items, base),
@@ -76,7 +75,7 @@ fn after_module(
     ensures { result ≡ found_over name.now before (publics local (recs_of «module».now.bytes, placement.now)) }
 {
     let mut found = before;
-    for (_, rec) in module.records() {
+    for (_, rec) in module.undecoded() {
         found = after_record(name, found, local, &rec, placement);
     }
     found

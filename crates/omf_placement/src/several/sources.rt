@@ -4,7 +4,6 @@ ghost use Rattle.std.specs.Prelude.{◌≡◌, [], ◌∷◌, All, OnOk, IfOk, L
 ghost use Rattle.omf_image.specs.Limits.{profile_limits};
 ghost use Rattle.omf_check.specs.Module.{recs_of, typed_modules};
 ghost use Rattle.omf_check.specs.Sound.{ModuleHolds};
-ghost use Rattle.omf_records.specs.Inner.Seen.{contents_seen, kind_seen};
 ghost use Rattle.omf_placement.specs.Inner.Linkage.{HasMoreSources, IsSourceTable, NamedSource, all_sources, base_place, definer, found_by, of_source, record_sources, source_at, sourced, sources, sources_at};
 
 use crate::frame::Placed;
@@ -13,7 +12,7 @@ use crate::several::publics::{Found, base_of, paragraph};
 use omf_check::{Checked, Undecoded};
 use omf_frame::Index;
 use omf_names::NameKey;
-use omf_records::{Items, Public, Rec};
+use omf_records::{Items, Public};
 use std::alloc::{AllocError, Global};
 use std::collections::BTreeMap;
 
@@ -48,63 +47,23 @@ pub enum Definer {
     Several,
 }
 
-/// The publics of a record, with their base: of an LPUBDEF if `local` is set, of a PUBDEF if not. `None` for any other record.
-fn sources_of<'a>(local: bool, rec: &Rec<'a>, module: usize) -> Option<(Base, Items<Public<'a>>)>
-    ensures { sourced result ≡ record_sources local «module» (kind_seen rec.now) (contents_seen rec.now) }
+/// The publics of a record, with their base: of an LPUBDEF if `local` is set, of a PUBDEF if not. `None` for any other record, which is
+/// not decoded.
+fn sources_of<'a>(
+    local: bool,
+    rec: &Undecoded<'a>,
+    module: usize,
+) -> Option<(Base, Items<Public<'a>>)>
+    ensures { sourced result ≡ record_sources local «module» rec.now.kind rec.now.contents }
 {
-    match rec {
-        Rec::Publics {
-            group,
-            segment,
-            frame,
-            publics,
-            ..
-        } => {
-            if local {
-                return None;
-            }
-            let base = Base {
-                module,
-                group: group.item,
-                segment: segment.item,
-                frame: *frame,
-            };
-            Some((base, publics.iter()))
-        }
-        Rec::LocalPublics {
-            group,
-            segment,
-            frame,
-            publics,
-            ..
-        } => {
-            if !local {
-                return None;
-            }
-            let base = Base {
-                module,
-                group: group.item,
-                segment: segment.item,
-                frame: *frame,
-            };
-            Some((base, publics.iter()))
-        }
-        Rec::Header { .. }
-        | Rec::Comment { .. }
-        | Rec::Names(_)
-        | Rec::Segment { .. }
-        | Rec::Group { .. }
-        | Rec::Externs(_)
-        | Rec::Communals(_)
-        | Rec::Plain { .. }
-        | Rec::Iterated { .. }
-        | Rec::Fixups { .. }
-        | Rec::ModEnd { .. }
-        | Rec::LocalNames(_)
-        | Rec::LocalExterns { .. }
-        | Rec::LocalCommunals(_)
-        | Rec::Carried { .. } => None,
-    }
+    let publics = rec.as_publics(local)?;
+    let base = Base {
+        module,
+        group: publics.group.item,
+        segment: publics.segment.item,
+        frame: publics.frame,
+    };
+    Some((base, publics.items))
 }
 
 /// The place of a base, by the placements of all modules; any place, if it has none there.
@@ -183,26 +142,16 @@ impl<'a> SourceTable<'a> {
     }
 
     /// Adds the publics of a record if they are local, or if they are not.
-    fn add_record(&mut self, local: bool, rec: &Rec<'a>, module: usize) -> Result<(), AllocError>
-        ensures { OnOk result (HasMoreSources self.old self.new (record_sources local «module» (kind_seen rec.now) (contents_seen rec.now))) }
+    fn add_record(
+        &mut self,
+        local: bool,
+        rec: &Undecoded<'a>,
+        module: usize,
+    ) -> Result<(), AllocError>
+        ensures { OnOk result (HasMoreSources self.old self.new (record_sources local «module» rec.now.kind rec.now.contents)) }
     {
         match sources_of(local, rec, module) {
             Some((base, items)) => self.add_items(items, &base),
-            None => Ok(()),
-        }
-    }
-
-    /// The same for a record that is not decoded yet. It is decoded only if it has such publics.
-    fn add_undecoded(
-        &mut self,
-        local: bool,
-        record: &Undecoded<'a>,
-        module: usize,
-    ) -> Result<(), AllocError>
-        ensures { OnOk result (HasMoreSources self.old self.new (record_sources local «module» «record».now.kind «record».now.contents)) }
-    {
-        match record.publics(local) {
-            Some(rec) => self.add_record(local, &rec, module),
             None => Ok(()),
         }
     }
@@ -217,8 +166,8 @@ impl<'a> SourceTable<'a> {
         ensures more { OnOk result (HasMoreSources self.old self.new (sources local number (recs_of «module».entry.now.bytes))) }
         ensures holds { OnOk result (ModuleHolds profile_limits (recs_of «module».entry.now.bytes)) }
     {
-        for (_, record) in module.undecoded() {
-            self.add_undecoded(local, &record, number)?;
+        for (_, rec) in module.undecoded() {
+            self.add_record(local, &rec, number)?;
         }
         Ok(())
     }

@@ -5,7 +5,7 @@ use Rattle.omf_placement.specs.Weak.{pairs_in}
 use Rattle.omf_placement.proofs.WeakLaws.{listed_pairs}
 use Rattle.omf_placement.proofs.several.pairs.weak_pairs.Goals as goal
 
-pub loop-record-init : goal.loop-record-init
-loop-record-init c =
-    ap (λ xs. xs ++ flat_map (λ x. pairs_in x.1.contents) c.into_iter-record-iterator.result) c.new-pairs.ensures.items
-    ∙ ap (flat_map (λ x. pairs_in x.1.contents)) (c.into_iter-record-iterator.ensures.into_iter_gives ∙ c.undecoded-record-items.ensures.listed) ∙ listed_pairs 0 0 (records_in c.args.«module».now.bytes)
+pub loop-rec-init : goal.loop-rec-init
+loop-rec-init c =
+    ap (λ xs. xs ++ flat_map (λ x. pairs_in x.1.contents) c.into_iter-rec-iterator.result) c.new-pairs.ensures.items
+    ∙ ap (flat_map (λ x. pairs_in x.1.contents)) (c.into_iter-rec-iterator.ensures.into_iter_gives ∙ c.undecoded-rec-items.ensures.listed) ∙ listed_pairs 0 0 (records_in c.args.«module».now.bytes)

@@ -1,6 +1,5 @@
 use Rattle.std.proofs.Common.{◌∙◌, sym, ap}
 use Rattle.omf_check.specs.Module.{records_in}
-use Rattle.omf_records.specs.Inner.Seen.{contents_seen, kind_seen}
 use Rattle.omf_placement.specs.Derive.{record_publics}
 use Rattle.omf_placement.specs.Inner.PublicTable.{found_over}
 use Rattle.omf_placement.proofs.SearchLaws.{found-append}
@@ -11,7 +10,7 @@ pub loop-rec-init : goal.loop-rec-init
 loop-rec-init c =
     let pl = c.args.placement.now in
     let local = c.args.local in
-    ap (found_over c.args.name.now c.args.before) (ap (listed_publics local pl) (c.into_iter-rec-iterator.ensures.into_iter_gives ∙ c.records-rec-items.ensures.listed) ∙ listed-publics local pl 0 0 (records_in c.args.module.now.bytes))
+    ap (found_over c.args.name.now c.args.before) (ap (listed_publics local pl) (c.into_iter-rec-iterator.ensures.into_iter_gives ∙ c.undecoded-rec-items.ensures.listed) ∙ listed-publics local pl 0 0 (records_in c.args.module.now.bytes))
 
 pub loop-rec-preserved : goal.loop-rec-preserved
 loop-rec-preserved c =
@@ -20,7 +19,7 @@ loop-rec-preserved c =
     let name = c.args.name.now in
     let rest = listed_publics local pl c.next.new.self in
     ap (λ f. found_over name f rest) c.after_record-found.ensures
-    ∙ sym (found-append name c.loop-rec.found (record_publics local pl (kind_seen c.in-Some.rec) (contents_seen c.in-Some.rec)) rest)
+    ∙ sym (found-append name c.loop-rec.found (record_publics local pl c.in-Some.rec.kind c.in-Some.rec.contents) rest)
     ∙ ap (λ xs. found_over name c.loop-rec.found (listed_publics local pl xs)) (sym c.in-Some.ensures.steps) ∙ c.loop-rec.invariant
 
 pub returns : goal.returns

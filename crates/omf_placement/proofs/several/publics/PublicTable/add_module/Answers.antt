@@ -6,18 +6,18 @@ use Rattle.omf_placement.proofs.Filling.{fill-start, fill-more, fill-end}
 use Rattle.omf_placement.proofs.TableLaws.{listed_publics, listed-publics}
 use Rattle.omf_placement.proofs.several.publics.PublicTable.add_module.Goals as goal
 
-pub loop-record-init : goal.loop-record-init
-loop-record-init c =
+pub loop-rec-init : goal.loop-rec-init
+loop-rec-init c =
     let pl = c.args.placement.now in
     let local = c.args.local in
-    fill-start IsTable c.args.self.now.by_name _ _ (ap (listed_publics local pl) (c.into_iter-record-iterator.ensures.into_iter_gives ∙ c.undecoded-record-items.ensures.listed) ∙ listed-publics local pl 0 0 (records_in c.args.module.now.bytes))
+    fill-start IsTable c.args.self.now.by_name _ _ (ap (listed_publics local pl) (c.into_iter-rec-iterator.ensures.into_iter_gives ∙ c.undecoded-rec-items.ensures.listed) ∙ listed-publics local pl 0 0 (records_in c.args.module.now.bytes))
 
-pub loop-record-preserved : goal.loop-record-preserved
-loop-record-preserved c =
+pub loop-rec-preserved : goal.loop-rec-preserved
+loop-rec-preserved c =
     let pl = c.args.placement.now in
     let local = c.args.local in
-    fill-more IsTable c.args.self.now.by_name c.loop-record.self.by_name c.add_undecoded.new.self.by_name (record_publics local pl c.in-Some.record.kind c.in-Some.record.contents) (listed_publics local pl c.loop-record.record-iterator) _ _
-    (ap (listed_publics local pl) c.in-Some.ensures.steps) c.in_ok-add_undecoded.ensures c.loop-record.invariant
+    fill-more IsTable c.args.self.now.by_name c.loop-rec.self.by_name c.add_record.new.self.by_name (record_publics local pl c.in-Some.rec.kind c.in-Some.rec.contents) (listed_publics local pl c.loop-rec.rec-iterator) _ _
+    (ap (listed_publics local pl) c.in-Some.ensures.steps) c.in_ok-add_record.ensures c.loop-rec.invariant
 
 pub returns : goal.returns
-returns c = fill-end IsTable c.args.self.now.by_name c.loop-record.self.by_name _ _ (ap (listed_publics c.args.local c.args.placement.now) c.in-None.ensures.steps.0) c.loop-record.invariant
+returns c = fill-end IsTable c.args.self.now.by_name c.loop-rec.self.by_name _ _ (ap (listed_publics c.args.local c.args.placement.now) c.in-None.ensures.steps.0) c.loop-rec.invariant

@@ -7,5 +7,5 @@ use Rattle.omf_placement.proofs.TableLaws.{listed_publics}
 use Rattle.omf_placement.proofs.several.publics.PublicTable.add_module.Given as goal
 
 -- the publics of the records so far are in the table
-abbrev pub invariant-loop-record : goal.invariant-loop-record
-invariant-loop-record l = IsFilled IsTable l.fn.self.by_name l.self.by_name (listed_publics l.local l.placement l.record-iterator) (publics l.local (recs (records_in l.module.bytes), l.placement))
+abbrev pub invariant-loop-rec : goal.invariant-loop-rec
+invariant-loop-rec l = IsFilled IsTable l.fn.self.by_name l.self.by_name (listed_publics l.local l.placement l.rec-iterator) (publics l.local (recs (records_in l.module.bytes), l.placement))

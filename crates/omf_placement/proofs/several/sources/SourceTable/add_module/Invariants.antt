@@ -6,5 +6,5 @@ use Rattle.omf_placement.proofs.SourceLaws.{listed_sources}
 use Rattle.omf_placement.proofs.several.sources.SourceTable.add_module.Given as goal
 
 -- the publics of the records so far are in the table
-abbrev pub invariant-loop-record : goal.invariant-loop-record
-invariant-loop-record l = IsFilled IsSourceTable l.fn.self l.self (listed_sources l.local l.number l.record-iterator) (sources l.local l.number (recs (records_in l.module.bytes)))
+abbrev pub invariant-loop-rec : goal.invariant-loop-rec
+invariant-loop-rec l = IsFilled IsSourceTable l.fn.self l.self (listed_sources l.local l.number l.rec-iterator) (sources l.local l.number (recs (records_in l.module.bytes)))
