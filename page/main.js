@@ -174,8 +174,9 @@ class Page {
     look.setRecords(dump.records);
     this.hex.count();
     this.tree.set(look);
-    if (verdict.ok || !verdict.reason || dump.starts.length < 2) return;
-    this.say("bad", ...refusedWords(look, this.tree.dumpOf(Math.min(verdict.record, dump.starts.length - 2))));
+    if (verdict.ok || !verdict.reason) return;
+    const last = dump.starts.length - 2;
+    this.say("bad", ...refusedWords(look, last < 0 ? {} : this.tree.dumpOf(Math.min(verdict.record, last))));
     this.toFault();
   }
 

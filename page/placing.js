@@ -30,6 +30,7 @@ class Placing {
     this.bad = null;
     for (const which of ["a", "b"]) { this.images[which].set(null); $("place-" + which).value = ""; $("said-" + which).replaceChildren(); }
     $("two").checked = false;
+    $("take-image").hidden = true;
     $("drafted").textContent = "";
     this.second();
   }
@@ -71,7 +72,8 @@ class Placing {
   }
 
   notDrafted(why) {
-    $("said-a").replaceChildren(element("p", { class: "bad" }, `There is no draft: ${why}`));
+    $("said-a").replaceChildren(element("p", { class: "warn" }, `There is no draft: ${why}`));
+    this.page.picture.draw(this.page.look.seen, $("place-a").value, null);
   }
 
   // Makes the image of a placement, the last one that was typed.

@@ -24,12 +24,12 @@ function acceptedWords({ name, bytes, verdict }) {
     rest ? ` The ${count(rest, "byte")} after it ${rest === 1 ? "is" : "are"} not read.` : ""];
 }
 
-// What is said of a module that is refused, from the line of its dump for the record at fault.
+// What is said of a module that is refused, from the line of its dump for the record at fault. A library without a member has no such line.
 function refusedWords({ name, bytes, verdict, fault }, line) {
   const { reason, record, start, within } = verdict;
   const there = fault < bytes.length ? `, where ${hex(bytes[fault], 2)}H is` : ", its end";
   const looks = line["looks-like"] ? `; the file looks like ${line["looks-like"]}` : "";
-  const why = line.meaning ? ` is refused: ${line.meaning}${looks}. ` : " is no module: read as one, it is refused. ";
+  const why = line.meaning ? ` is refused: ${line.meaning}${looks}. ` : bytes[0] === 0xF0 ? " is no module: read as one, it is refused. " : " is refused. ";
   const type = line.record || TYPES[bytes[start]];
   return [element("b", {}, name), why, element("span", {}, `Reason ${reason}, ${verdict.name}, in record ${record}${type ? ` (${type})` : ""}, which begins at byte ` +
     `${start} (${hex(start, 1)}H). The fault is at byte ${within} of the record: byte ${fault} (${hex(fault, 1)}H) of the file${there}.`)];

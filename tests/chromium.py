@@ -53,7 +53,7 @@ class Tab:
         self.resize(width, height)
         self.call("Emulation.setEmulatedMedia", features=[{"name": "prefers-color-scheme", "value": "dark" if dark else "light"}])
         self.call("Page.navigate", url=url)
-        self.until("document.readyState === 'complete' && location.protocol !== 'about:'")
+        self.until("document.readyState === 'complete' && location.protocol !== 'about:'", 300)
 
     def __enter__(self):
         return self

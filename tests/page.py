@@ -58,7 +58,7 @@ def each_file(tab, tries, files):
 def main(page, *folders):
     tries = Tries()
     with tempfile.TemporaryDirectory(prefix="omf-page-test-") as work, Tab(pathlib.Path(page).resolve().as_uri(), folder=work) as tab:
-        tab.until(f"{STATE} === 'done'")
+        tab.until(f"{STATE} === 'done'", 300)
         page_files.first_sight(tab, tries)
         each_file(tab, tries, modules([ROOT / "examples", *folders]))
         page_files.examples(tab, tries)

@@ -2,6 +2,7 @@
 import base64
 import time
 
+import page_files
 from page_shared import ROOT, STATE, hostile, large, library, named, open_file, record, text_of
 
 
@@ -58,6 +59,17 @@ def libraries(tab, tries, folder):
     tries.see("cut library: the fault", "MemberCut" in tab.value(text_of("library-findings")), True)
     after(tab, "document.querySelectorAll('#members .row')[1].click()")
     tries.see("cut library: the member", "is refused: the record is longer than the file" in tab.value(text_of("verdict")) or "Cut" in tab.value(text_of("verdict")), True)
+
+
+def odd(tab, tries, folder):
+    """Files that are hardly any: empty, cut, a text, libraries without a member, and a module that no draft fits."""
+    boot = (ROOT / "examples/boot/boot.omf").read_bytes()
+    made = {"empty.obj": b"", "one.obj": b"\x80", "text.obj": b"no module\r\n", "f0.lib": b"\xF0", "page.lib": b"\xF0\x05\0" + bytes(30), "end.lib": library([]),
+            "no-end.lib": library([])[:16], "cut.lib": library([])[:16] + boot[:50],
+            "full.obj": b"".join((record(0x80, named(b"a")), record(0x96, named(b"")), record(0x99, bytes([0x61, 0, 0, 0, 0xFF, 1, 1, 1])), record(0x8A, b"\0")))}
+    for name, data in made.items():
+        (folder / name).write_bytes(data)
+        page_files.file(tab, tries, folder / name)
 
 
 def files(tab, tries, folder):
@@ -237,7 +249,7 @@ def policy(tab, tries):
 
 
 def all_of(tab, tries, folder):
-    for part in (names, libraries, files, keys, copied, links, placements, compared, narrow, size):
+    for part in (names, libraries, odd, files, keys, copied, links, placements, compared, narrow, size):
         try:
             part(tab, tries, folder)
         except RuntimeError as fault:

@@ -3,7 +3,7 @@ import contextlib
 import hashlib
 import json
 
-from page_shared import STATE, open_file, printed, text_of
+from page_shared import STATE, native, open_file, printed, text_of
 
 WRONG = ("undefined", "NaN", "null", "[object")
 # All that the page shows: its text, titles and values. The texts of the documents (docs/REASONS.md, docs/LIBRARIES.md) are left out.
@@ -44,10 +44,10 @@ MARKED = """(() => {
 
 
 def no_wrong_words(tab, tries, name, data):
-    """No text has a word of a script that went wrong, other than one that the file has."""
+    """No text has a word of a script that went wrong, other than one that the file or its name has."""
     for what, script in (("page", SHOWN), ("tree", TREE)):
         text = tab.value(script)
-        tries.see(f"{name}: words of the {what}", [word for word in WRONG if word in text and word.encode() not in data], [])
+        tries.see(f"{name}: words of the {what}", [word for word in WRONG if word in text and word.encode() not in data and word not in name], [])
 
 
 def saved(tab, tries, name, data):
@@ -75,8 +75,8 @@ def accepted(tab, tries, name, data, line):
     base, kind, is_draft = tab.value("[document.getElementById('base').value, kind.value, page.placing.isDraft.a]")
     if not is_draft:
         return
-    draft = printed("omf_place", ["--base", base, *(["--real"] if kind == "real" else ["--flat", "8"])], data)
-    tries.see(f"{name}: draft", tab.value("document.getElementById('place-a').value").encode(), draft)
+    status, draft = native("omf_place", ("--base", base, *(["--real"] if kind == "real" else ["--flat", "8"])), data)
+    tries.see(f"{name}: draft", tab.value("document.getElementById('place-a').value").encode(), draft if status == 0 else b"")
     tries.see(f"{name}: a good module has no red", tab.value("document.querySelectorAll('#said-a .bad, .arrow.bad, #verdict.bad').length"), 0)
 
 
