@@ -7,11 +7,7 @@ use Rattle.std.specs.Prelude.{Option, Some, None, IfErr}
 use Rattle.omf_frame.specs.Device.{Device}
 use Rattle.omf_frame.specs.Framing.{Raw}
 use Rattle.omf_records.specs.Values.{Rec}
-use Rattle.omf_image.specs.Limits.{profile_limits}
-use Rattle.omf_placement.specs.Placement.{Places}
-use Rattle.omf_placement.specs.declared.fault.TextFault.{TextFault}
-use Rattle.omf_placement.specs.declared.fault.TextFault.TheVariants as text
-use Rattle.omf_cmd.specs.Relocating.{IsShown, of_text}
+use Rattle.omf_cmd.specs.Relocating.{IsOutcome}
 use Rattle.omf_check.specs.Checking.{Decides, IsCheckFault, IsReadPatiently}
 use Rattle.omf_check.specs.Module.{Module, records_in}
 use Rattle.omf_check.specs.declared.fault.CheckFault.{CheckFault}
@@ -40,20 +36,16 @@ check_cause profile old new check.Memory grows h c = (h, grows)
 check_cause profile old new check.Read grows h c = (c.0, h)
 check_cause profile old new (check.Refused why at) grows h c = (h, grows)
 
--- a fault of a placement text, and what is shown of a module
-pub text_cause : (old new : Device) (f : TextFault) → IsUnbroken old new → IsReadCause {A = List ℕ} old new (Err (of_text f))
-text_cause old new text.Memory h = h
-text_cause old new (text.Line n) h = h
-
-pub shown_cause : (old new : Device) (m : List Rec) (pl : Places) (r : Result (List ℕ) RunFault) → IsShown profile_limits m pl r → IsUnbroken old new → IsReadCause {A = List ℕ} old new r
-shown_cause old new m pl (Ok shown) is h = h
-shown_cause old new m pl (Err fault.Memory) is h = h
-shown_cause old new m pl (Err (fault.Reach f)) is h = h
-shown_cause old new m pl (Err fault.Read) is h = absurd is
-shown_cause old new m pl (Err fault.Write) is h = absurd is
-shown_cause old new m pl (Err fault.TooLong) is h = absurd is
-shown_cause old new m pl (Err (fault.Line n)) is h = absurd is
-shown_cause old new m pl (Err (fault.Refused why at)) is h = absurd is
+-- the outcome for a module and a text, which names no device
+pub outcome_cause : (old new : Device) (m : List Rec) (given : List ℕ) (r : Result (List ℕ) RunFault) → IsOutcome m given r → IsUnbroken old new → IsReadCause {A = List ℕ} old new r
+outcome_cause old new m given (Ok shown) is h = h
+outcome_cause old new m given (Err fault.Memory) is h = h
+outcome_cause old new m given (Err (fault.Line n)) is h = h
+outcome_cause old new m given (Err fault.TooLong) is h = h
+outcome_cause old new m given (Err (fault.Reach f)) is h = h
+outcome_cause old new m given (Err fault.Read) is h = absurd is
+outcome_cause old new m given (Err fault.Write) is h = absurd is
+outcome_cause old new m given (Err (fault.Refused why at)) is h = absurd is
 
 -- nothing was written
 pub read_caused : (reader reader' writer : Device) (e : RunFault) → IsReadCause {A = List ℕ} reader reader' (Err e) → IsCausedBy reader reader' writer writer (Err e)

@@ -7,11 +7,10 @@ use Rattle.std.proofs.Math.Seq.{drop-nil}
 use Rattle.std.proofs.Math.Nat.{eq-or-lt_of_le}
 use Rattle.std.proofs.lemmas.List.{append-nil, drop_min, length-take, length-drop, take_min}
 use Rattle.omf_image.specs.Inner.Joined.{runs_of}
-use Rattle.omf_image.specs.Overlay.{Laid, byte_at, AreBytesOver, AreLaidOver, AreRuns, IsRunShown}
+use Rattle.omf_image.specs.Overlay.{Laid, byte_at, AreBytesOver, AreRuns, IsRunShown}
 use Rattle.omf_image.specs.declared.run.Run.{Run}
 use Rattle.omf_image.proofs.RunLaws.{joined_are_runs, runs_unique}
 use Rattle.omf_image.proofs.ShownLaws.{run_next}
-use Rattle.omf_image.proofs.TurnLaws.{images_are}
 use Rattle.std.proofs.Math.Path.{fun_ext}
 use Rattle.omf_cmd.specs.Inner.Names.{bytes_line, byte_text}
 use Rattle.omf_cmd.specs.Relocated.{image_text, run_lines}
@@ -157,11 +156,11 @@ segment_and_others shown before segments old within =
     append_assoc old (shown (before + 1)) (flat_map shown (range_with_len (before + 1 + 1) (segments - (before + 1))))
     ∙ ap (λ (n : ℕ). old ++ flat_map shown (range_with_len (before + 1) n)) (sym left)
 
--- The text of pieces laid in turn is that of the image that they make.
-pub overlay_text : (pieces laid : List Laid) (segments : ℕ) (start : Option (ℕ × ℕ)) → AreLaidOver [] pieces laid
+-- Images of the same bytes have the same text.
+pub same_text : (pieces laid : List Laid) (segments : ℕ) (start : Option (ℕ × ℕ)) → ((s x : ℕ) → byte_at laid s x ≡ byte_at pieces s x)
     → image_text segments (byte_at laid) (runs_of laid) start ≡ image_text segments (byte_at pieces) (runs_of pieces) start
-overlay_text pieces laid segments start over =
-    let bytes : (s : ℕ) → byte_at laid s ≡ byte_at pieces s = λ s. fun_ext (λ x. (images_are pieces laid over).0 s x) in
+same_text pieces laid segments start same =
+    let bytes : (s : ℕ) → byte_at laid s ≡ byte_at pieces s = λ s. fun_ext (λ x. same s x) in
     let runs : (s : ℕ) → runs_of laid s ≡ runs_of pieces s = λ s. runs_unique (byte_at pieces s) (runs_of laid s) (runs_of pieces s)
     (subst (λ (byte : ℕ → Option ℕ). AreRuns byte (runs_of laid s)) (bytes s) (joined_are_runs laid s)) (joined_are_runs pieces s) in
     ap₂ (λ (byte : ℕ → ℕ → Option ℕ) (of : ℕ → List Run). image_text segments byte of start) (fun_ext bytes) (fun_ext runs)

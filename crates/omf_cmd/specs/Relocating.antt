@@ -1,25 +1,28 @@
 -- What `reloc` answers for an input: a module, and a placement text to the end.
-use Rattle.omf_cmd.specs.Relocated.{reloc_text}
-use Rattle.std.specs.Prelude.{◌≡◌, ◌⊎◌, ◌≤◌, ⊤, ℕ, ◌+◌, List, [], length, Option, Some, None, Result, Ok, Err, IsOk}
+use Rattle.omf_cmd.specs.Relocated.{image_text}
+use Rattle.std.specs.Prelude.{◌≡◌, ◌⊎◌, ◌≤◌, ◌<◌, ⊤, ℕ, ◌+◌, List, [], length, Option, Some, Result, Ok, Err, IsOk}
 use Rattle.std.specs.Io.KnownBytes.{Consumes, IsAtEnd}
 use Rattle.omf_frame.specs.Device.{Device}
 use Rattle.omf_frame.specs.Framing.{Raw}
 use Rattle.omf_records.specs.Values.{Rec}
 use Rattle.omf_image.specs.Limits.{profile_limits}
-use Rattle.omf_image.specs.declared.limits.Limits.{Limits}
+-- computed: runs_are_maximal of omf_image.
+use Rattle.omf_image.specs.Inner.Joined.{runs_of}
+use Rattle.omf_image.specs.Overlay.{byte_at}
 use Rattle.omf_check.specs.Refusal.{IsRefused}
+use Rattle.omf_check.specs.Tables.{segments}
 use Rattle.omf_check.specs.WellFormed.{IsAccepted, recs}
 use Rattle.omf_check.specs.declared.profile.Profile.{Profile}
 use Rattle.omf_placement.specs.declared.fault.TextFault.{TextFault}
 use Rattle.omf_placement.specs.declared.fault.TextFault.TheVariants as text
 use Rattle.omf_placement.specs.Placement.{Places}
 use Rattle.omf_placement.specs.PlacementText.{parsed}
-use Rattle.omf_reloc.specs.Reach.{reach_fault}
-use Rattle.omf_reloc.specs.declared.fault.RelocateFault.{RelocateFault}
-use Rattle.omf_reloc.specs.declared.fault.RelocateFault.TheVariants as relocate
+use Rattle.omf_reloc.specs.Headline.{IsAnswerAt}
+use Rattle.omf_reloc.specs.Reach.{Reaches}
+use Rattle.omf_reloc.specs.declared.headline.AnswerAt.{AnswerAt}
+use Rattle.omf_reloc.specs.declared.headline.AnswerAt.TheVariants as at
 use Rattle.omf_cmd.specs.HowFar.{IsReadFor}
 use Rattle.omf_cmd.specs.Outcome.{placement_of, reloc_outcome, text_limit}
-use Rattle.std.specs.Option.{option_map_or}
 use Rattle.omf_cmd.specs.Runs.{PrintsInPieces}
 use Rattle.omf_cmd.specs.declared.fault.RunFault.{RunFault}
 use Rattle.omf_cmd.specs.declared.fault.RunFault.TheVariants as fault
@@ -90,20 +93,21 @@ abbrev pub of_text : TextFault → RunFault
 of_text text.Memory = fault.Memory
 of_text (text.Line n) = fault.Line n
 
--- Converts a fault of relocation.
-abbrev pub of_relocate : RelocateFault → RunFault
-of_relocate (relocate.Reach f) = fault.Reach f
-of_relocate relocate.Memory = fault.Memory
+-- The placement that a text gives a module, or the first fault of the text: it is too long, or this line is at fault. Memory runs out only if the
+-- text is not too long and each of its lines is empty or an entry.
+abbrev pub IsPlaced : List Rec → List ℕ → Result Places RunFault → Type 0
+IsPlaced m given (Ok pl) = (length given ≤ text_limit) × (placement_of m (parsed given) ≡ Ok pl)
+IsPlaced m given (Err (fault.Line n)) = (length given ≤ text_limit) × (placement_of m (parsed given) ≡ Err n)
+IsPlaced m given (Err fault.TooLong) = text_limit < length given
+IsPlaced m given (Err fault.Memory) = (length given ≤ text_limit) × IsOk (parsed given)
+IsPlaced m given (Err _) = ⊥
 
--- The placement that a text gives a module, or the number of the line at fault. Memory runs out only if each line is empty or an entry.
-abbrev pub IsPlaced : List Rec → List ℕ → Result Places TextFault → Type 0
-IsPlaced m given (Ok pl) = placement_of m (parsed given) ≡ Ok pl
-IsPlaced m given (Err (text.Line n)) = placement_of m (parsed given) ≡ Err n
-IsPlaced m given (Err text.Memory) = IsOk (parsed given)
+-- The text of an answer for a module with this number of segments: the runs of its image and its start; or the reason why it does not reach.
+abbrev pub listing_of : ℕ → AnswerAt → Result (List ℕ) RunFault
+listing_of segments (at.Relocated image begin) = Ok (image_text segments (byte_at image) (runs_of image) begin)
+listing_of segments (at.DoesNotReach f) = Err (fault.Reach f)
 
--- The text to print of a module at a placement, or the first reason why the placement does not reach. Memory runs out only if it reaches.
-abbrev pub IsShown : Limits → List Rec → Places → Result (List ℕ) RunFault → Type 0
-IsShown limits m pl (Ok shown) = option_map_or (λ f. Err (fault.Reach f)) (reach_fault pl m) (Ok (reloc_text limits pl m)) ≡ Ok shown
-IsShown limits m pl (Err fault.Memory) = reach_fault pl m ≡ None
-IsShown limits m pl (Err (fault.Reach f)) = reach_fault pl m ≡ Some f
-IsShown limits m pl (Err _) = ⊥
+-- The text of the answer to a module and a placement. Memory runs out only if the placement reaches.
+abbrev pub IsListingAt : Places → List Raw → Result (List ℕ) RunFault → Type 0
+IsListingAt pl records (Err fault.Memory) = Reaches pl (recs records)
+IsListingAt pl records listed = (answer : AnswerAt) × IsAnswerAt pl records answer × (listed ≡ listing_of (length (segments (recs records))) answer)

@@ -4,14 +4,14 @@ ghost use Rattle.std.specs.Prelude.{◌≡◌};
 ghost use Rattle.omf_cmd.specs.FaultLine.{fault_sentence};
 ghost use Rattle.omf_cmd.specs.Reports.{report};
 ghost use Rattle.omf_cmd.specs.declared.fault.RunFault.TheVariants.{Memory, Reach};
-ghost use Rattle.omf_cmd.specs.Relocating.{of_text, of_relocate};
+ghost use Rattle.omf_cmd.specs.Relocating.{of_text};
 ghost use Rattle.omf_cmd.specs.Reports.{of_check};
 
 use crate::printed::print_fault;
 use crate::program::Fault;
 use omf_check::CheckFault;
 use omf_frame::{Place, Reason, Sink};
-use omf_reloc::{ReachFault, RelocateFault, TextFault};
+use omf_reloc::{ReachFault, TextFault};
 use std::alloc::{AllocError, AllocFailed};
 use std::fmt;
 
@@ -103,17 +103,6 @@ impl From<ReachFault> for RunFault {
 
     fn from(fault: ReachFault) -> RunFault {
         RunFault::Reach(fault)
-    }
-}
-
-impl From<RelocateFault> for RunFault {
-    ghost from_gives = { λ fault e. e ≡ of_relocate fault };
-
-    fn from(fault: RelocateFault) -> RunFault {
-        match fault {
-            RelocateFault::Reach(fault) => RunFault::Reach(fault),
-            RelocateFault::Memory => RunFault::Memory,
-        }
     }
 }
 

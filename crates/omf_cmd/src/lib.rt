@@ -44,7 +44,7 @@ pub use line::{print_words, write_last_name, write_words};
 pub use output::{print_all, tell};
 pub use printed::fault_line;
 pub use program::{Fault, Program, run_with};
-pub use relocation::{Listing, run_reloc};
+pub use relocation::{Listing, placement_by, run_reloc};
 pub use report::print_list;
 pub use running::{run_canon, run_check, run_list};
 pub use words::{Job, command, read_words};

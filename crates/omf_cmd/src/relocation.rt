@@ -1,9 +1,8 @@
 //! The job `reloc`.
 
 ghost use Rattle.std.specs.Prelude.{◌≡◌, ℕ, List, Some};
-ghost use Rattle.omf_image.specs.Limits.{profile_limits};
-ghost use Rattle.omf_check.specs.Module.{recs_of};
-ghost use Rattle.omf_cmd.specs.Relocating.{IsAnswered, IsOutcome, IsPlaced, IsRelocation, IsShown};
+ghost use Rattle.omf_check.specs.Module.{records_in, recs_of};
+ghost use Rattle.omf_cmd.specs.Relocating.{IsAnswered, IsListingAt, IsOutcome, IsPlaced, IsRelocation};
 ghost use Rattle.omf_cmd.specs.Runs.{IsCausedBy, IsPrintCause, IsReadCause, PrintsInPieces};
 
 use crate::fault::RunFault;
@@ -12,8 +11,8 @@ use crate::input::{TEXT_LIMIT, read_text};
 use omf_check::{Checked, Profile, check};
 use omf_frame::{Sink, Source};
 use omf_image::Image;
-use omf_reloc::{Placement, TextFault, parse_placement, reach_and_relocate, start};
-use std::alloc::Global;
+use omf_reloc::{AnswerAt, Placement, parse_placement, relocate_at};
+use std::alloc::{AllocError, Global};
 use std::marker::Model;
 
 /// What `reloc` prints of a module at a placement: the segments of its image, and its start. Contracts see it as that text.
@@ -45,22 +44,27 @@ impl Listing {
     pub fn of(alloc: Global, checked: &Checked, text: &[u8]) -> Result<Listing, RunFault>
         ensures { IsOutcome (recs_of checked.now.bytes) text.now result }
     {
-        if text.len() > TEXT_LIMIT {
-            return Err(RunFault::TooLong);
-        }
-        let placement = placed(alloc, checked, text)?;
-        listing_of(alloc, checked, &placement)
+        let placement = placement_by(alloc, checked, text)?;
+        Listing::at(alloc, checked, &placement)
     }
 
-    /// Relocates a module by a placement.
+    /// Relocates a module by a placement: the listing of what `relocate_at` answers.
     ///
     /// # Errors
     ///
     /// `Reach` if the placement does not fit the module, or a fixup or the start is out of range; otherwise `Memory` if memory ran out.
     pub fn at(alloc: Global, checked: &Checked, placement: &Placement) -> Result<Listing, RunFault>
-        ensures { IsShown profile_limits (recs_of checked.now.bytes) placement.now result }
+        ensures { IsListingAt placement.now (records_in checked.now.bytes) result }
     {
-        listing_of(alloc, checked, placement)
+        match relocate_at(alloc, checked, placement) {
+            Ok(AnswerAt::DoesNotReach(fault)) => Err(RunFault::Reach(fault)),
+            Ok(AnswerAt::Relocated { image, start }) => Ok(Listing {
+                image,
+                segments: checked.segments(),
+                start,
+            }),
+            Err(AllocError) => Err(RunFault::Memory),
+        }
     }
 
     /// Prints the listing. The text is written in pieces of 64 KB or a line more; no more than that is kept in memory.
@@ -108,28 +112,21 @@ fn listed<S: Source>(alloc: Global, profile: Profile, reader: &mut S) -> Result<
 {
     let checked = check(alloc, reader, profile)?;
     let text = read_text(alloc, reader)?;
-    let placement = placed(alloc, &checked, &text)?;
-    listing_of(alloc, &checked, &placement)
+    Listing::of(alloc, &checked, &text)
 }
 
 /// The placement that a text gives a module.
-fn placed(alloc: Global, checked: &Checked, text: &[u8]) -> Result<Placement, TextFault>
+///
+/// # Errors
+///
+/// `TooLong` if the text has more than 4,194,304 bytes; `Line` for the first line that is no entry, or a `G real` line whose group has no
+/// frame. `Memory` if memory ran out.
+pub fn placement_by(alloc: Global, checked: &Checked, text: &[u8]) -> Result<Placement, RunFault>
     ensures { IsPlaced (recs_of checked.now.bytes) text.now result }
 {
+    if text.len() > TEXT_LIMIT {
+        return Err(RunFault::TooLong);
+    }
     let draft = parse_placement(alloc, text)?;
-    draft.resolve(alloc, checked)
-}
-
-/// Relocates a module by a placement. `Reach` wins over `Memory`.
-fn listing_of(alloc: Global, checked: &Checked, placement: &Placement) -> Result<Listing, RunFault>
-    ensures { IsShown profile_limits (recs_of checked.now.bytes) placement.now result }
-{
-    let image = reach_and_relocate(alloc, checked, placement)?;
-    let start = start(checked, placement);
-    let segments = checked.segments();
-    Ok(Listing {
-        image,
-        segments,
-        start,
-    })
+    Ok(draft.resolve(alloc, checked)?)
 }

@@ -1,9 +1,9 @@
 use Rattle.std.proofs.lemmas.Result.{err_from_is_err_and}
 use Rattle.omf_check.specs.Module.{records_in}
 use Rattle.omf_check.specs.WellFormed.{recs}
-use Rattle.omf_cmd.proofs.OutcomeLaws.{is_placed, not_checked, not_placed, text_refused}
+use Rattle.omf_cmd.proofs.OutcomeLaws.{not_checked, text_answered, text_refused}
 use Rattle.omf_cmd.proofs.Pieces.{unbroken_on}
-use Rattle.omf_cmd.proofs.RunLaws.{check_cause, read_later, shown_cause, text_cause}
+use Rattle.omf_cmd.proofs.RunLaws.{check_cause, outcome_cause, read_later}
 use Rattle.omf_cmd.proofs.relocation.listed.Goals as goal
 
 pub returns-in_err-checked-clause-cause : goal.returns-in_err-checked-clause-cause
@@ -20,18 +20,6 @@ returns-in_err-text-clause-cause g c =
     read_later (g.S.Source.seen c.args.reader.now) (g.S.Source.seen c.check.new.reader) (g.S.Source.seen c.read_text.new.source) c.in_err-text.field-0.0
     (c.in_ok-checked.ensures.patient, c.in_ok-checked.ensures.grows) c.in_err-text.ensures.cause)
 
-pub returns-in_err-placement-clause-cause : goal.returns-in_err-placement-clause-cause
-returns-in_err-placement-clause-cause g c =
-    let e = err_from_is_err_and c.from_residual-in_err-placement.result c.from_residual-in_err-placement.ensures.1 in
-    rw (e.1, e.2) (
-    text_cause (g.S.Source.seen c.args.reader.now) (g.S.Source.seen c.read_text.new.source) c.in_err-placement.field-0.0
-    (unbroken_on (g.S.Source.seen c.args.reader.now) (g.S.Source.seen c.check.new.reader) (g.S.Source.seen c.read_text.new.source) (c.in_ok-checked.ensures.patient, c.in_ok-checked.ensures.grows) c.in_ok-text.ensures.cause))
-
-pub returns-clause-cause : goal.returns-clause-cause
-returns-clause-cause g c =
-    shown_cause (g.S.Source.seen c.args.reader.now) (g.S.Source.seen c.read_text.new.source) (recs (records_in c.in_ok-checked.checked.bytes)) c.in_ok-placement.placement c.listing_of.result c.listing_of.ensures
-    (unbroken_on (g.S.Source.seen c.args.reader.now) (g.S.Source.seen c.check.new.reader) (g.S.Source.seen c.read_text.new.source) (c.in_ok-checked.ensures.patient, c.in_ok-checked.ensures.grows) c.in_ok-text.ensures.cause)
-
 pub returns-in_err-checked-clause-answer : goal.returns-in_err-checked-clause-answer
 returns-in_err-checked-clause-answer g c input told =
     let e = err_from_is_err_and c.from_residual.result c.from_residual.ensures.1 in
@@ -46,14 +34,12 @@ returns-in_err-text-clause-answer g c input told =
     text_refused c.args.profile input c.in_ok-checked.checked (c.in_ok-checked.ensures.verdict input told) (g.S.Source.seen c.args.reader.now).bytes (g.S.Source.seen c.check.new.reader).bytes (g.S.Source.seen c.read_text.new.source).bytes
     c.in_err-text.field-0.0 told c.in_ok-checked.ensures.read c.in_err-text.ensures.fault)
 
-pub returns-in_err-placement-clause-answer : goal.returns-in_err-placement-clause-answer
-returns-in_err-placement-clause-answer g c input told =
-    let e = err_from_is_err_and c.from_residual-in_err-placement.result c.from_residual-in_err-placement.ensures.1 in
-    rw (e.1, e.2) (
-    not_placed c.args.profile input c.in_ok-checked.checked (c.in_ok-checked.ensures.verdict input told) (g.S.Source.seen c.args.reader.now).bytes (g.S.Source.seen c.check.new.reader).bytes (g.S.Source.seen c.read_text.new.source).bytes
-    c.in_ok-text.text.items c.deref.result.now c.in_err-placement.field-0.0 told c.in_ok-checked.ensures.read c.in_ok-text.ensures.text c.deref.ensures.value c.in_err-placement.ensures)
+pub returns-clause-cause : goal.returns-clause-cause
+returns-clause-cause g c =
+    outcome_cause (g.S.Source.seen c.args.reader.now) (g.S.Source.seen c.read_text.new.source) (recs (records_in c.in_ok-checked.checked.bytes)) c.deref.result.now c.of.result c.of.ensures
+    (unbroken_on (g.S.Source.seen c.args.reader.now) (g.S.Source.seen c.check.new.reader) (g.S.Source.seen c.read_text.new.source) (c.in_ok-checked.ensures.patient, c.in_ok-checked.ensures.grows) c.in_ok-text.ensures.cause)
 
 pub returns-clause-answer : goal.returns-clause-answer
 returns-clause-answer g c input told =
-    is_placed c.args.profile input c.in_ok-checked.checked (c.in_ok-checked.ensures.verdict input told) (g.S.Source.seen c.args.reader.now).bytes (g.S.Source.seen c.check.new.reader).bytes (g.S.Source.seen c.read_text.new.source).bytes
-    c.in_ok-text.text.items c.deref.result.now c.in_ok-placement.placement c.listing_of.result told c.in_ok-checked.ensures.read c.in_ok-text.ensures.text c.deref.ensures.value c.in_ok-placement.ensures c.listing_of.ensures
+    text_answered c.args.profile input c.in_ok-checked.checked (c.in_ok-checked.ensures.verdict input told) (g.S.Source.seen c.args.reader.now).bytes (g.S.Source.seen c.check.new.reader).bytes (g.S.Source.seen c.read_text.new.source).bytes
+    c.in_ok-text.text.items c.deref.result.now c.of.result told c.in_ok-checked.ensures.read c.in_ok-text.ensures.text c.deref.ensures.value c.of.ensures
