@@ -50,6 +50,7 @@ class Placing {
     [$("base").value, $("kind").value] = tries[at];
     if (!isDrafted) return this.notDrafted(text);
     if (reaches && at) $("drafted").textContent = `A draft ${Placing.KINDS[tries[0][1]]} does not reach; this one is ${Placing.KINDS[tries[at][1]]}.`;
+    if (!reaches) $("drafted").textContent = `None of ${tries.length} drafts reaches: this one is ${Placing.KINDS[tries[at][1]]}.`;
     $("place-a").value = text;
     return this.image("a");
   }

@@ -48,5 +48,5 @@ function reachWords(line, bad, isDraft) {
   if (found) return `Line ${found[1]} of the placement is no entry, or asks for the frame of a group that has none.`;
   if (!bad) return /^reach/.test(line) ? `The placement does not fit the module: ${line}.` : `No image: ${line}.`;
   if (!isDraft) return `The placement does not reach: ${bad.words}`;
-  return `The module is well-formed, but no draft of this page reaches all targets. In this one ${bad.words} Change the lines above to the addresses and frames that the code was written for.`;
+  return `The module is well-formed, but this draft does not reach: ${bad.words} Change the lines above to the addresses and frames that the code was written for.`;
 }
