@@ -9,16 +9,16 @@ ghost use Rattle.omf_check.specs.Sound.{ModuleHolds};
 ghost use Rattle.omf_reloc.specs.Inner.PieceSeen.{step_seen, placed_seen};
 ghost use Rattle.omf_reloc.specs.Inner.Pieces.{subrecord_step, contents_steps, open_steps, threads_behind, end_at, single_pieces, reference_places, placed_pieces, SubrecordIsSet, ContentsAreSet, OpenIsSet, RecordsAreSet};
 ghost use Rattle.omf_reloc.specs.Inner.Widths.{fixupp_type, modend_type};
-ghost use Rattle.omf_reloc.specs.Plain.{End};
-ghost use Rattle.omf_reloc.specs.Inner.Walking.{plain_by, threads_after};
+ghost use Rattle.omf_reloc.specs.Plain.{End, Fixed};
+ghost use Rattle.omf_reloc.specs.Inner.Walking.{direct_plain, plain_by, threads_after};
 ghost use Rattle.omf_records.specs.Inner.Seen.{contents_seen, kind_seen, rec_seen};
 ghost use Rattle.omf_records.specs.Values.{ModEnd};
 ghost use Rattle.omf_reloc.specs.Reach.{all_reference_places};
 
-use crate::plain::{PlainFixup, PlainReference, plain_reference};
+use crate::plain::{PlainFixup, PlainReference, direct_fixup, plain_reference};
 use omf_check::{Checked, Threads, Undecoded, UndecodedRecords};
 use omf_frame::{Place, Width};
-use omf_records::{At, Items, Part, Rec, Reference, Subrecord};
+use omf_records::{At, DirectFixup, Items, Part, Rec, Reference, Subrecord};
 use std::marker::Model;
 
 /// A piece of a module. It refers to no thread.
@@ -82,6 +82,15 @@ fn subrecord_step<'a>(
     }
 }
 
+/// The piece of a FIXUP that uses no thread, at this offset in the FIXUPP at this place.
+#[inline(always)]
+fn direct_piece<'a>(at: Place, width: Width, within: u32, fixup: &DirectFixup) -> (Place, Piece<'a>)
+    ensures { placed_seen result ≡ (record at { within = within }, Fixed (fixupp_type width) (direct_plain fixup.now ∷ [])) }
+{
+    let fixup = direct_fixup(fixup);
+    (Place { within, ..at }, Piece::Fixed { width, fixup })
+}
+
 /// The piece of the MODEND at this place.
 fn end_piece<'a>(
     threads: &Threads,
@@ -131,6 +140,9 @@ fn open_step<'a>(
     ensures set { OpenIsSet threads.new fixups.new }
 {
     if let Some(open) = fixups {
+        if let Some((within, fixup)) = open.left.next_direct() {
+            return Some(Some(direct_piece(open.place, open.width, within, &fixup)));
+        }
         if let Some(subrecord) = open.left.next() {
             let step = subrecord_step(threads, open.place, open.width, &subrecord);
             threads.set(&subrecord.item);

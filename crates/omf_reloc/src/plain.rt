@@ -2,10 +2,12 @@
 
 ghost use Rattle.std.specs.Prelude.{◌≡◌, IsSome};
 ghost use Rattle.omf_check.specs.Inner.Judging.{frame_cell, target_cell};
-ghost use Rattle.omf_reloc.specs.Inner.Walking.{plain_by};
+ghost use Rattle.omf_check.specs.Threads.{frame_by};
+ghost use Rattle.omf_reloc.specs.Inner.Walking.{direct_plain, plain_by};
 
 use omf_check::{FrameMethod, TargetMethod, Threads};
-use omf_records::{Locat, Reference};
+use omf_frame::Index;
+use omf_records::{DirectFixup, FrameCode, Locat, Reference};
 use std::marker::Model;
 
 /// A reference with its threads resolved.
@@ -51,5 +53,37 @@ pub fn plain_reference(threads: &Threads, reference: &Reference) -> PlainReferen
         frame: threads.frame(reference).unwrap(),
         target: threads.target(reference).unwrap(),
         displacement: reference.displacement.unwrap_or(0),
+    }
+}
+
+/// The frame method with this code and index.
+#[inline(always)]
+fn own_frame(code: FrameCode, index: Index) -> FrameMethod
+    ensures { result ≡ frame_by code index }
+{
+    match code {
+        FrameCode::Of(kind) => FrameMethod::Of(TargetMethod { kind, index }),
+        FrameCode::Location => FrameMethod::Location,
+        FrameCode::Target => FrameMethod::Target,
+    }
+}
+
+/// A fixup that uses no thread.
+#[inline(always)]
+pub fn direct_fixup(fixup: &DirectFixup) -> PlainFixup
+    ensures { result ≡ direct_plain fixup.now }
+{
+    let target = TargetMethod {
+        kind: fixup.fix.target_method(),
+        index: fixup.target,
+    };
+    let reference = PlainReference {
+        frame: own_frame(fixup.fix.frame_method(), fixup.frame),
+        target,
+        displacement: fixup.displacement,
+    };
+    PlainFixup {
+        location: fixup.location,
+        reference,
     }
 }

@@ -2,13 +2,15 @@
 -- Only private functions use these definitions; the contracts of public functions use the definition of the image.
 use Rattle.std.specs.Prelude.{◌≡◌, ◌≤◌, ◌+◌, ◌^◌, ⊤, ℕ, List, [], ◌∷◌, length, Option, Some, option_map, option_to_list, unwrap_or, IfSome, IsOk}
 use Rattle.omf_records.specs.Inner.Names.{location_size}
-use Rattle.omf_records.specs.Values.{Rec, Contents, Plain, Iterated, Fixups, Reference, width, location_type, location_offset}
+use Rattle.omf_records.specs.Values.{Rec, Contents, Plain, Iterated, Fixups, Reference, width, location_type, location_offset, frame_bits, target_bits}
 use Rattle.omf_image.specs.Inner.Expanding.{expanded, expanded_length}
 use Rattle.omf_image.specs.Limits.{profile_limits}
 use Rattle.omf_image.specs.Overlay.{Laid, AreLaidOver}
 use Rattle.omf_check.specs.Inner.Judging.{frame_cell, target_cell}
 use Rattle.omf_check.specs.Inner.Kept.{set_threads}
-use Rattle.omf_check.specs.Threads.{PlainReference}
+use Rattle.omf_check.specs.Threads.{PlainReference, frame_by}
+use Rattle.omf_records.specs.declared.direct_fixup.DirectFixup.{DirectFixup}
+use Rattle.omf_records.specs.Methods.{frame_code, kind_of}
 use Rattle.omf_check.specs.declared.method.FrameMethod.TheVariants.{Target as F5}
 use Rattle.omf_check.specs.Threads.{T0}
 use Rattle.omf_check.specs.declared.threads.Threads.{Threads}
@@ -27,6 +29,17 @@ plain_by threads r = record {
 
 abbrev pub plain_fixup_by : Threads → ℕ → Reference → PlainFixup
 plain_fixup_by threads locat r = record { locat = locat; reference = plain_by threads r }
+
+-- A fixup that uses no thread.
+abbrev pub direct_plain : DirectFixup → PlainFixup
+direct_plain d = record {
+  locat = d.location;
+  reference = record {
+    frame = frame_by (frame_code (frame_bits d.fix)) d.frame;
+    target = record { kind = kind_of (target_bits d.fix); index = d.target };
+    displacement = d.displacement;
+  };
+}
 
 -- The threads in force after one more record.
 abbrev pub threads_after : Threads → Contents → Threads
