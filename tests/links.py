@@ -2,7 +2,7 @@
 """Whether what the documents name exists: the target of each relative link with its heading, each file of this repository that is named in
 code quotes or by its path, each crate, and each Rattle function that docs/RATTLE.md quotes. Status 1 where one is missing.
 
-CHANGELOG.md, which names what was there at its time, and 'Planted once' in docs/PROOFS.md are read for their links alone."""
+CHANGELOG.md, which names what was there at its time, is read for its links alone."""
 import pathlib
 import re
 import sys
@@ -74,8 +74,7 @@ def main():
         text = page.read_text(encoding="utf-8")
         found = [*missing_links(page, text), *(missing_code(text) if page.name == "RATTLE.md" else [])]
         if page.name != "CHANGELOG.md":
-            kept = re.sub(r"^## Planted once$.*?(?=^## |\Z)", "", text, flags=re.M | re.S)
-            found += [*missing_files(kept), *(missing_crates(kept, own) if page.name != "CALLS.md" else [])]
+            found += [*missing_files(text), *(missing_crates(text, own) if page.name != "CALLS.md" else [])]
         faults += [f"{page.relative_to(ROOT)}: {it}" for it in sorted(set(found))]
     for page in sorted((ROOT / "man").glob("*.1")):
         faults += [f"{page.relative_to(ROOT)}: {it}" for it in sorted(set(missing_files(page.read_text(encoding="utf-8"))))]
