@@ -34,6 +34,14 @@ pub record IsPlacedBy (m : List Rec) (given : List ℕ) (pl : Places) (far : Opt
   pub placement : placement_of m (parsed given) ≡ Ok pl
   pub reach : reach_fault pl m ≡ far
 
+-- The placement that a text gives a module, or the fault of the text. Memory may run out at any time.
+abbrev pub IsPlacing : List Rec → List ℕ → Result Places RunFault → Type 0
+IsPlacing m given (Ok pl) = (length given ≤ text_limit) × (placement_of m (parsed given) ≡ Ok pl)
+IsPlacing m given (Err fault.Memory) = ⊤
+IsPlacing m given (Err (fault.Line n)) = (length given ≤ text_limit) × (placement_of m (parsed given) ≡ Err n)
+IsPlacing m given (Err fault.TooLong) = text_limit < length given
+IsPlacing m given (Err _) = ⊥
+
 -- What is made of a module at the placement that a text gives, or the first fault of the text or the placement. Memory may run out at any
 -- time.
 abbrev pub IsMadeAt : {A : Type 0} → (Places → List Rec → A) → List Rec → List ℕ → Result A RunFault → Type 0

@@ -1,34 +1,84 @@
 //! The image of a module at a placement, as runs and their bytes.
 
-ghost use Rattle.std.specs.Prelude.{◌≡◌, IfOk};
+ghost use Rattle.std.specs.Prelude.{◌≡◌, IfOk, IfErr, None};
 ghost use Rattle.omf_check.specs.Module.{recs_of};
+ghost use Rattle.omf_cmd.specs.Relocating.{IsPlaced};
 ghost use Rattle.omf_records.specs.Inner.Seen.{map_ok};
-ghost use Rattle.omf_c.specs.Images.{HandsBoth, IsMadeAt, IsMadeOf, image_shown, rows_if, start_rows};
+ghost use Rattle.omf_reloc.specs.Reach.{reach_fault};
+ghost use Rattle.omf_reloc.specs.Reached.{IsRelocateFault};
+ghost use Rattle.omf_c.specs.Images.{HandsBoth, IsMadeAt, IsMadeOf, IsPlacing, image_shown, rows_if, start_rows};
 
 use crate::answer::{Answer, NOTHING, hand_out};
 use crate::making::module_of;
 use crate::rows::{RunRow, StartRow};
 use crate::runs::{Shown, shown_of};
 use omf_check::{Checked, Profile};
-use omf_cmd::{RunFault, placement_by};
-use omf_reloc::{AnswerAt, reach, relocate_at, start};
+use omf_cmd::RunFault;
+use omf_reloc::{
+    Placement, RelocateFault, TextFault, parse_placement, reach, reach_and_relocate, start,
+};
 use std::alloc::{AllocError, Global};
 
+/// The most bytes of a placement text.
+const TEXT_LIMIT: usize = 4_194_304;
+
+/// The placement that a text gives a module.
+fn placed(alloc: Global, checked: &Checked, text: &[u8]) -> Result<Placement, TextFault>
+    ensures { IsPlaced (recs_of checked.now.bytes) text.now result }
+{
+    let draft = parse_placement(alloc, text)?;
+    draft.resolve(alloc, checked)
+}
+
+/// The image of a module at a placement.
+///
+/// # Errors
+///
+/// `Reach` if the placement does not reach; else `Memory` if memory runs out.
+#[tactic(auto, using(crate::proofs::PlacedLaws::image_is))]
+fn shown_at(alloc: Global, checked: &Checked, placement: &Placement) -> Result<Shown, RelocateFault>
+    ensures reaches { IfOk result (λ s. reach_fault placement.now (recs_of checked.now.bytes) ≡ None) }
+    ensures image { IfOk result (λ s. s ≡ image_shown placement.now (recs_of checked.now.bytes)) }
+    ensures err { IfErr result (IsRelocateFault placement.now (recs_of checked.now.bytes)) }
+{
+    match reach_and_relocate(alloc, checked, placement) {
+        Ok(image) => match shown_of(alloc, &image, checked.segments()) {
+            Ok(shown) => Ok(shown),
+            Err(_) => Err(RelocateFault::Memory),
+        },
+        Err(fault) => Err(fault),
+    }
+}
+
+/// The placement that a text gives a module.
+///
+/// # Errors
+///
+/// `TooLong` if the text has more than 4,194,304 bytes; `Line` for the first line that is no entry, or a `G real` line whose group has no
+/// frame. `Memory` if memory runs out.
+fn placing(alloc: Global, checked: &Checked, text: &[u8]) -> Result<Placement, RunFault>
+    ensures { IsPlacing (recs_of checked.now.bytes) text.now result }
+{
+    if text.len() > TEXT_LIMIT {
+        return Err(RunFault::TooLong);
+    }
+    match placed(alloc, checked, text) {
+        Ok(placement) => Ok(placement),
+        Err(TextFault::Memory) => Err(RunFault::Memory),
+        Err(TextFault::Line(line)) => Err(RunFault::Line(line)),
+    }
+}
+
 /// The image of a module at the placement that a text gives, or the first fault.
-#[tactic(auto, using(crate::proofs::PlacedLaws::made_at, crate::proofs::PlacedLaws::not_reached, crate::proofs::PlacedLaws::not_placed, crate::proofs::PlacedLaws::image_is))]
+#[tactic(auto, using(crate::proofs::PlacedLaws::made_at, crate::proofs::PlacedLaws::not_reached, crate::proofs::PlacedLaws::not_placed))]
 fn image_of(alloc: Global, checked: &Checked, text: &[u8]) -> Result<Shown, RunFault>
     ensures { IsMadeAt image_shown (recs_of checked.now.bytes) text.now result }
 {
-    let placement = placement_by(alloc, checked, text)?;
-    match relocate_at(alloc, checked, &placement) {
-        Ok(AnswerAt::DoesNotReach(fault)) => Err(RunFault::Reach(fault)),
-        Ok(AnswerAt::Relocated { image, .. }) => {
-            match shown_of(alloc, &image, checked.segments()) {
-                Ok(shown) => Ok(shown),
-                Err(_) => Err(RunFault::Memory),
-            }
-        }
-        Err(_) => Err(RunFault::Memory),
+    let placement = placing(alloc, checked, text)?;
+    match shown_at(alloc, checked, &placement) {
+        Ok(shown) => Ok(shown),
+        Err(RelocateFault::Memory) => Err(RunFault::Memory),
+        Err(RelocateFault::Reach(fault)) => Err(RunFault::Reach(fault)),
     }
 }
 
@@ -65,7 +115,7 @@ fn rows_if(alloc: Global, start: Option<(u16, u32)>) -> Result<Vec<StartRow>, Al
 fn start_of(alloc: Global, checked: &Checked, text: &[u8]) -> Result<Vec<StartRow>, RunFault>
     ensures { IsMadeAt start_rows (recs_of checked.now.bytes) text.now (map_ok (λ v. v.items) result) }
 {
-    let placement = placement_by(alloc, checked, text)?;
+    let placement = placing(alloc, checked, text)?;
     match reach(checked, &placement) {
         Ok(()) => match rows_if(alloc, start(checked, &placement)) {
             Ok(rows) => Ok(rows),
