@@ -2,11 +2,10 @@
 
 ghost use Rattle.std.specs.Prelude.{◌≡◌, IfOk, IfErr, None};
 ghost use Rattle.omf_check.specs.Module.{recs_of};
-ghost use Rattle.omf_cmd.specs.Relocating.{IsPlaced};
 ghost use Rattle.omf_records.specs.Inner.Seen.{map_ok};
 ghost use Rattle.omf_reloc.specs.Reach.{reach_fault};
 ghost use Rattle.omf_reloc.specs.Reached.{IsRelocateFault};
-ghost use Rattle.omf_c.specs.Images.{HandsBoth, IsMadeAt, IsMadeOf, IsPlacing, image_shown, rows_if, start_rows};
+ghost use Rattle.omf_c.specs.Images.{HandsBoth, IsMadeAt, IsMadeOf, IsPlaced, IsPlacing, image_shown, rows_if, start_rows};
 
 use crate::answer::{Answer, NOTHING, hand_out};
 use crate::making::module_of;
