@@ -6,7 +6,8 @@ its specs/; a clause that cites none is shown itself. What a program promises is
 definitions of its usage, statuses and lines are shown with them. Laws and worked examples are listed by name.
 
 calls.py          writes the page
-calls.py --check  compares it with the sources: status 1 where it differs
+calls.py --check  compares it with the sources, and the calls, clauses and laws of the phrase table of docs/PROOFS.md with those that there are:
+                  status 1 where one differs
 """
 import re
 import sys
@@ -15,6 +16,7 @@ import believed
 from tree import CRATES, ROOT, crates, exported, is_for_tests, root_file
 
 PAGE = ROOT / "docs" / "CALLS.md"
+PROOFS, PHRASES = ROOT / "docs" / "PROOFS.md", "## The headline, phrase by phrase\n"
 HEAD = """# The calls and their clauses
 
 Made from the sources by `tests/calls.py`; the gate compares. docs/PROOFS.md has the headline phrase by phrase, and what is only tested.
@@ -172,7 +174,8 @@ def laws_of(crate):
 
 
 def page():
-    defined, all_definitions, parts = definitions(), believed.Definitions(), [HEAD]
+    """The page, with the clauses of each call and the laws: by the title of a call the names of its clauses, and the names of the laws."""
+    defined, all_definitions, parts, clauses, all_laws = definitions(), believed.Definitions(), [HEAD], {}, set()
     for crate in crates():
         if is_for_tests(crate) or root_file(crate) is None:
             continue
@@ -186,27 +189,61 @@ def page():
             is_open = path.stem in modules
             for call in calls_of(path):
                 if (call.owner or call.name) in names or is_open or 'extern "C"' in text and call.owner is None and f"fn {call.name}" in text and "no_mangle" in text:
+                    clauses.setdefault(call.title, set()).update(name for name, _ in call.clauses)
                     rows.append(f"| `{call.title}` | | {call.sentence} |")
                     rows.extend(clause_row(*it, words, defined) for it in call.clauses)
             for trait, owner, ghosts in promises_of(path):
                 if owner in names or is_open:
                     rows.extend(promise_rows(trait, owner, ghosts, words, defined, all_definitions))
-        laws = [f"- `{law.name}`: {law.sentence}" for law in laws_of(crate)]
+        own = list(laws_of(crate))
+        all_laws.update(law.name for law in own)
+        laws = [f"- `{law.name}`: {law.sentence}" for law in own]
         if rows or laws:
             parts.append(f"\n## {crate}\n")
             if rows:
                 parts.append("\n" + "\n".join(["| Call | Clause | Sentence |", "|---|---|---|", *rows]) + "\n")
             if laws:
                 parts.append("\nLaws:\n\n" + "\n".join(laws) + "\n")
-    return "".join(parts)
+    return "".join(parts), clauses, all_laws
+
+
+def phrase_parts():
+    """The parts of the second cells of the phrase table of docs/PROOFS.md, which semicolons separate: each with its names in code quotes.
+
+    `call`: `clause`, `clause`; law `law`; `specs/File` of a crate
+    """
+    table = PROOFS.read_text(encoding="utf-8").partition(PHRASES)[2].partition("\n## ")[0]
+    for row in re.findall(r"^\|[^|]*\|([^|]*)\|", table, re.M):
+        for part in row.split(";"):
+            names = re.findall(r"`([^`]+)`", part)
+            if names:
+                yield part.strip(), names
+
+
+def phrase_faults(clauses, laws):
+    """What the phrase table names and the sources do not have: a call, a clause of a call, or a law. Definitions in specs/ are not looked at."""
+    calls = 0
+    for part, names in phrase_parts():
+        if part.startswith("law"):
+            yield from (f"there is no law {it}" for it in names if it not in laws)
+        elif not names[0].startswith("specs/"):
+            call, calls = re.sub(r"^omf_\w+::", "", names[0]), calls + 1
+            if call not in clauses:
+                yield f"there is no call {call}"
+            else:
+                yield from (f"{call} has no clause {it}" for it in names[1:] if it not in clauses[call])
+    if calls == 0:
+        yield "it names no call"
 
 
 def main():
-    made = page()
+    made, clauses, laws = page()
     if sys.argv[1:] == ["--check"]:
         kept = PAGE.read_text(encoding="utf-8") if PAGE.exists() else ""
-        if kept != made:
-            sys.exit("docs/CALLS.md differs from the sources: run tests/calls.py")
+        faults = ["docs/CALLS.md differs from the sources: run tests/calls.py"] if kept != made else []
+        faults += [f"docs/PROOFS.md, {PHRASES[3:-1]}: {it}" for it in phrase_faults(clauses, laws)]
+        if faults:
+            sys.exit("\n".join(faults))
         return
     PAGE.write_text(made, encoding="utf-8")
 
