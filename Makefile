@@ -75,6 +75,9 @@ build:
 ifeq ($(UNPROVED),1)
 library:
 	dist/unproved_library.sh
+
+try-c: library
+	LIBRARY=build/unproved/libomf.a $(unproved_programs) tests/c/run.sh $(MODULES)
 else
 library:
 	cd crates/omf_c && rt lib
@@ -83,10 +86,10 @@ library:
 	cd build/objects && ar x ../../crates/omf_c/out/libomf_c.a && ar x "$$(dirname "$$(rt doc)")/c/liblibc_c.a"
 	ar rcs build/libomf.a build/objects/*.o
 	$(CC) -shared -Wl,-soname,libomf.so -o build/libomf.so build/objects/*.o
-endif
 
 try-c: build library
 	LIBRARY=build/libomf.a OMF=crates/omf/out/omf OMF_DUMP=crates/omf_dump/out/omf_dump tests/c/run.sh $(MODULES)
+endif
 
 ifeq ($(UNPROVED),1)
 page:
