@@ -52,9 +52,10 @@ class LibraryView {
   set(name, bytes, { list, check }) {
     this.members = membersOf(list);
     this.members.push(...cutMember(this.members, check, bytes));
-    const [, page, flags] = /^LIBRARY page (\d+) .* case (\w+)/.exec(list);
+    const [, page, flags] = /^LIBRARY page (\d+) .* case (\w+)/.exec(list), many = this.members.length;
     $("library").hidden = false;
-    $("library-head").replaceChildren(element("b", {}, name), ` is a library ${this.members.length ? `of ${count(this.members.length, "member")}` : "without a member"}, in pages of ${page} bytes; case ${flags}.`);
+    $("library-head").replaceChildren(element("b", {}, name),
+      ` is a library ${many ? `of ${count(many, "member")}` : "without a member"}, in pages of ${page} bytes; case ${flags}.`);
     this.showFindings(check);
     $("members-part").hidden = !this.members.length;
     $("members-search").value = "";

@@ -79,6 +79,7 @@ class Page {
     if (file.size <= MOST_BYTES) return this.open(file.name, new Uint8Array(await file.arrayBuffer()));
     this.close(file.name);
     this.say("bad", `${file.name} has ${count(file.size, "byte")}; this page takes files of up to 64 MB.`);
+    document.documentElement.dataset.state = "done";
   }
 
   example(i) {

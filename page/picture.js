@@ -62,7 +62,7 @@ class Picture {
     this.drawn = [seen, text, bad];
     const externals = this.externalsOf(seen);
     this.layout = layoutOf(this.widthNow(), externals.length + seen.groups.length > 0);
-    const { width, row: rowHeight, left, right, box, barTop } = this.layout;
+    const { width, row: rowHeight, left, right, box } = this.layout;
     const entries = entriesOf(text), at = new Map();
     const rows = seen.segments.map((segment, i) => ({ segment, index: i + 1, entry: entries.S[i] }));
     rows.sort((a, b) => (a.entry ? a.entry.address : Infinity) - (b.entry ? b.entry.address : Infinity) || a.index - b.index);
@@ -74,7 +74,9 @@ class Picture {
     const svg = shape("svg", { viewBox: `0 0 ${width} ${height}`, role: "group", "aria-label": "the segments of the module at the placement, and its fixups" });
     svg.append(this.marks());
     const head = (x, words) => shape("text", { x, y: 16, class: "head" }, words);
-    svg.append(head(8, "segment, class, group"), head(barTop < 10 ? left : width, barTop < 10 ? "data and gaps" : ""), head(right, externals.length || seen.groups.length ? "groups, externals" : ""));
+    svg.append(head(8, "segment, class, group"));
+    if (width >= 640) svg.append(head(left, "data and gaps"));
+    if (right < width) svg.append(head(right, "groups, externals"));
     shown.forEach((row, i) => svg.append(this.segment(row, i, most, groupOf(row.index), at, seen)));
     this.boxes(svg, seen, externals, entries, at);
     const drawn = this.arrows(svg, seen, at, bad);
@@ -113,6 +115,7 @@ class Picture {
     const last = entry && segment.length ? entry.address + segment.length - 1 : entry && entry.address;
     const where = entry ? `${hex(entry.address, 5)}H${segment.length ? ` to ${hex(last, 5)}H` : ", empty"}` : "not placed";
     const groupName = group < 0 ? "" : this.name(seen.groups[group].name);
+    const kind = `${segment.class ? "class " + this.name(segment.class, 12) : "no class"}${groupName ? ", group " + groupName.slice(0, 12) : ""}`;
     const filled = segment.data.reduce((sum, [from, to]) => sum + to - from, 0);
     const words = `segment ${index} ${this.name(segment.name)}, class ${this.name(segment.class)}${groupName ? ", group " + groupName : ""}, ` +
       `${segment.align}, ${segment.combine}, use${segment.use}, ${hex(segment.length, 4)}H bytes, ${hex(filled, 4)}H of them data, ${where}` +
@@ -120,7 +123,7 @@ class Picture {
     const made = shape("g", { class: "segment", tabindex: 0, role: "button" }, titled(words),
       shape("rect", { x: 2, y: y + 2, width: 5, height: 26, class: "stripe g" + (group < 0 ? "none" : group % 6) }),
       shape("text", { x: 12, y: y + lines[0] }, `${index} ${this.name(segment.name)}`),
-      shape("text", { x: 12, y: y + lines[1], class: "small" }, `${segment.class ? "class " + this.name(segment.class, 12) : "no class"}${groupName ? ", group " + groupName.slice(0, 12) : ""}`),
+      shape("text", { x: 12, y: y + lines[1], class: "small" }, kind),
       shape("rect", { x: left, y: top, width, height: 20, class: "bar" }), shape("rect", { x: left, y: top, width, height: 20, fill: "url(#gap)" }));
     let drawnTo = -1;
     for (const [from, to] of segment.data) {

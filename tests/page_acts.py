@@ -241,8 +241,10 @@ def narrow(tab, tries, folder):
 def policy(tab, tries):
     """The page's policy allows nothing from outside."""
     asked = tab.value("fetch('https://example.com/').then(() => 'went', () => 'refused')")
-    image = tab.value("new Promise(take => { const it = document.createElement('img'); it.onload = () => take('went'); it.onerror = () => take('refused'); it.src = 'https://example.com/a.png'; })")
-    script = tab.value("new Promise(take => { const it = document.createElement('script'); it.textContent = 'window.ran = 1'; document.body.append(it); setTimeout(() => take(window.ran), 50); })")
+    image = tab.value("new Promise(take => { const it = document.createElement('img'); it.onload = () => take('went'); it.onerror = () => take('refused'); "
+                      "it.src = 'https://example.com/a.png'; })")
+    script = tab.value("new Promise(take => { const it = document.createElement('script'); it.textContent = 'window.ran = 1'; document.body.append(it); "
+                       "setTimeout(() => take(window.ran), 50); })")
     tries.see("policy: a request, an image, another script", [asked, image, script], ["refused", "refused", None])
     tries.see("policy: no request went", [url for url in tab.requests() if "example.com" not in url], [])
     tries.see("policy: nor one to the outside in the log", [url for url in tab.logged() if "example.com" in url], [])
