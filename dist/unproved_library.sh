@@ -35,7 +35,7 @@ dist/unproved_library.py names | sed -E 's|^(\S+) (\S+)$|s/^define internal (.*)
 dist/unproved_library.py shim > "$work/shim.c"
 cc=${CC:-cc}
 "$cc" -O1 -fPIC -Iinclude -c "$work/shim.c" -o "$work/shim.o"
-(cd "$work" && ar x "$(dirname "$(rt doc)")/c/liblibc_c.a" && ar x "$(dirname "$(rt doc)")/c/libos_c.a")
+(cd "$work" && ar x "$(dirname "$(rt doc)")/c/liblibc_c.a")
 rm -f "$to/libomf.a"
 ar rcs "$to/libomf.a" "$work"/*.o
 "$cc" -shared -Wl,-soname,libomf.so -o "$to/libomf.so" "$work"/*.o
