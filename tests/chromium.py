@@ -116,13 +116,18 @@ class Tab:
             found = next((it for it in self.events if it.get("method") == method and suits(it["params"])), None)
             if found:
                 return found["params"]
-            self.events.append(self.read(60))
+            self.events.append(self.read(30))
 
-    def saved(self, selector):
-        """The bytes that a button saves."""
+    def saved(self, selector, clicks=3):
+        """The bytes that a button saves. A browser that is slow takes a file for one that nobody asked for; then the button is clicked again."""
         self.events = [it for it in self.events if not it.get("method", "").startswith("Browser.download")]
         self.call("Runtime.evaluate", expression=f"document.querySelector({selector!r}).click()", userGesture=True)
-        done = self.event("Browser.downloadProgress", lambda it: it["state"] != "inProgress")
+        try:
+            done = self.event("Browser.downloadProgress", lambda it: it["state"] != "inProgress")
+        except RuntimeError:
+            if clicks > 1:
+                return self.saved(selector, clicks - 1)
+            raise
         file = self.saves / done["guid"]
         data = file.read_bytes()
         file.unlink()
