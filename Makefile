@@ -20,7 +20,7 @@
 # make vendor DEST=DIR  copies the crates CRATES (omf_check) and those below them, with their lines of crates.txt, into the repository DIR
 # make shown            runs the commands that the pages show with the installed programs, and compares what they print; OMF, OMF_PLACE,
 #                       OMF_LINK, OMF_DUMP, OMF_LIB and LIBOMF name others (tests/reasons.sh)
-# make docs             writes docs/CALLS.md, docs/BELIEVE.md, docs/REFUSALS.md and the tables of docs/INDEX.md and docs/GATE.md from the sources
+# make docs             writes docs/CALLS.md, docs/BELIEVE.md, docs/REFUSALS.md and the tables of docs/INDEX.md from the sources
 # make ci               the gate: the documents, the commands of docs/REASONS.md, and then `rt ci`, which proves and tests everything
 
 PREFIX ?= /usr/local

@@ -3,7 +3,7 @@
 
 usage: tests/cost.py FILE [--of PID]
   Writes lines `CRATE PROOF EDITS` to FILE, in seconds, anew every few seconds; `tests/house.py --write --times FILE` makes the table of
-  docs/GATE.md of them. PROOF is the proof of the crate, its tests and its programs; EDITS is all that its must-fail edits took.
+  docs/INDEX.md of them. PROOF is the proof of the crate, its tests and its programs; EDITS is all that its must-fail edits took.
   --of PID: watches a run that is there already, and starts none.
 
 Processor time depends on what else a machine does, so let it do nothing else. Compare two trees on one machine on one day."""

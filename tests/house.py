@@ -1,5 +1,5 @@
 #!/usr/bin/env python3
-"""Makes the tables of docs/INDEX.md and docs/GATE.md from the sources.
+"""Makes the tables of docs/INDEX.md from the sources.
 
 house.py --write   writes each table between its two marks in the page: `<!-- house.py: NAME -->` and `<!-- end -->`
 house.py --check   compares them: status 1 where one differs
@@ -28,7 +28,8 @@ UNTIED = []
 # Names of Inner files that compute nothing of a module: f of the value of a Result.
 GENERIC = ("map_ok",)
 KINDS = ["believed", "inner", "proofs", "code", "tests"]
-PAGES = dict.fromkeys(("layers", "files", "lines", "cited", "laws", "inner"), "INDEX") | {"costs": "GATE"}
+TABLES = ("layers", "files", "lines", "cited", "laws", "inner", "costs")
+PAGE = ROOT / "docs" / "INDEX.md"
 
 
 def lines_of(path):
@@ -203,10 +204,16 @@ def functions(crate):
                for path in (CRATES / crate / "src").rglob("*.rt"))
 
 
+def marked(name):
+    """The place of a table in the page: its two marks and what is between them."""
+    return re.compile(rf"(<!-- house\.py: {name} -->\n).*?(\n<!-- end -->)", re.S)
+
+
 def seconds(given):
     """Seconds of proof and of edits by crate: those that the page has, and over them those of a file."""
-    page = (ROOT / "docs" / "GATE.md").read_text(encoding="utf-8")
-    found = dict((name, (proof, edits)) for name, proof, edits in re.findall(r"^\| `(omf\w*)` \| [^|]* \| [^|]* \| ([^|]*) \| ([^|]*) \|", page, re.M))
+    kept = marked("costs").search(PAGE.read_text(encoding="utf-8"))
+    rows = re.findall(r"^\| `(omf\w*)` \| [^|]* \| [^|]* \| ([^|]*) \| ([^|]*) \|", kept[0] if kept else "", re.M)
+    found = {name: (proof, edits) for name, proof, edits in rows}
     for line in given.read_text(encoding="utf-8").splitlines() if given else []:
         parts = line.split()
         if len(parts) >= 2 and not line.startswith("#"):
@@ -236,9 +243,9 @@ def costs(given=None):
 
 
 def with_table(text, name, table):
-    """A page with the table of this name between its marks, and whether it has these marks."""
-    marked = re.compile(rf"(<!-- house\.py: {name} -->\n).*?(\n<!-- end -->)", re.S)
-    return marked.sub(lambda found: f"{found[1]}\n" + "\n".join(table) + f"\n{found[2]}", text), bool(marked.search(text))
+    """The page with the table of this name between its marks, and whether it has these marks."""
+    place = marked(name)
+    return place.sub(lambda found: f"{found[1]}\n" + "\n".join(table) + f"\n{found[2]}", text), bool(place.search(text))
 
 
 def tables(given=None):
@@ -252,26 +259,26 @@ def main():
         at = words.index("--times")
         given = ROOT.__class__(words[at + 1])
         del words[at : at + 2]
-    if len(words) == 1 and words[0] in PAGES:
+    if len(words) == 1 and words[0] in TABLES:
         print("\n".join(tables(given)[words[0]]))
         return
     if words not in (["--write"], ["--check"]):
         sys.exit(__doc__)
-    differing = []
+    differing, text = [], PAGE.read_text(encoding="utf-8")
     for name, table in tables(given).items():
-        path = ROOT / "docs" / f"{PAGES[name]}.md"
-        text = path.read_text(encoding="utf-8")
-        made, found = with_table(text, name, table)
+        before = text
+        text, found = with_table(text, name, table)
         if not found:
-            sys.exit(f"docs/{PAGES[name]}.md has no marks for the table {name}")
-        if words == ["--write"]:
-            path.write_text(made, encoding="utf-8")
-        elif made != text:
-            differing.append(f"{name} of docs/{PAGES[name]}.md")
+            sys.exit(f"docs/INDEX.md has no marks for the table {name}")
+        if text != before:
+            differing.append(name)
+    if words == ["--write"]:
+        PAGE.write_text(text, encoding="utf-8")
+        differing = []
     if UNTIED:
         print("computed definitions without a law (a line `-- computed: LAW.` above the import): " + ", ".join(UNTIED), file=sys.stderr)
     if differing:
-        sys.exit("not as the sources have it, run tests/house.py --write: " + "; ".join(differing))
+        sys.exit("tables of docs/INDEX.md that are not as the sources have them, run tests/house.py --write: " + ", ".join(differing))
     sys.exit(1 if UNTIED else 0)
 
 
