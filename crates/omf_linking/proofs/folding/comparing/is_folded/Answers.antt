@@ -1,7 +1,18 @@
+use Rattle.std.proofs.Common.{ℕ, List, sym, subst, ap, ◌∙◌}
 use Rattle.omf_frame.specs.Framing.{front_record, present}
+use Rattle.omf_image.specs.Limits.{profile_limits}
+use Rattle.omf_check.specs.Module.{recs_of}
 use Rattle.omf_check.proofs.ListedLaws.{front_of, front_short, front_taken, not_empty, well_read}
-use Rattle.omf_linking.proofs.FoldLaws.{folds-more, readable-less, readable-rest, readable-starts, typed-folds}
+use Rattle.omf_linking.specs.Folded.{folded}
+use Rattle.omf_linking.proofs.FoldLaws.{AreReadable, folds-more, readable-less, readable-module, readable-rest, readable-starts, typed-folds}
 use Rattle.omf_linking.proofs.folding.comparing.is_folded.Goals as goal
+
+pub records-init : goal.records-init
+records-init c = record {
+  left = subst AreReadable (sym c.bytes-left.ensures.bytes) (readable-module c.args.module.now.profile profile_limits c.args.module.now.bytes c.bytes-left.ensures.well_formed);
+  right = subst AreReadable (sym c.bytes-right.ensures.bytes) (readable-module c.args.lower.now.profile profile_limits c.args.lower.now.bytes c.bytes-right.ensures.well_formed);
+  so_far = λ e. sym (ap recs_of c.bytes-right.ensures.bytes) ∙ (e ∙ ap (λ (b : List ℕ). folded (recs_of b)) c.bytes-left.ensures.bytes);
+}
 
 pub split_record-requires : goal.split_record-requires
 split_record-requires c =
