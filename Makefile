@@ -19,7 +19,7 @@
 #                       into build/omf-VERSION-x86_64-linux.tar.gz, the same bytes for the same files (dist/pack.sh)
 # make vendor DEST=DIR  copies the crates CRATES (omf_check) and those below them, with their lines of crates.txt, into the repository DIR
 # make shown            runs the commands that the pages show with the installed programs, and compares what they print; OMF, OMF_PLACE,
-#                       OMF_LINK, OMF_DUMP, OMF_LIB and LIBOMF name others (tests/reasons.sh)
+#                       OMF_LINK, OMF_DUMP, OMF_LIB and LIBOMF name others (tests/shown.sh)
 # make docs             writes docs/CALLS.md, docs/BELIEVE.md, docs/REFUSALS.md and the tables of docs/INDEX.md from the sources
 # make ci               the gate: the documents, the commands of docs/REASONS.md, and then `rt ci`, which proves and tests everything
 
@@ -134,7 +134,7 @@ vendor:
 	dist/vendor.sh "$(DEST)" $(CRATES)
 
 shown:
-	tests/reasons.sh README.md docs/*.md
+	tests/shown.sh README.md docs/*.md
 
 docs:
 	tests/calls.py

@@ -1,5 +1,5 @@
 #!/usr/bin/env bash
-# Runs the commands that pages show, and compares what they print: reasons.sh [PAGE ..]   (docs/REASONS.md)
+# Runs the commands that pages show, and compares what they print: shown.sh [PAGE ..]   (docs/REASONS.md)
 #
 # A command is a line `$ ..` in a block ```console of the page; the lines after it, up to the next command or the end of the
 # block, are what it must print. Bytes that the block shows before its first command must be in the file that the command reads.
