@@ -1,7 +1,7 @@
 #!/usr/bin/env python3
 """Programs whose reads and writes fail: each call in turn fails, and each is interrupted 999 and 1,000 times (strace).
 
-usage: tests/devices.py [WORD]     (only the runs whose name has WORD)
+usage: tests/devices/system_calls.py [WORD]     (only the runs whose name has WORD)
 
 Each run is first made as it is. Then each call of the program that opens, reads, writes, closes, links, renames or removes a file fails once, the
 first, the second and so on. What must hold: the status is 3, or the run is as without a failure; a file that is there under its name is whole; none
@@ -16,7 +16,7 @@ import subprocess
 import sys
 import tempfile
 
-sys.path.insert(0, str(pathlib.Path(__file__).resolve().parent / "fuzz"))
+sys.path.insert(0, str(pathlib.Path(__file__).resolve().parent.parent / "fuzz"))
 from promises import ROOT, program, promised  # noqa: E402
 
 FAILURES = {"openat": "EACCES", "read": "EIO", "write": "ENOSPC", "close": "EIO", "linkat": "EIO", "rename": "EIO", "renameat": "EIO", "unlinkat": "EIO",
@@ -112,7 +112,7 @@ def fill(folder):
 
 def main():
     if not shutil.which("strace"):
-        print("devices: skipped, there is no strace")
+        print("skipped: strace is not installed")
         return
     wanted = sys.argv[1] if len(sys.argv) > 1 else ""
     with tempfile.TemporaryDirectory() as made:

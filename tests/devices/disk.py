@@ -1,7 +1,7 @@
 #!/usr/bin/env python3
 """Programs that write files, on a full disk and killed: no file of the asked name is there that is not whole.
 
-usage: tests/disk.py [KILLS]
+usage: tests/devices/disk.py [KILLS]
 
 A disk of 64 KB is mounted (tmpfs, which needs root), and filled. Then a program is killed KILLS times (100), each a little later in its run, and the
 files that are there then have their whole content or are not there; FILE.tmp may be left. With strace it is also killed at each call that opens, writes,
@@ -15,7 +15,7 @@ import sys
 import tempfile
 import time
 
-sys.path.insert(0, str(pathlib.Path(__file__).resolve().parent / "fuzz"))
+sys.path.insert(0, str(pathlib.Path(__file__).resolve().parent.parent / "fuzz"))
 from libraries import library, module, record  # noqa: E402
 from promises import program, promised  # noqa: E402
 
