@@ -20,6 +20,10 @@
 # make vendor DEST=DIR  copies the crates CRATES (omf_check) and those below them, with their lines of crates.txt, into the repository DIR
 # make shown            runs the commands that the pages show with the installed programs, and compares what they print; OMF, OMF_PLACE,
 #                       OMF_LINK, OMF_DUMP, OMF_LIB and LIBOMF name others (tests/shown.sh)
+# make release          runs what the gate leaves out: the C library, the Python package, the page in Chromium, the cases and other programs on
+#                       the built programs, failing devices, the examples in emulators, the commands of the pages, and tests/fuzz for MINUTES
+#                       (10) a target; PLANTED=1 adds tests/planted.sh, MODULES a folder of modules, STAGES="page fuzz" runs these alone. It
+#                       builds none of them: `make build library page` does, before (tests/release.py)
 # make docs             writes docs/CALLS.md, docs/BELIEVE.md, docs/REFUSALS.md and the tables of docs/INDEX.md from the sources
 # make ci               the gate: the documents, the commands of docs/REASONS.md, and then `rt ci`, which proves and tests everything
 
@@ -32,12 +36,13 @@ WORDS ?=
 DEST ?=
 CRATES ?= omf_check
 UNPROVED ?=
-export FILE PLACE UNPROVED
+STAGES ?=
+export FILE PLACE UNPROVED MODULES
 
 # Programs of `tests/unproved.sh` for a test of what was built without proofs.
 unproved_programs = OMF=$$(tests/unproved.sh omf) OMF_DUMP=$$(tests/unproved.sh omf_dump) OMF_PLACE=$$(tests/unproved.sh omf_place) OMF_LIB=$$(tests/unproved.sh omf_lib)
 
-.PHONY: first look try try-all draft build library try-c page try-page proved install dist vendor shown docs ci
+.PHONY: first look try try-all draft build library try-c page try-page proved install dist vendor shown release docs ci
 
 first:
 	@cd crates/omf && cat ../../examples/first.omf ../../examples/first.place | rt run -- reloc
@@ -135,6 +140,9 @@ vendor:
 
 shown:
 	tests/shown.sh README.md docs/*.md
+
+release:
+	tests/release.py $(STAGES)
 
 docs:
 	tests/calls.py
