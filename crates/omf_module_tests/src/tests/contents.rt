@@ -94,7 +94,7 @@ fn contents_are_written_in_their_shortest_encoding(rt: HostRuntime) {
     }
 }
 
-/// tests/growths.sh refuses each growth in turn.
+/// tests/devices/growths.sh refuses each growth in turn.
 #[test]
 fn a_refused_growth_writes_nothing(rt: HostRuntime) {
     assert!(rt; are_written(rt.alloc(), true));

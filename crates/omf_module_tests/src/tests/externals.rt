@@ -156,7 +156,7 @@ fn an_external_has_the_place_of_its_public(rt: HostRuntime) {
     assert_eq!(rt; first_wrong(rt.alloc(), false), None);
 }
 
-/// tests/growths.sh refuses each growth in turn.
+/// tests/devices/growths.sh refuses each growth in turn.
 #[test]
 fn a_refused_growth_gives_no_other_place(rt: HostRuntime) {
     assert_eq!(rt; first_wrong(rt.alloc(), true), None);

@@ -403,7 +403,7 @@ fn pieces_are_laid_overwrite_and_join(rt: HostRuntime) {
     assert!(rt; first_other_layout(rt.alloc(), false) == None);
 }
 
-/// tests/growths.sh refuses each growth in turn.
+/// tests/devices/growths.sh refuses each growth in turn.
 #[test]
 fn a_refused_growth_expands_and_lays_nothing_else(rt: HostRuntime) {
     let blocks = first_other_row(rt.alloc(), true);

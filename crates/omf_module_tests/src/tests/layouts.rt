@@ -99,7 +99,7 @@ fn is_drafted(alloc: Global, draft: &Draft) -> bool {
     }
 }
 
-/// tests/growths.sh refuses each growth in turn. omf_cases has these drafts with ample memory, and others.
+/// tests/devices/growths.sh refuses each growth in turn. omf_cases has these drafts with ample memory, and others.
 #[test]
 fn a_refused_growth_gives_no_other_draft(rt: HostRuntime) {
     for draft in &DRAFTS {

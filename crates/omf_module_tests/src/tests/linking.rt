@@ -129,7 +129,7 @@ fn is_right(alloc: Global) -> bool {
     }
 }
 
-/// tests/growths.sh refuses each growth in turn. omf_cases links these modules with ample memory, and others.
+/// tests/devices/growths.sh refuses each growth in turn. omf_cases links these modules with ample memory, and others.
 #[test]
 fn a_refused_growth_gives_no_other_link(rt: HostRuntime) {
     assert!(rt; is_right(rt.alloc()));

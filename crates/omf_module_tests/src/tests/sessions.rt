@@ -174,7 +174,7 @@ fn is_kept(alloc: Global) -> bool {
     }
 }
 
-/// tests/growths.sh refuses each growth in turn. A type byte is refused without any memory.
+/// tests/devices/growths.sh refuses each growth in turn. A type byte is refused without any memory.
 #[test]
 fn a_refused_growth_is_kept(rt: HostRuntime) {
     assert!(rt; is_kept(rt.alloc()));

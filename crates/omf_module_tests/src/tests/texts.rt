@@ -162,7 +162,7 @@ fn a_text_places_entries_by_names_and_numbers(rt: HostRuntime) {
     assert_eq!(rt; first_wrong(rt.alloc(), false), None);
 }
 
-/// tests/growths.sh refuses each growth in turn.
+/// tests/devices/growths.sh refuses each growth in turn.
 #[test]
 fn a_refused_growth_gives_no_other_entry(rt: HostRuntime) {
     assert_eq!(rt; first_wrong(rt.alloc(), true), None);

@@ -65,7 +65,7 @@ fn first_not_right<C: Call>(alloc: Global, calls: &[C]) -> Option<usize> {
     None
 }
 
-/// The first of these calls that neither succeeds nor runs out of memory. `tests/growths.sh` refuses each growth in turn.
+/// The first of these calls that neither succeeds nor runs out of memory. `tests/devices/growths.sh` refuses each growth in turn.
 pub fn first_wrong<C: Call>(alloc: Global, calls: &[C]) -> Option<usize> {
     for (at, call) in calls.iter().enumerate() {
         if call.run(alloc) == Tried::Wrong {

@@ -63,7 +63,7 @@ fn has_draft(alloc: Global) -> bool {
     }
 }
 
-/// tests/growths.sh refuses each growth in turn.
+/// tests/devices/growths.sh refuses each growth in turn.
 #[test]
 fn a_refused_growth_gives_no_other_draft_of_a_link(rt: HostRuntime) {
     assert!(rt; has_draft(rt.alloc()));

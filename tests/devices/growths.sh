@@ -1,14 +1,14 @@
 #!/usr/bin/env bash
 # Refuses exactly one growth, each in turn, until a run meets none: of the tests that hold whichever growth is refused, and of the programs.
 #
-# usage: tests/growths.sh [--all]
+# usage: tests/devices/growths.sh [--all]
 #   It takes the programs that `rt ci` or `rt test` left in the crates: those of the tests, omf, omf-link, omf-place, omf-dump and omf-lib. OMF,
 #   OMF_LINK, OMF_PLACE, OMF_DUMP and OMF_LIB name other ones. What is not there is skipped, or with --all is a failure.
 #
 # It needs a C compiler; without one it tries nothing. After LIMIT seconds (120) it begins no other run, and prints what was not tried.
 # Its status is 0 where every run passed.
 set -uo pipefail
-root=$(cd "$(dirname "$0")/.." && pwd)
+root=$(cd "$(dirname "$0")/../.." && pwd)
 needed=${1:-}
 limit=${LIMIT:-120}
 omf=${OMF:-$root/crates/omf/out/omf}
@@ -24,7 +24,7 @@ if ! command -v cc > /dev/null; then
     echo "growths: skipped, there is no C compiler"
     exit 0
 fi
-cc -O1 -shared -fPIC -o "$work/refuse_growth.so" "$root/tests/refuse_growth.c" || exit 1
+cc -O1 -shared -fPIC -o "$work/refuse_growth.so" "$root/tests/devices/refuse_growth.c" || exit 1
 
 # fails TEXT: prints what failed.
 fails() {
