@@ -12,7 +12,7 @@ import re
 import sys
 
 import believed
-from tree import CRATES, ROOT
+from tree import CRATES, ROOT, code_files
 
 BELIEVE = ROOT / "docs" / "BELIEVE.md"
 REFUSALS = ROOT / "docs" / "REFUSALS.md"
@@ -335,7 +335,7 @@ def promise():
 
 def view(crate, owner):
     """What a value of a type means."""
-    for path in sorted((CRATES / crate / "src").rglob("*.rt")):
+    for path in code_files(crate):
         for of, ghost, text in believed.contracts(path):
             if of == owner and ghost == "view":
                 return text[2:-2]

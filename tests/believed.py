@@ -3,7 +3,7 @@ function, or what an impl gives a trait as its ghosts (`asks`, `report`, `view`,
 of specs/Inner is neither counted nor followed; a law ties it to a definition, which is counted where the law is."""
 import re
 
-from tree import CRATES, crates, exported, is_for_tests
+from tree import code_files, crates, exported, imported, is_for_tests, spec_files, words_of
 
 # Calls by crate. The ghosts of a type's impls count with it, also where only a function of it is named.
 HEADLINE = {
@@ -41,9 +41,8 @@ class Definitions:
     def __init__(self):
         self.lines, self.comments, self.texts, self.imports, self.key = {}, {}, {}, {}, {}
         for crate in crates():
-            for path in sorted((CRATES / crate / "specs").rglob("*.antt")):
+            for module, path in spec_files(crate):
                 if path.stem not in ("Lib", "Inner"):
-                    module = ".".join(path.relative_to(CRATES / crate / "specs").with_suffix("").parts)
                     self.read(crate, module, path.read_text(encoding="utf-8").splitlines())
 
     def read(self, crate, module, lines):
@@ -51,9 +50,8 @@ class Definitions:
         for line in lines:
             used = re.match(r"use Rattle\.(\w+)\.specs\.([\w.]+)\.\{(.*)\}", line)
             begins = re.match(r"(?:abbrev |pub |unfoldable |reducible |record |data )*(\S+)(?: .*?)? :(?: |$)", line)
-            for name in used[3].split(", ") if used else []:
-                given, _, called = name.partition(" as ")
-                imports[called or given] = (used[1], used[2], given)
+            if used:
+                imports.update((called, (used[1], used[2], given)) for called, given in imported(used[3]))
             if line.startswith(("use ", "mod ", "pub mod ")):
                 comment = []
             elif not line.strip() or line.lstrip() != line and line.lstrip().startswith("--"):
@@ -143,15 +141,11 @@ def roots(definitions, wanted):
         if is_for_tests(crate):
             continue
         public, modules = exported(crate)
-        for path in sorted((CRATES / crate / "src").rglob("*.rt")):
+        for path in code_files(crate):
             if path.stem in ("rows", "edges", "tests") or "tests" in path.parts:
                 continue
             text = path.read_text(encoding="utf-8")
-            words = {}
-            for of, module, names in re.findall(r"ghost use Rattle\.(omf_\w+)\.specs\.([\w.]+)\.\{([^}]*)\}", text):
-                for it in names.split(", "):
-                    given, _, called = it.partition(" as ")
-                    words[called or given] = definitions.key.get((of, module, given))
+            words = {called: definitions.key.get(one) for called, one in words_of(text).items()}
             is_law = path.stem == "laws" or path.parent.name == "laws"
             for owner, name, contract in contracts(path):
                 is_public = (owner or name) in public or path.stem in modules or "no_mangle" in text

@@ -13,7 +13,7 @@ import re
 import sys
 
 import believed
-from tree import CRATES, ROOT, crates, exported, is_for_tests, root_file
+from tree import ROOT, code_files, crates, exported, first_sentence, is_for_tests, root_file, spec_files, words_of
 
 PAGE = ROOT / "docs" / "CALLS.md"
 PROOFS, PHRASES = ROOT / "docs" / "PROOFS.md", "## The headline, phrase by phrase\n"
@@ -36,13 +36,6 @@ PROMISING, WHOLE = ("Program", "Fault"), ("called", "report")
 MOST_EQUATIONS = 12
 
 
-def first_sentence(lines):
-    """The first sentence of a comment's first paragraph."""
-    text = " ".join(line.strip() for line in lines).strip()
-    ended = re.match(r"(.*?[.!?])(?= [A-Z`(]|$)", text)
-    return (ended[1] if ended else text).replace("|", "\\|")
-
-
 def paragraph(lines):
     """The lines of a comment up to its first empty line."""
     return lines[: lines.index("")] if "" in lines else lines
@@ -52,8 +45,8 @@ def definitions():
     """Each definition of specs/, by crate, module and name, with the first sentence of its comment."""
     found = {}
     for crate in crates():
-        for path in sorted((CRATES / crate / "specs").rglob("*.antt")):
-            module, comment = ".".join(path.relative_to(CRATES / crate / "specs").with_suffix("").parts), []
+        for module, path in spec_files(crate):
+            comment = []
             for line in path.read_text(encoding="utf-8").splitlines():
                 named = re.match(r"(?:abbrev |opaque |private |type |record |data )*(?:pub )?(?:abbrev |type |record |data )*(\w+)\b.* : ", line)
                 if line.startswith("--"):
@@ -62,16 +55,6 @@ def definitions():
                     if named and comment and line.startswith(("abbrev", "pub", "type", "data", "record", "opaque")):
                         found.setdefault((crate, module, named[1]), first_sentence(paragraph(comment)))
                     comment = []
-    return found
-
-
-def words_of(text):
-    """The definitions that a file takes from specs/ of this repository: each with its crate, its module and its name there."""
-    found = {}
-    for crate, module, names in re.findall(r"ghost use Rattle\.(omf_\w+)\.specs\.([\w.]+)\.\{([^}]*)\}", text):
-        for name in names.split(", "):
-            given, _, called = name.partition(" as ")
-            found[called or given] = (crate, module, given)
     return found
 
 
@@ -165,7 +148,7 @@ def promise_rows(trait, owner, ghosts, words, defined, all_definitions):
 
 def laws_of(crate):
     """The laws of a crate with their sentences: public functions without parameters in files named for laws or listed beside them."""
-    for path in sorted((CRATES / crate / "src").rglob("*.rt")):
+    for path in code_files(crate):
         if path.stem in ("rows", "edges") or "tests" in path.parts:
             continue
         for call in calls_of(path):
@@ -181,7 +164,7 @@ def page():
             continue
         names, modules = exported(crate)
         rows = []
-        for path in sorted((CRATES / crate / "src").rglob("*.rt")):
+        for path in code_files(crate):
             if path.stem in ("rows", "edges", "laws") or path.parent.name == "laws" or "tests" in path.parts or path.stem == "tests":
                 continue
             text = path.read_text(encoding="utf-8")

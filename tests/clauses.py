@@ -13,7 +13,7 @@ import collections
 import re
 import sys
 
-from tree import CRATES, ROOT, crates, is_for_tests, needs
+from tree import CRATES, ROOT, code_files, crates, is_for_tests, needs
 
 KEPT = ROOT / "tests" / "clauses.txt"
 HEAD = """# The functions without an `ensures` that are public or that a program reaches, by tests/clauses.py: crate, function, and what it does.
@@ -82,7 +82,7 @@ def functions():
     """All functions but tests, with the clauses that methods have from a trait of this repository."""
     found = []
     for crate in crates():
-        for path in sorted((CRATES / crate / "src").rglob("*.rt")):
+        for path in code_files(crate):
             if not is_for_tests(crate) and "tests" not in path.relative_to(CRATES).parts and path.stem not in ("tests", "rows", "edges"):
                 found += functions_of(crate, path)
     promised = {(it.owner, it.name) for it in found if it.has_clause and it.owner}

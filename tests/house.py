@@ -21,7 +21,7 @@ import re
 import sys
 
 import believed
-from tree import CRATES, ROOT, crates, exported, is_for_tests, needs
+from tree import CRATES, ROOT, code_files, crates, exported, first_sentence, is_for_tests, needs, spec_files, words_of
 
 # Files of specs/ that import a computed definition without naming its law.
 UNTIED = []
@@ -108,17 +108,14 @@ def files():
     """Each file of specs/ with the first sentence of its head, but for Inner, laws and worked examples."""
     table = ["| Crate | File of specs/ | Has |", "|---|---|---|"]
     for crate in crates():
-        for path in sorted((CRATES / crate / "specs").rglob("*.antt")):
+        for module, path in spec_files(crate):
             head = []
             for line in path.read_text(encoding="utf-8").splitlines():
                 if not line.startswith("--"):
                     break
                 head.append(line[2:].strip())
-            named = path.relative_to(CRATES / crate / "specs").with_suffix("")
-            if head and "Inner" not in named.parts and path.stem not in ("Rows", "Modules") and not is_for_tests(crate):
-                text = " ".join(head)
-                said = re.match(r"(.*?[.!?])(?= [A-Z`(]|$)", text)
-                table.append(f"| `{crate}` | {named} | {(said[1] if said else text).replace('|', chr(92) + '|')} |")
+            if head and "Inner" not in path.parts and path.stem not in ("Rows", "Modules") and not is_for_tests(crate):
+                table.append(f"| `{crate}` | {module.replace('.', '/')} | {first_sentence(head)} |")
     return table
 
 
@@ -135,7 +132,7 @@ def joined(texts):
 def laws():
     tied, untied = {}, []
     for crate in crates():
-        for path in sorted((CRATES / crate / "specs").rglob("*.antt")):
+        for module, path in spec_files(crate):
             if "Inner" in path.parts:
                 continue
             law = None
@@ -145,7 +142,7 @@ def laws():
                 if named:
                     law = named[1]
                 elif used and used[3] not in GENERIC:
-                    user = f"`{crate}` {path.relative_to(CRATES / crate / 'specs').with_suffix('')}"
+                    user = f"`{crate}` {module.replace('.', '/')}"
                     if law is None and path.stem not in ("Rows", "Modules"):
                         untied.append(user)
                     for word in used[3].split(", ") if law else []:
@@ -183,10 +180,9 @@ def inner():
         if is_for_tests(crate):
             continue
         public, modules = exported(crate)
-        for path in sorted((CRATES / crate / "src").rglob("*.rt")):
-            text = path.read_text(encoding="utf-8")
-            uses = re.findall(r"ghost use Rattle\.(omf_\w+)\.specs\.Inner\.([\w.]+)\.\{(.*)\}", text)
-            words = {word.split(" as ")[-1]: use[:2] for use in uses for word in use[2].split(", ")}
+        for path in code_files(crate):
+            words = words_of(path.read_text(encoding="utf-8"))
+            words = {called: (of, module.removeprefix("Inner.")) for called, (of, module, _) in words.items() if module.startswith("Inner.")}
             for owner, name, clauses in contracts(path):
                 if (owner or name) in public or path.stem in modules:
                     for word in words.keys() & set(re.findall(r"\w+", clauses)):
@@ -201,7 +197,7 @@ def inner():
 def functions(crate):
     """How many functions with a body a crate's src/ has, tests and worked examples among them."""
     return sum(len(re.findall(r"^ *(?:pub(?:\([a-z]+\))? )?(?:extern \"C\" )?fn \w+", path.read_text(encoding="utf-8"), re.M))
-               for path in (CRATES / crate / "src").rglob("*.rt"))
+               for path in code_files(crate))
 
 
 def marked(name):

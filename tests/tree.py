@@ -1,4 +1,4 @@
-"""The crates of this repository, as the scripts of tests/ see them: their names are those of crates.txt."""
+"""The sources of this repository, as the scripts of tests/ read them: crates, by the names of crates.txt, their files, and what these name."""
 import pathlib
 import re
 
@@ -25,6 +25,39 @@ def crates():
 
 def is_for_tests(name):
     return name.endswith(("_tests", "_trials")) or name in FOR_TESTS
+
+
+def code_files(name):
+    """The files of src/ of a crate, in order."""
+    return sorted((CRATES / name / "src").rglob("*.rt"))
+
+
+def spec_files(name):
+    """The files of specs/ of a crate, in order: each with its module, as `Inner.Frames`."""
+    folder = CRATES / name / "specs"
+    return [(".".join(path.relative_to(folder).with_suffix("").parts), path) for path in sorted(folder.rglob("*.antt"))]
+
+
+def imported(names):
+    """What an import of `A, B as C` calls each name, and the name itself."""
+    for it in names.split(", "):
+        given, _, called = it.partition(" as ")
+        yield called or given, given
+
+
+def words_of(text):
+    """The definitions that a file of src/ takes from specs/ of this repository: each with its crate, its module and its name there."""
+    found = {}
+    for crate, module, names in re.findall(r"ghost use Rattle\.(omf_\w+)\.specs\.([\w.]+)\.\{([^}]*)\}", text):
+        found.update((called, (crate, module, given)) for called, given in imported(names))
+    return found
+
+
+def first_sentence(lines):
+    """The first sentence of a comment, as a cell of a table has it."""
+    text = " ".join(line.strip() for line in lines).strip()
+    ended = re.match(r"(.*?[.!?])(?= [A-Z`(]|$)", text)
+    return (ended[1] if ended else text).replace("|", "\\|")
 
 
 def root_file(name):
