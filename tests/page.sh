@@ -16,4 +16,4 @@ fi
 for program in "$OMF" "$OMF_DUMP" "$OMF_PLACE" "$OMF_LIB"; do
     command -v "$program" > /dev/null || { echo "there is no program $program: OMF, OMF_DUMP, OMF_PLACE and OMF_LIB name them" >&2; exit 2; }
 done
-exec "$root/tests/page.py" "$page" "$@"
+exec "$root/tests/page/main.py" "$page" "$@"

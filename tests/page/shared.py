@@ -4,7 +4,7 @@ import os
 import pathlib
 import subprocess
 
-ROOT = pathlib.Path(__file__).resolve().parent.parent
+ROOT = pathlib.Path(__file__).resolve().parent.parent.parent
 NATIVE = {"omf": os.environ.get("OMF", "omf"), "omf_dump": os.environ.get("OMF_DUMP", "omf-dump"), "omf_place": os.environ.get("OMF_PLACE", "omf-place"),
           "omf_lib": os.environ.get("OMF_LIB", "omf-lib")}
 ENDINGS = (".obj", ".o", ".omf", ".t", ".lib", ".a")

@@ -1,8 +1,8 @@
 #!/usr/bin/env python3
-"""Tries the page in headless Chromium: page.py PAGE.html [FOLDER..]
+"""Tries the page in headless Chromium: main.py PAGE.html [FOLDER..]
 
 Compares what its programs print with what the native programs print (OMF, OMF_DUMP, OMF_PLACE and OMF_LIB name them), over examples/ and the
-folders. Then opens files as a person does: each file and each example (page_files.py), and what a person does with them (page_acts.py).
+folders. Then opens files as a person does: each file and each example (opening.py), and what a person does with them (acts.py).
 """
 import base64
 import hashlib
@@ -11,10 +11,10 @@ import pathlib
 import sys
 import tempfile
 
-import page_acts
-import page_files
+import acts
+import opening
 from chromium import Tab
-from page_shared import ROOT, STATE, Tries, modules, native, printed
+from shared import ROOT, STATE, Tries, modules, native, printed
 
 RUN = """(async asked => {
   const answers = [];
@@ -51,7 +51,7 @@ def each_file(tab, tries, files):
     counts = [0, 0]
     for file in files:
         counts = [sum(it) for it in zip(counts, compare(tab, tries, file))]
-        page_files.file(tab, tries, file)
+        opening.file(tab, tries, file)
     print(f"{len(files)} files, {counts[1]} answers of the page's programs: {counts[0]} differences", flush=True)
 
 
@@ -59,13 +59,13 @@ def main(page, *folders):
     tries = Tries()
     with tempfile.TemporaryDirectory(prefix="omf-page-test-") as work, Tab(pathlib.Path(page).resolve().as_uri(), folder=work) as tab:
         tab.until(f"{STATE} === 'done'", 300)
-        page_files.first_sight(tab, tries)
+        opening.first_sight(tab, tries)
         each_file(tab, tries, modules([ROOT / "examples", *folders]))
-        page_files.examples(tab, tries)
-        page_acts.all_of(tab, tries, pathlib.Path(work))
+        opening.examples(tab, tries)
+        acts.all_of(tab, tries, pathlib.Path(work))
         tries.see("requests to a network", tab.requests(), [])
         tries.see("faults of the page", tab.faults(), [])
-        page_acts.policy(tab, tries)
+        acts.policy(tab, tries)
     print(f"{tries.done} tries, {len(tries.failed)} failed")
     return 1 if tries.failed else 0
 

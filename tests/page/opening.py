@@ -3,7 +3,7 @@ import contextlib
 import hashlib
 import json
 
-from page_shared import STATE, native, open_file, printed, text_of
+from shared import STATE, native, open_file, printed, text_of
 
 WRONG = ("undefined", "NaN", "null", "[object")
 # All that the page shows: its text, titles and values. The texts of the documents (docs/REASONS.md, docs/LIBRARIES.md) are left out.

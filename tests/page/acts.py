@@ -2,8 +2,8 @@
 import base64
 import time
 
-import page_files
-from page_shared import ROOT, STATE, hostile, large, library, named, open_file, record, text_of
+import opening
+from shared import ROOT, STATE, hostile, large, library, named, open_file, record, text_of
 
 
 def after(tab, act, until=f"{STATE} === 'done'"):
@@ -69,7 +69,7 @@ def odd(tab, tries, folder):
             "full.obj": b"".join((record(0x80, named(b"a")), record(0x96, named(b"")), record(0x99, bytes([0x61, 0, 0, 0, 0xFF, 1, 1, 1])), record(0x8A, b"\0")))}
     for name, data in made.items():
         (folder / name).write_bytes(data)
-        page_files.file(tab, tries, folder / name)
+        opening.file(tab, tries, folder / name)
 
 
 def files(tab, tries, folder):
