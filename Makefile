@@ -76,7 +76,6 @@ build:
 	@(cd crates/omf_dump && rt run) < examples/first.omf > /dev/null
 	@(cd crates/omf_lib && rt run -- list -) < examples/library/small.lib > /dev/null
 
-# The archive has the library and three functions of the kit that call malloc, realloc and free.
 ifeq ($(UNPROVED),1)
 library:
 	dist/unproved_library.sh
@@ -86,11 +85,7 @@ try-c: library
 else
 library:
 	cd crates/omf_c && rt lib
-	rm -rf build/objects build/libomf.a build/libomf.so
-	mkdir -p build/objects
-	cd build/objects && ar x ../../crates/omf_c/out/libomf_c.a && ar x "$$(dirname "$$(rt doc)")/c/liblibc_c.a"
-	ar rcs build/libomf.a build/objects/*.o
-	$(CC) -shared -Wl,-soname,libomf.so -o build/libomf.so build/objects/*.o
+	CC="$(CC)" dist/library.sh
 
 try-c: build library
 	LIBRARY=build/libomf.a OMF=crates/omf/out/omf OMF_DUMP=crates/omf_dump/out/omf_dump tests/c/run.sh $(MODULES)
@@ -145,9 +140,7 @@ release:
 	tests/release.py $(STAGES)
 
 docs:
-	tests/calls.py
-	tests/believe.py
-	tests/house.py --write
+	tests/docs.py --write
 
 ci:
 	.ci/run

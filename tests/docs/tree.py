@@ -2,7 +2,7 @@
 import pathlib
 import re
 
-ROOT = pathlib.Path(__file__).resolve().parent.parent
+ROOT = pathlib.Path(__file__).resolve().parent.parent.parent
 CRATES = ROOT / "crates"
 # Crates that only tests need: records to test with, and a program that runs cases. Crates of tests end in `_tests`.
 FOR_TESTS = {"omf_samples", "omf_cases"}

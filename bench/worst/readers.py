@@ -1,19 +1,17 @@
-#!/usr/bin/env python3
-"""Makes the inputs that cost omf-dump and omf-lib the most, and measures the programs on them: worst_programs.py [FOLDER]
+"""The inputs that cost omf-dump and omf-lib the most.
 
-Each input has two sizes, n and 2n. For each run it prints the bytes of the larger input, the processor time at 2n as a ratio to that at n, that time,
-the peak of memory in megabytes, and the bytes that were written. Each time is the best of RUNS runs (2), less that of a run on an empty file. OMF_DUMP and
-OMF_LIB name the programs. SHAPES is a part of the names of those that are wanted; SCALE divides all sizes (1), for programs with run-time checks.
-The inputs are written to FOLDER, or to one that is removed again. No printed name may have a control character.
-"""
+Each input has two sizes, n and 2n. For each run the table has the bytes of the larger input, the processor time at 2n as a ratio to that at n, that
+time, the peak of memory in megabytes, and the bytes that were written. Each time is the best of RUNS runs (2), less a run on an empty file. SCALE
+divides all sizes (1), for programs with run-time checks. No printed name may have a control character."""
 import os
 import pathlib
 import struct
-import subprocess
 import sys
 import tempfile
 
-sys.path.insert(0, str(pathlib.Path(__file__).resolve().parent.parent / "tests" / "fuzz"))
+import running
+
+sys.path.insert(0, str(running.BENCH.parent / "tests" / "fuzz"))
 from libraries import BLOCK, BUCKETS, library, module, record  # noqa: E402
 
 PROGRAMS = {"dump": os.environ.get("OMF_DUMP", "omf-dump"), "lib": os.environ.get("OMF_LIB", "omf-lib")}
@@ -98,22 +96,13 @@ SHAPES = {
 
 def measure(launch, command, path):
     """The least processor time in milliseconds, the peak of memory in megabytes, the bytes written and the status; None where it takes too long."""
-    found = []
-    for _ in range(RUNS):
-        with tempfile.TemporaryFile() as out, open(path, "rb") as source:
-            try:
-                done = subprocess.run(["timeout", str(LIMIT_SECONDS), launch, *command], stdin=source, stdout=out, stderr=subprocess.PIPE)
-            finally:
-                written = out.seek(0, os.SEEK_END)
-            if done.returncode == 124:
-                return None
-            out.seek(0)
-            for part in iter(lambda: out.read(1 << 20), b""):
-                if part.translate(None, bytes(range(32, 127)) + b"\n"):
-                    sys.exit(f"{' '.join(command)}: a control character of {path}")
-            time, peak = done.stderr.split()[-2:]
-            found.append((float(time), int(peak) / 1024, written, done.returncode))
-    return min(found)
+
+    def look(part):
+        if part.translate(None, bytes(range(32, 127)) + b"\n"):
+            sys.exit(f"{' '.join(command)}: a control character of {path}")
+
+    found = [running.once(launch, command, LIMIT_SECONDS, given=path, look=look) for _ in range(RUNS)]
+    return None if None in found else min(found)
 
 
 def show(name, folder, launch):
@@ -139,17 +128,10 @@ def show(name, folder, launch):
         path.unlink()
 
 
-def main():
+def table(part):
     print("| Input | Run | 2n | Bytes | Time at 2n to n | Time at 2n | Memory at n, 2n | Written | Status |\n|---|---|---|---|---|---|---|---|---|")
-    wanted = [it for it in SHAPES if os.environ.get("SHAPES", "") in it]
     with tempfile.TemporaryDirectory() as made:
-        folder = pathlib.Path(sys.argv[1] if len(sys.argv) > 1 else made)
-        folder.mkdir(parents=True, exist_ok=True)
-        launch = str(pathlib.Path(made) / "launch")
-        subprocess.run(["cc", "-O1", "-o", launch, pathlib.Path(__file__).parent / "launch.c"], check=True)
-        for name in wanted:
-            show(name, folder, launch)
-
-
-if __name__ == "__main__":
-    main()
+        launch = running.built(made)
+        for name in SHAPES:
+            if part in name:
+                show(name, pathlib.Path(made), launch)

@@ -3,7 +3,7 @@
 import pathlib
 import sys
 
-ROOT = pathlib.Path(__file__).resolve().parent.parent
+ROOT = pathlib.Path(__file__).resolve().parent.parent.parent
 VERSION = (ROOT / "VERSION").read_text(encoding="utf-8").strip()
 NUMBER = sum(int(part) * 100**place for place, part in enumerate(reversed(VERSION.split("."))))
 # Each place of the version: the file, and the text that it must have.

@@ -1,8 +1,8 @@
 #!/usr/bin/env python3
 """What the gate costs: runs `rt ci`, which proves everything from nothing, and sums the processor time of its proofs by crate.
 
-usage: tests/cost.py FILE [--of PID]
-  Writes lines `CRATE PROOF EDITS` to FILE, in seconds, anew every few seconds; `tests/house.py --write --times FILE` makes the table of
+usage: tests/docs.py cost FILE [--of PID]
+  Writes lines `CRATE PROOF EDITS` to FILE, in seconds, anew every few seconds; `tests/docs.py house --write --times FILE` makes the table of
   docs/INDEX.md of them. PROOF is the proof of the crate, its tests and its programs; EDITS is all that its must-fail edits took.
   --of PID: watches a run that is there already, and starts none.
 

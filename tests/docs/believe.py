@@ -25,7 +25,7 @@ HEAD = """# What to believe
 This page states that promise as definitions: the theorem, and every definition that it rests on, each once, in {count:,} lines (in the sources {written:,}, without comments and empty lines).
 If these definitions describe OMF as you know it, the promise holds: the prover has done the rest, and `rt ci` repeats it. You need the
 standard (TIS OMF 1.1) beside the page, and nothing else of this project. Which reason a refusal has, and where, is on a page of its own, [REFUSALS.md](REFUSALS.md);
-everything about faults, their places and their reasons can be skipped here. `tests/believe.py` makes both pages from the sources, and `.ci/run` compares them.
+everything about faults, their places and their reasons can be skipped here. `tests/docs.py believe` makes both pages from the sources, and `.ci/run` compares them.
 
 "Well formed" is narrower than the standard. Modules with COMDAT, CEXTDEF, backpatch (BAKPAT, NBKPAT) or vendors' records are refused, and so are fixups on LIDATA blocks, frame methods F3, F6 and F7 and target methods T3 and T7; every such narrowing is marked "this profile's rule" at its definition.
 
@@ -486,7 +486,7 @@ def main():
     if sys.argv[1:] == ["--check"]:
         for path, text in made.items():
             if not path.exists() or path.read_text(encoding="utf-8") != text:
-                sys.exit(f"docs/{path.name} differs from the sources: run tests/believe.py")
+                sys.exit(f"docs/{path.name} differs from the sources: run tests/docs.py --write")
         if missing := unexplained(pages):
             sys.exit(f"the key of docs/BELIEVE.md does not explain: {', '.join(missing)}")
         return

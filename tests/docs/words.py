@@ -1,12 +1,12 @@
 #!/usr/bin/env python3
 """Counts words that this project's English does without, so that they do not come back.
 
-words.py          compares with tests/words.txt: status 1 where a count has grown
+words.py          compares with tests/docs/words.txt: status 1 where a count has grown
 words.py --set    stores the counts
 words.py --show   prints each place
 
 Counted are the documents (README.md, docs/, man/, examples/, include/, the scripts) and the comments of the crates' sources. docs/CALLS.md, docs/BELIEVE.md and
-docs/REFUSALS.md, which are made from these, are left out, and so are the tables that tests/house.py makes, tests/words.py and tests/words.txt.
+docs/REFUSALS.md, which are made from these, are left out, and so are the tables that tests/docs/house.py makes, tests/docs/words.py and tests/docs/words.txt.
 """
 import pathlib
 import re
@@ -14,7 +14,7 @@ import sys
 
 from tree import CRATES, ROOT, crates
 
-STORE = ROOT / "tests" / "words.txt"
+STORE = ROOT / "tests" / "docs" / "words.txt"
 # Each with what is written instead.
 WORDS = {
     "behind": ("after, following", r"\bbehind\b"),
@@ -100,7 +100,7 @@ def main():
     for (part, word), old, new in grown:
         print(f"{part}: '{word}' {new} times, {old} before; write: {WORDS[word][0]}")
     if grown:
-        sys.exit("tests/words.py --show names the places")
+        sys.exit("tests/docs.py words --show names the places")
 
 
 main()

@@ -6,13 +6,13 @@ budget.py --set    lowers the numbers of pages that are over their goal to what 
 
 A line of docs/BUDGET is `PAGE BYTES`, or for a page that is still over its goal `PAGE BYTES over GOAL lines N cells M`: its size, long lines
 and long cells of today, which may shrink and not grow. `PAGE made` is a page that scripts make. Blocks of code and quotes are not looked at,
-and neither are tables between the marks of tests/house.py.
+and neither are tables between the marks of tests/docs/house.py.
 """
 import pathlib
 import re
 import sys
 
-ROOT = pathlib.Path(__file__).resolve().parent.parent
+ROOT = pathlib.Path(__file__).resolve().parent.parent.parent
 STORE = ROOT / "docs" / "BUDGET"
 LINE, CELL = 400, 200
 

@@ -19,7 +19,7 @@ PAGE = ROOT / "docs" / "CALLS.md"
 PROOFS, PHRASES = ROOT / "docs" / "PROOFS.md", "## The headline, phrase by phrase\n"
 HEAD = """# The calls and their clauses
 
-Made from the sources by `tests/calls.py`; the gate compares. docs/PROOFS.md has the headline phrase by phrase, and what is only tested.
+Made from the sources by `tests/docs.py calls`; the gate compares. docs/PROOFS.md has the headline phrase by phrase, and what is only tested.
 
 The row of a call has the first sentence of its comment. Then each clause of its contract has a row: the clause's name (a dash if it has none);
 the definition that it cites first, with the first sentence of that definition's comment; or the clause itself, if it cites no definition of
@@ -223,7 +223,7 @@ def main():
     made, clauses, laws = page()
     if sys.argv[1:] == ["--check"]:
         kept = PAGE.read_text(encoding="utf-8") if PAGE.exists() else ""
-        faults = ["docs/CALLS.md differs from the sources: run tests/calls.py"] if kept != made else []
+        faults = ["docs/CALLS.md differs from the sources: run tests/docs.py --write"] if kept != made else []
         faults += [f"docs/PROOFS.md, {PHRASES[3:-1]}: {it}" for it in phrase_faults(clauses, laws)]
         if faults:
             sys.exit("\n".join(faults))

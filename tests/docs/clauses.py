@@ -2,7 +2,7 @@
 """Lists the functions without an `ensures`: those of which it is proved only that they are safe and return.
 
 clauses.py          prints them, crate by crate: those that are `pub`, and those that the `main` of a program reaches
-clauses.py --check  compares them with tests/clauses.txt: status 1 where one is new, has no words there, or is gone
+clauses.py --check  compares them with tests/docs/clauses.txt: status 1 where one is new, has no words there, or is gone
 clauses.py --write  writes that file: words are kept, a new function gets `?`, which --check refuses
 
 It reads the sources by names alone. A function reaches each function whose name its body has before a `(` or as an argument, in its crate or in
@@ -15,8 +15,8 @@ import sys
 
 from tree import CRATES, ROOT, code_files, crates, is_for_tests, needs
 
-KEPT = ROOT / "tests" / "clauses.txt"
-HEAD = """# The functions without an `ensures` that are public or that a program reaches, by tests/clauses.py: crate, function, and what it does.
+KEPT = ROOT / "tests" / "docs" / "clauses.txt"
+HEAD = """# The functions without an `ensures` that are public or that a program reaches, by tests/docs.py clauses: crate, function, and what it does.
 # 'only safe': a part of one that prints, reads or writes, or a function of which nothing more is claimed.
 """
 FUNCTION = re.compile(r"( *)(pub(?:\(\w+\))? )?(?:const |unsafe |extern \"C\" )*fn (\w+)")
@@ -123,10 +123,10 @@ def main():
     if sys.argv[1:] == ["--write"]:
         KEPT.write_text(HEAD + "".join(f"{it}: {words.get(it, '?')}\n" for it in listed), encoding="utf-8")
     elif sys.argv[1:] == ["--check"]:
-        faults = [f"{it}: no ensures, and not in tests/clauses.txt" for it in listed if words.get(it, "?") == "?"]
-        faults += [f"{it}: in tests/clauses.txt, but it has an ensures or is gone" for it in words if it not in listed]
+        faults = [f"{it}: no ensures, and not in tests/docs/clauses.txt" for it in listed if words.get(it, "?") == "?"]
+        faults += [f"{it}: in tests/docs/clauses.txt, but it has an ensures or is gone" for it in words if it not in listed]
         if faults:
-            sys.exit("\n".join([*faults, "give it a clause, or run tests/clauses.py --write and put what it does in place of `?`"]))
+            sys.exit("\n".join([*faults, "give it a clause, or run tests/docs.py clauses --write and put what it does in place of `?`"]))
     else:
         print("\n".join(f"{it}: {words.get(it, '?')}" for it in listed))
 

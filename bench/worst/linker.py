@@ -1,17 +1,17 @@
-#!/usr/bin/env python3
-"""Makes the inputs that cost omf-link the most, and measures it on them: worst_links.py [PART]
+"""The inputs that cost omf-link the most.
 
-Each input has two sizes, n and 2n. For each run it prints the bytes of the larger input, the processor time at 2n as a ratio to that at n (less that
-of a run without files), that time, also as a ratio to `sha256sum` of the same bytes, the peak of memory in megabytes, the bytes written and the status.
-OMF_LINK names the program; PART is a part of the names of those that are wanted. Each time is the best of RUNS runs (2)."""
+Each input has two sizes, n and 2n. For each run the table has the bytes of the larger input, the processor time at 2n as a ratio to that at n (less
+a run without files), that time, also as a ratio to `sha256sum` of the same bytes, the peak of memory in megabytes, the bytes written and the
+status. Each time is the best of RUNS runs (2)."""
 import os
 import pathlib
 import struct
-import subprocess
 import sys
 import tempfile
 
-sys.path.insert(0, str(pathlib.Path(__file__).resolve().parent.parent / "tests" / "fuzz"))
+import running
+
+sys.path.insert(0, str(running.BENCH.parent / "tests" / "fuzz"))
 from libraries import BLOCK, library, record  # noqa: E402
 
 LINK = os.environ.get("OMF_LINK", "omf-link")
@@ -167,14 +167,12 @@ def measure(launch, words, folder):
     """The least processor time in milliseconds, the peak of memory in megabytes, the bytes written and the status; None where it takes too long."""
     found = []
     for _ in range(RUNS):
-        with tempfile.TemporaryFile() as out:
-            done = subprocess.run(["timeout", str(LIMIT_SECONDS), launch, *words], cwd=folder, stdout=out, stderr=subprocess.PIPE)
-            if done.returncode == 124:
-                return None
-            time, peak = done.stderr.split()[-2:]
-            out_file = folder / "out.exe"
-            written = out.seek(0, os.SEEK_END) + (out_file.stat().st_size if out_file.exists() else 0)
-            found.append((float(time), int(peak) / 1024, written, done.returncode))
+        done = running.once(launch, words, LIMIT_SECONDS, folder=folder)
+        if done is None:
+            return None
+        time, peak, written, status = done
+        out_file = folder / "out.exe"
+        found.append((time, peak, written + (out_file.stat().st_size if out_file.exists() else 0), status))
     return min(found)
 
 
@@ -202,15 +200,9 @@ def show(name, folder, launch):
           f"{most[2]:,} | {most[3]} |", flush=True)
 
 
-def main():
+def table(part):
     print("| Input | Run | 2n | Bytes | Growth | Time | To `sha256sum` | Memory at n, 2n | Written | Status |\n|---|---|---|---|---|---|---|---|---|---|")
     for name in SHAPES:
-        if len(sys.argv) < 2 or sys.argv[1] in name:
+        if part in name:
             with tempfile.TemporaryDirectory() as made:
-                launch = str(pathlib.Path(made) / "launch")
-                subprocess.run(["cc", "-O1", "-o", launch, pathlib.Path(__file__).parent / "launch.c"], check=True)
-                show(name, pathlib.Path(made), launch)
-
-
-if __name__ == "__main__":
-    main()
+                show(name, pathlib.Path(made), running.built(made))

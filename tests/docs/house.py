@@ -274,7 +274,7 @@ def main():
     if UNTIED:
         print("computed definitions without a law (a line `-- computed: LAW.` above the import): " + ", ".join(UNTIED), file=sys.stderr)
     if differing:
-        sys.exit("tables of docs/INDEX.md that are not as the sources have them, run tests/house.py --write: " + ", ".join(differing))
+        sys.exit("tables of docs/INDEX.md that are not as the sources have them, run tests/docs.py --write: " + ", ".join(differing))
     sys.exit(1 if UNTIED else 0)
 
 
