@@ -7,6 +7,7 @@ ghost use Rattle.omf_records.specs.Inner.Passing.{IsEntry, IsSound, IsWithin, Pa
 ghost use Rattle.omf_records.specs.Values.{frame_bits, frame_by_thread, target_by_thread, target_bits};
 
 use crate::field::{index, number};
+use crate::fixup::FIXUP_LIMIT;
 use crate::here::Here;
 use crate::subrecord::{Subrecord, has_displacement, has_frame_datum};
 use crate::unread::Unread;
@@ -131,6 +132,25 @@ fn pass_fixup<'a>(here: Here<'a>, counts: &[usize; 4], len: usize) -> Option<Her
     }
 }
 
+/// `pass_fixup` near the end of a record.
+#[inline(never)]
+fn pass_last<'a>(here: Here<'a>, counts: &[usize; 4], len: usize) -> Option<Here<'a>>
+    ensures { IfSome result (Passes (IsSound counts.now len) here.entry.wide ((subrecord_reader here.entry.wide).read here.entry.within here.entry.bytes.now)) }
+{
+    pass_fixup(here, counts, len)
+}
+
+/// `pass_fixup`, in a form of its own where the longest FIXUP fits: there the compiler leaves out the tests whether a field is there.
+#[inline(always)]
+fn pass_next<'a>(here: Here<'a>, counts: &[usize; 4], len: usize) -> Option<Here<'a>>
+    ensures { IfSome result (Passes (IsSound counts.now len) here.entry.wide ((subrecord_reader here.entry.wide).read here.entry.within here.entry.bytes.now)) }
+{
+    if here.bytes().len() < FIXUP_LIMIT {
+        return pass_last(here, counts, len);
+    }
+    pass_fixup(here, counts, len)
+}
+
 impl<'a> Unread<Subrecord<'a>> {
     /// Goes on after the next subrecord, if it is a FIXUP that uses no thread and has no fault. `counts` has the numbers of segments,
     /// groups and externals, and then 0; `len` is the number of data bytes of the last data record, 0 if it is no LEDATA. Returns false,
@@ -140,7 +160,7 @@ impl<'a> Unread<Subrecord<'a>> {
         ensures passed { result ≡ true → PassesNext counts.now len self.old self.new }
         ensures items { result ≡ false → self.new ≡ self.old }
     {
-        match pass_fixup(self.place(), counts, len) {
+        match pass_next(self.place(), counts, len) {
             Some(after) => {
                 *self = Unread::new(after);
                 true
