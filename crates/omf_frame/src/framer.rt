@@ -199,6 +199,10 @@ fn whole_front(bytes: &[u8], number: u32, start: u64) -> Option<RawRecord<'_>>
     ensures standing { OnSome result (standing_fault (number == 0) (present bytes.now) ≡ None) }
     ensures present { OnSome result (record_len bytes.now ≤ length bytes.now) }
 {
+    // The length bytes are there from here on: the compiler then asks for them once.
+    if bytes.len() < 3 {
+        return None;
+    }
     let size = record_len(bytes);
     if bytes.len() < size {
         return None;

@@ -212,45 +212,21 @@ pub fn type_name(kind: u8) -> &'static str
     }
 }
 
-/// Whether a module may have records of this type: those of the types that are read or carried, by their bytes.
+/// The type bytes of the types that are read or carried: from 80H on, and from C0H on, bit by bit.
+const TAKEN_LOW: u64 = 0x01F1_000F_3773_5D05;
+
+const TAKEN_HIGH: u64 = 0x1470;
+
+/// Whether a module may have records of this type: those of the types that are read or carried.
 #[inline(always)]
 pub fn is_taken(kind: u8) -> bool
     ensures { result ≡ is_taken kind }
 {
-    matches!(
-        kind,
-        0x80 | 0x82
-            | 0x88
-            | 0x8A
-            | 0x8B
-            | 0x8C
-            | 0x8E
-            | 0x90
-            | 0x91
-            | 0x94
-            | 0x95
-            | 0x96
-            | 0x98
-            | 0x99
-            | 0x9A
-            | 0x9C
-            | 0x9D
-            | 0xA0
-            | 0xA1
-            | 0xA2
-            | 0xA3
-            | 0xB0
-            | 0xB4
-            | 0xB5
-            | 0xB6
-            | 0xB7
-            | 0xB8
-            | 0xC4
-            | 0xC5
-            | 0xC6
-            | 0xCA
-            | 0xCC
-    )
+    if kind < 0x80 {
+        return false;
+    }
+    let taken = if kind < 0xC0 { TAKEN_LOW } else { TAKEN_HIGH };
+    (taken >> (kind % 64)) % 2 == 1
 }
 
 /// Whether the type is known, and a module with such a record is refused.
