@@ -1,6 +1,6 @@
 //! Checking a record, and keeping what it defines.
 
-ghost use Rattle.std.specs.Prelude.{◌≡◌, ◌≤◌, ◌<◌, ◌+◌, ◌^◌, ◌++◌, length, OnOk, IsTrue, IfErr, Ok, None, Some};
+ghost use Rattle.std.specs.Prelude.{◌≡◌, ◌≤◌, ◌<◌, ◌+◌, ◌^◌, ◌++◌, length, OnOk, IsTrue, IfErr, Ok, None, Some, false};
 ghost use Rattle.omf_check.specs.Inner.Names.{segment_info};
 ghost use Rattle.omf_check.specs.Rules.{item_limit};
 ghost use Rattle.omf_image.specs.Limits.{profile_limits};
@@ -11,6 +11,7 @@ ghost use Rattle.omf_check.specs.Inner.Plain.{plain_fault};
 ghost use Rattle.omf_check.specs.declared.last_data.LastData.TheVariants.{Plain};
 ghost use Rattle.omf_frame.specs.Framing.{is_taken};
 ghost use Rattle.omf_records.specs.Inner.Seen.{contents_seen, kind_seen, odd_if, rec_seen};
+ghost use Rattle.omf_records.specs.Valued.{is_fixupp};
 
 use crate::fault::CheckFault;
 use crate::last_data::LastData;
@@ -146,6 +147,7 @@ impl Tables {
     }
 
     /// Checks an LEDATA, and keeps the number of its data bytes if it has no fault. A fault of its layout precedes all others.
+    #[inline(always)]
     fn take_plain(&mut self, read: Result<PlainData<'_>, LayoutFault>) -> Option<LayoutFault>
         requires { self.old.items ≤ item_limit }
         ensures found { result ≡ plain_fault self.old read.entry }
@@ -167,7 +169,34 @@ impl Tables {
         fault
     }
 
-    /// Checks the next record, and keeps what it defines.
+    /// Checks a record other than a FIXUPP or an LEDATA, and keeps what it defines.
+    #[inline(never)]
+    fn take_other(&mut self, profile: Profile, raw: RawRecord<'_>) -> Result<(), CheckFault>
+        requires taken { IsTrue (is_taken raw.kind) }
+        requires other { is_fixupp raw.kind ≡ false }
+        requires short { length raw.body.now ≤ 65534 }
+        requires start { raw.start < 2 ^ 40 }
+        requires bounded { IsBounded self.old }
+        ensures sound { OnOk result (raw_fault profile profile_limits self.old raw.entry.kind raw.entry.body.now ≡ None) }
+        ensures kept { OnOk result (self.new ≡ with_record self.old raw.entry.start (rec_of raw.entry.kind raw.entry.body.now)) }
+        ensures bounded { OnOk result (IsBounded self.new) }
+        ensures cause { IfErr result (IsStopped (raw_fault profile profile_limits self.old raw.entry.kind raw.entry.body.now) raw.entry.number raw.entry.start) }
+    {
+        // A typed record is large: it is seen where it is, and not moved.
+        let viewed = view(raw);
+        let rec = match &viewed {
+            Ok(rec) => rec,
+            Err(fault) => return Err(refused(raw.number, raw.start, fault)),
+        };
+        if let Some(fault) = self.record_fault(profile, rec) {
+            return Err(refused(raw.number, raw.start, &fault));
+        }
+        self.add(raw.start, rec)?;
+        Ok(())
+    }
+
+    /// Checks the next record, and keeps what it defines. FIXUPPs and LEDATAs are most records: they are checked where it is called.
+    #[inline(always)]
     pub fn take(&mut self, profile: Profile, raw: RawRecord<'_>) -> Result<(), CheckFault>
         requires taken { IsTrue (is_taken raw.kind) }
         requires short { length raw.body.now ≤ 65534 }
@@ -190,16 +219,6 @@ impl Tables {
                 None => Ok(()),
             };
         }
-        // A typed record is large: it is seen where it is, and not moved.
-        let viewed = view(raw);
-        let rec = match &viewed {
-            Ok(rec) => rec,
-            Err(fault) => return Err(refused(raw.number, raw.start, fault)),
-        };
-        if let Some(fault) = self.record_fault(profile, rec) {
-            return Err(refused(raw.number, raw.start, &fault));
-        }
-        self.add(raw.start, rec)?;
-        Ok(())
+        self.take_other(profile, raw)
     }
 }

@@ -150,6 +150,7 @@ impl Tables {
 
     /// Reads and checks the subrecords of a FIXUPP. If none has a fault, counts them as items and keeps their threads. A fault of their
     /// layout precedes all others.
+    #[inline(never)]
     fn take_subrecords(&mut self, subrecords: Unread<Subrecord<'_>>) -> Option<LayoutFault>
         requires { self.old.items ≤ item_limit }
         ensures found { result ≡ walk_fault self.old subrecords.entry.items }
@@ -190,6 +191,7 @@ impl Tables {
     }
 
     /// Checks a FIXUPP with these subrecords. Keeps what later records need of it if it has no fault.
+    #[inline(always)]
     pub(super) fn take_fixups(&mut self, subrecords: Unread<Subrecord<'_>>) -> Option<LayoutFault>
         requires { self.old.items ≤ item_limit }
         ensures found { result ≡ fixups_fault self.old subrecords.entry.items }

@@ -61,6 +61,7 @@ fn data_size(rec: &Rec<'_>) -> Result<usize, LayoutFault>
 
 impl Tables {
     /// The length of a segment in bytes; 0 if it does not exist.
+    #[inline(always)]
     fn segment_length(&self, index: u16) -> u64
         ensures { result ≡ kept_length self.now.segments index }
     {
@@ -71,6 +72,7 @@ impl Tables {
     }
 
     /// Rule: the segment exists, and `size` bytes of data from `offset` on are within it.
+    #[inline(always)]
     pub(super) fn data_fault(
         &self,
         segment: &At<Index>,
@@ -175,6 +177,7 @@ impl Tables {
     }
 
     /// Rule: the module has room for one more item. A fault is at the record's start.
+    #[inline(always)]
     pub(super) fn item_fault(&self) -> Option<LayoutFault>
         ensures { result ≡ room_fault (item_limit - self.now.items) (0 ∷ []) }
     {
