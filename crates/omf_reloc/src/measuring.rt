@@ -1,16 +1,17 @@
 //! The extents of a module's data records.
 
-ghost use Rattle.std.specs.Prelude.{◌≡◌, ◌++◌, length, flat_map, IfOk, OnOk, option_to_list};
+ghost use Rattle.std.specs.Prelude.{◌≡◌, ◌++◌, [], ◌∷◌, length, flat_map, IfOk, OnOk, option_to_list};
 ghost use Rattle.omf_records.specs.Inner.Seen.{odd_if, rec_seen};
 ghost use Rattle.omf_records.specs.Values.{width};
 ghost use Rattle.omf_image.specs.Inner.Expanding.{expanded};
 ghost use Rattle.omf_image.specs.Limits.{profile_limits};
+ghost use Rattle.omf_check.specs.Inner.Contents.{data_seen};
 ghost use Rattle.omf_check.specs.Module.{recs_of};
 ghost use Rattle.omf_check.specs.Sound.{ModuleHolds};
 ghost use Rattle.omf_reloc.specs.Inner.Measuring.{measured, CanMeasure};
 ghost use Rattle.omf_reloc.specs.Inner.Walking.{Expands};
 
-use omf_check::{Checked, Undecoded};
+use omf_check::{Checked, Data, Undecoded};
 use omf_frame::Index;
 use omf_image::{Extent, Limits, expanded_len};
 use omf_records::{At, Blocks, Rec};
@@ -74,27 +75,36 @@ pub fn measure(rec: &Rec<'_>) -> Option<Extent>
     }
 }
 
-/// Appends the extent of a data record. Other records add nothing.
-fn push_measured(extents: &mut Vec<Extent>, rec: &Rec<'_>) -> Result<(), AllocError>
-    requires { CanMeasure (rec_seen rec.now) }
-    ensures { OnOk result (extents.new.items ≡ extents.old.items ++ measured (rec_seen rec.now)) }
+/// The extent of the data of an LEDATA, or of what the blocks of an LIDATA expand to.
+fn data_extent(source: &Data<'_>) -> Extent
+    requires { CanMeasure (data_seen source.now) }
+    ensures { result ∷ [] ≡ measured (data_seen source.now) }
 {
-    match measure(rec) {
-        Some(extent) => {
-            extents.push(extent)?;
-            Ok(())
-        }
-        None => Ok(()),
+    match source {
+        Data::Plain {
+            segment,
+            offset,
+            bytes,
+            ..
+        } => extent_from(segment, offset, bytes.len() as u64),
+        Data::Iterated {
+            segment,
+            offset,
+            blocks,
+        } => extent_from(segment, offset, blocks_len(*blocks)),
     }
 }
 
-/// The same for a record that is not decoded yet. It is decoded only if it has data.
-fn push_extent(extents: &mut Vec<Extent>, record: &Undecoded<'_>) -> Result<(), AllocError>
-    requires { CanMeasure «record».now }
-    ensures { OnOk result (extents.new.items ≡ extents.old.items ++ measured «record».now) }
+/// Appends the extent of a data record. Other records add nothing, and are not decoded.
+fn push_extent(extents: &mut Vec<Extent>, rec: &Undecoded<'_>) -> Result<(), AllocError>
+    requires { CanMeasure rec.now }
+    ensures { OnOk result (extents.new.items ≡ extents.old.items ++ measured rec.now) }
 {
-    match record.data() {
-        Some(rec) => push_measured(extents, &rec),
+    match rec.as_data() {
+        Some(source) => {
+            extents.push(data_extent(&source))?;
+            Ok(())
+        }
         None => Ok(()),
     }
 }

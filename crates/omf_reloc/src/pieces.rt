@@ -2,6 +2,7 @@
 
 ghost use Rattle.std.specs.Prelude.{◌≡◌, ◌∷◌, [], map, IfNone, IfSome, None, option_map};
 ghost use Rattle.omf_image.specs.Limits.{profile_limits};
+ghost use Rattle.omf_check.specs.Inner.Contents.{references_seen};
 ghost use Rattle.omf_check.specs.Inner.Kept.{no_threads};
 ghost use Rattle.omf_check.specs.Listed.{placed_from};
 ghost use Rattle.omf_check.specs.Module.{recs_of, records_in};
@@ -11,14 +12,13 @@ ghost use Rattle.omf_reloc.specs.Inner.Pieces.{subrecord_step, contents_steps, o
 ghost use Rattle.omf_reloc.specs.Inner.Widths.{fixupp_type, modend_type};
 ghost use Rattle.omf_reloc.specs.Plain.{End, Fixed};
 ghost use Rattle.omf_reloc.specs.Inner.Walking.{direct_plain, plain_by, threads_after};
-ghost use Rattle.omf_records.specs.Inner.Seen.{contents_seen, kind_seen, rec_seen};
 ghost use Rattle.omf_records.specs.Values.{ModEnd};
 ghost use Rattle.omf_reloc.specs.Reach.{all_reference_places};
 
 use crate::plain::{PlainFixup, PlainReference, direct_fixup, plain_reference};
-use omf_check::{Checked, Threads, Undecoded, UndecodedRecords};
+use omf_check::{Checked, References, Threads, Undecoded, UndecodedRecords};
 use omf_frame::{Place, Width};
-use omf_records::{At, DirectFixup, Items, Part, Rec, Reference, Subrecord};
+use omf_records::{At, DirectFixup, Items, Part, Reference, Subrecord};
 use std::marker::Model;
 
 /// A piece of a module. It refers to no thread.
@@ -153,22 +153,19 @@ fn open_step<'a>(
     None
 }
 
-/// The piece of a record that is decoded; one that is neither a FIXUPP nor a MODEND is kept as it was. A FIXUPP has none; its subrecords
-/// come next.
-fn decoded_step<'a>(
+/// The piece of a MODEND. A FIXUPP has none; its subrecords come next.
+fn references_step<'a>(
     threads: &Threads,
     at: Place,
-    rec: &Rec<'a>,
-    record: Undecoded<'a>,
+    references: &References<'a>,
 ) -> (Option<(Place, Piece<'a>)>, Option<OpenFixups<'a>>)
-    requires same { rec_seen rec.now ≡ «record» }
-    requires contents { ContentsAreSet threads.now (contents_seen rec.now) }
-    ensures step { step_seen result.0 ∷ open_steps threads.now result.1 ≡ contents_steps threads.now at (kind_seen rec.now) (contents_seen rec.now) }
-    ensures threads { threads_behind threads.now result.1 ≡ threads_after threads.now (contents_seen rec.now) }
+    requires { ContentsAreSet threads.now (references_seen references.now).contents }
+    ensures step { step_seen result.0 ∷ open_steps threads.now result.1 ≡ contents_steps threads.now at (references_seen references.now).kind (references_seen references.now).contents }
+    ensures threads { threads_behind threads.now result.1 ≡ threads_after threads.now (references_seen references.now).contents }
     ensures set { OpenIsSet threads.now result.1 }
 {
-    match rec {
-        Rec::Fixups { width, subrecords } => {
+    match references {
+        References::Fixups { width, subrecords } => {
             let fixups = OpenFixups {
                 place: at,
                 width: *width,
@@ -176,7 +173,7 @@ fn decoded_step<'a>(
             };
             (None, Some(fixups))
         }
-        Rec::ModEnd {
+        References::ModEnd {
             width,
             type_byte,
             start,
@@ -184,21 +181,6 @@ fn decoded_step<'a>(
             Some(end_piece(threads, at, *width, *type_byte, start)),
             None,
         ),
-        Rec::Header { .. }
-        | Rec::Comment { .. }
-        | Rec::Names(_)
-        | Rec::Segment { .. }
-        | Rec::Group { .. }
-        | Rec::Externs(_)
-        | Rec::Publics { .. }
-        | Rec::Communals(_)
-        | Rec::Plain { .. }
-        | Rec::Iterated { .. }
-        | Rec::LocalNames(_)
-        | Rec::LocalExterns { .. }
-        | Rec::LocalPublics { .. }
-        | Rec::LocalCommunals(_)
-        | Rec::Carried { .. } => (Some((at, Piece::Kept(record))), None),
     }
 }
 
@@ -257,11 +239,11 @@ impl<'a> Iterator for Pieces<'a> {
                     return step;
                 }
             } else {
-                let (place, record) = self.records.next()?;
-                let Some(rec) = record.references() else {
-                    return Some((place, Piece::Kept(record)));
+                let (place, rec) = self.records.next()?;
+                let Some(references) = rec.as_references() else {
+                    return Some((place, Piece::Kept(rec)));
                 };
-                let (end, fixups) = decoded_step(&self.threads, place, &rec, record);
+                let (end, fixups) = references_step(&self.threads, place, &references);
                 self.fixups = fixups;
                 if end.is_some() {
                     return end;

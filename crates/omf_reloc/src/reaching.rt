@@ -2,10 +2,10 @@
 
 ghost use Rattle.std.specs.Prelude.{◌≡◌, ◌≤◌, slice_get, None};
 ghost use Rattle.std.specs.Result.{result_err};
+ghost use Rattle.omf_check.specs.Inner.Contents.{data_seen};
 ghost use Rattle.omf_check.specs.Module.{recs_of};
 ghost use Rattle.omf_check.specs.Tables.{segments};
 ghost use Rattle.omf_placement.specs.Placement.{absolute_place};
-ghost use Rattle.omf_records.specs.Inner.Seen.{contents_seen};
 ghost use Rattle.omf_reloc.specs.Inner.Names.{extra, missing, given, lies_at};
 ghost use Rattle.omf_reloc.specs.Inner.PieceSeen.{piece_seen};
 ghost use Rattle.omf_reloc.specs.Reach.{entries, misplaced, misfits, far_faults, reach_fault};
@@ -14,9 +14,8 @@ ghost use Rattle.omf_reloc.specs.Inner.ReachSteps.{miscounts, misplaced_from, da
 use crate::fault::{Cause, Kind, ReachFault, too_far};
 use crate::offset::{outcome, start_outcome};
 use crate::pieces::{Piece, pieces_of};
-use omf_check::{Checked, Undecoded};
+use omf_check::{Checked, Data, Undecoded};
 use omf_placement::{Placed, Placement};
-use omf_records::Rec;
 
 /// The number of entries in a module's table of this kind.
 fn entries(module: &Checked, kind: Kind) -> u16
@@ -149,45 +148,30 @@ fn piece_cause(placement: &Placement, last: Option<(u16, u32)>, piece: &Piece<'_
     }
 }
 
-/// The segment and the offset of a data record; `None` for any other record.
-fn data_place(rec: &Rec<'_>) -> Option<(u16, u32)>
-    ensures { result ≡ data_place (contents_seen rec.now) None }
+/// The segment and the offset of a data record.
+fn data_place(source: &Data<'_>) -> Option<(u16, u32)>
+    ensures { result ≡ data_place (data_seen source.now).contents None }
 {
-    match rec {
-        Rec::Plain {
+    match source {
+        Data::Plain {
             segment,
             offset,
             ..
         } => Some((segment.item.0, offset.item)),
-        Rec::Iterated {
+        Data::Iterated {
             segment,
             offset,
             ..
         } => Some((segment.item.0, offset.item)),
-        Rec::Header { .. }
-        | Rec::Comment { .. }
-        | Rec::Names(_)
-        | Rec::Segment { .. }
-        | Rec::Group { .. }
-        | Rec::Externs(_)
-        | Rec::Publics { .. }
-        | Rec::Communals(_)
-        | Rec::Fixups { .. }
-        | Rec::ModEnd { .. }
-        | Rec::LocalNames(_)
-        | Rec::LocalExterns { .. }
-        | Rec::LocalPublics { .. }
-        | Rec::LocalCommunals(_)
-        | Rec::Carried { .. } => None,
     }
 }
 
 /// The segment and the offset of the last data record, up to and including this record. It is decoded only if it has data.
-fn place_after(record: &Undecoded<'_>, last: Option<(u16, u32)>) -> Option<(u16, u32)>
-    ensures { result ≡ data_place «record».now.contents last }
+fn place_after(rec: &Undecoded<'_>, last: Option<(u16, u32)>) -> Option<(u16, u32)>
+    ensures { result ≡ data_place rec.now.contents last }
 {
-    match record.data() {
-        Some(rec) => data_place(&rec).or(last),
+    match rec.as_data() {
+        Some(source) => data_place(&source).or(last),
         None => last,
     }
 }
@@ -197,7 +181,7 @@ fn data_after(piece: &Piece<'_>, last: Option<(u16, u32)>) -> Option<(u16, u32)>
     ensures { result ≡ place_behind (piece_seen piece.now) last }
 {
     match piece {
-        Piece::Kept(record) => place_after(record, last),
+        Piece::Kept(rec) => place_after(rec, last),
         Piece::Fixed { .. } | Piece::End { .. } => last,
     }
 }

@@ -2,7 +2,7 @@
 
 ghost use Rattle.std.specs.Result.{result_err};
 ghost use Rattle.std.specs.Prelude.{◌≡◌, ◌↔◌, ℕ, [], ◌∷◌, flat_map, IfSome, OnOk, IfOk, IfErr, None, Some, Option, slice_get, option_map, option_to_list};
-ghost use Rattle.omf_records.specs.Inner.Seen.{odd_if, kind_seen, contents_seen};
+ghost use Rattle.omf_records.specs.Inner.Seen.{odd_if};
 ghost use Rattle.omf_records.specs.Values.{width};
 ghost use Rattle.omf_image.specs.Inner.Expanding.{expanded};
 ghost use Rattle.omf_image.specs.Limits.{profile_limits};
@@ -10,6 +10,7 @@ ghost use Rattle.omf_image.specs.Inner.Joined.{runs_of};
 ghost use Rattle.omf_image.specs.Overlay.{AreLaidOver, IsRunAt, byte_at};
 ghost use Rattle.omf_image.specs.declared.run.Run.{Run};
 ghost use Rattle.omf_image.specs.Painting.{all_zeros};
+ghost use Rattle.omf_check.specs.Inner.Contents.{data_seen};
 ghost use Rattle.omf_check.specs.Module.{recs_of};
 ghost use Rattle.omf_check.specs.Sound.{ModuleHolds};
 ghost use Rattle.omf_reloc.specs.Image.{laid, image};
@@ -27,11 +28,11 @@ use crate::measuring::extents;
 use crate::offset::{outcome, start_outcome};
 use crate::pieces::{Piece, pieces_of};
 use crate::plain::PlainFixup;
-use omf_check::{Checked, Undecoded};
+use omf_check::{Checked, Data, Undecoded};
 use omf_frame::{Index, Width};
 use omf_image::{Image, Limits, expand, painted};
 use omf_placement::Placement;
-use omf_records::{At, Blocks, Rec};
+use omf_records::{At, Blocks};
 use std::alloc::{AllocError, Global};
 use std::marker::Model;
 
@@ -158,26 +159,25 @@ impl Walk {
         }
     }
 
-    /// Takes the next record. A data record becomes the last one; any other record changes nothing. The bytes of the previous data record
-    /// are freed first, so that two are never in memory together.
-    fn take_record(&mut self, alloc: Global, rec: &Rec<'_>) -> Result<(), AllocError>
+    /// Makes a data record the last one. The bytes of the previous one are freed first, so that two are never in memory together.
+    fn take_data(&mut self, alloc: Global, source: &Data<'_>) -> Result<(), AllocError>
         requires offsets { IfSome self.old.open_data HasOffsets }
-        requires expands { CanExpand (kind_seen rec.now) (contents_seen rec.now) }
-        ensures image { OnOk result (AreLaidOver self.old.image (closed_by (contents_seen rec.now) self.old.open_data) self.new.image) }
-        ensures open_data { OnOk result (self.new.open_data ≡ opened_by (kind_seen rec.now) (contents_seen rec.now) self.old.open_data) }
+        requires expands { CanExpand (data_seen source.now).kind (data_seen source.now).contents }
+        ensures image { OnOk result (AreLaidOver self.old.image (closed_by (data_seen source.now).contents self.old.open_data) self.new.image) }
+        ensures open_data { OnOk result (self.new.open_data ≡ opened_by (data_seen source.now).kind (data_seen source.now).contents self.old.open_data) }
     {
-        match rec {
-            Rec::Plain {
+        match source {
+            Data::Plain {
                 segment,
                 offset,
-                data,
+                bytes,
                 ..
             } => {
                 self.close()?;
-                self.open(Open::new(segment, offset, data.to_vec(alloc)?));
+                self.open(Open::new(segment, offset, bytes.to_vec(alloc)?));
                 Ok(())
             }
-            Rec::Iterated {
+            Data::Iterated {
                 segment,
                 offset,
                 blocks,
@@ -186,33 +186,18 @@ impl Walk {
                 self.open(Open::new(segment, offset, expanded(alloc, *blocks)?));
                 Ok(())
             }
-            Rec::Header { .. }
-            | Rec::Comment { .. }
-            | Rec::Names(_)
-            | Rec::Segment { .. }
-            | Rec::Group { .. }
-            | Rec::Externs(_)
-            | Rec::Publics { .. }
-            | Rec::Communals(_)
-            | Rec::Fixups { .. }
-            | Rec::ModEnd { .. }
-            | Rec::LocalNames(_)
-            | Rec::LocalExterns { .. }
-            | Rec::LocalPublics { .. }
-            | Rec::LocalCommunals(_)
-            | Rec::Carried { .. } => Ok(()),
         }
     }
 
-    /// The same for a record that is not decoded yet. It is decoded only if it has data.
-    fn take_undecoded(&mut self, alloc: Global, record: &Undecoded<'_>) -> Result<(), AllocError>
+    /// Takes the next record. A data record becomes the last one. Any other record changes nothing, and is not decoded.
+    fn take_record(&mut self, alloc: Global, rec: &Undecoded<'_>) -> Result<(), AllocError>
         requires offsets { IfSome self.old.open_data HasOffsets }
-        requires expands { CanExpand «record».now.kind «record».now.contents }
-        ensures image { OnOk result (AreLaidOver self.old.image (closed_by «record».now.contents self.old.open_data) self.new.image) }
-        ensures open_data { OnOk result (self.new.open_data ≡ opened_by «record».now.kind «record».now.contents self.old.open_data) }
+        requires expands { CanExpand rec.now.kind rec.now.contents }
+        ensures image { OnOk result (AreLaidOver self.old.image (closed_by rec.now.contents self.old.open_data) self.new.image) }
+        ensures open_data { OnOk result (self.new.open_data ≡ opened_by rec.now.kind rec.now.contents self.old.open_data) }
     {
-        match record.data() {
-            Some(rec) => self.take_record(alloc, &rec),
+        match rec.as_data() {
+            Some(source) => self.take_data(alloc, &source),
             None => Ok(()),
         }
     }
@@ -229,8 +214,8 @@ impl Walk {
         ensures cause { IfOk result (λ cause. cause ≡ piece_cause placement.now (open_place self.old.open_data) (piece_seen piece.now)) }
     {
         match piece {
-            Piece::Kept(record) => {
-                self.take_undecoded(alloc, record)?;
+            Piece::Kept(rec) => {
+                self.take_record(alloc, rec)?;
                 Ok(None)
             }
             Piece::Fixed { width, fixup } => Ok(self.fix(placement, *width, fixup)),

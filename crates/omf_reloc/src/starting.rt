@@ -1,7 +1,7 @@
 //! The start address of a module at a placement.
 
 ghost use Rattle.std.specs.Prelude.{◌≡◌};
-ghost use Rattle.omf_records.specs.Inner.Seen.{contents_seen};
+ghost use Rattle.omf_check.specs.Inner.Contents.{references_seen};
 ghost use Rattle.omf_check.specs.Inner.Judging.{frame_cell, target_cell};
 ghost use Rattle.omf_check.specs.Inner.Kept.{no_threads};
 ghost use Rattle.omf_check.specs.Module.{recs_of};
@@ -11,25 +11,25 @@ ghost use Rattle.omf_reloc.specs.Inner.Walking.{threads_after, threads_through};
 
 use crate::offset::start_outcome;
 use crate::plain::plain_reference;
-use omf_check::{Checked, Threads, Undecoded};
+use omf_check::{Checked, References, Threads, Undecoded};
 use omf_placement::Placement;
 use omf_records::{Rec, Reference};
 
-/// Sets the threads of a FIXUPP; other records set none.
-fn set_threads(threads: &mut Threads, rec: &Rec<'_>)
-    ensures { threads.new ≡ threads_after threads.old (contents_seen rec.now) }
+/// Sets the threads of a FIXUPP; a MODEND sets none.
+fn set_fixups(threads: &mut Threads, references: &References<'_>)
+    ensures { threads.new ≡ threads_after threads.old (references_seen references.now).contents }
 {
-    if let Rec::Fixups { subrecords, .. } = rec {
+    if let References::Fixups { subrecords, .. } = references {
         threads.set_all(subrecords.iter());
     }
 }
 
 /// The same for a record that is not decoded yet. It is decoded only if it is a FIXUPP or a MODEND.
-fn set_undecoded(threads: &mut Threads, record: &Undecoded<'_>)
-    ensures { threads.new ≡ threads_after threads.old «record».now.contents }
+fn set_threads(threads: &mut Threads, rec: &Undecoded<'_>)
+    ensures { threads.new ≡ threads_after threads.old rec.now.contents }
 {
-    if let Some(rec) = record.references() {
-        set_threads(threads, &rec);
+    if let Some(references) = rec.as_references() {
+        set_fixups(threads, &references);
     }
 }
 
@@ -39,7 +39,7 @@ fn threads_at_end(module: &Checked) -> Threads
 {
     let mut threads = Threads::new();
     for (_place, record) in module.undecoded() {
-        set_undecoded(&mut threads, &record);
+        set_threads(&mut threads, &record);
     }
     threads
 }

@@ -21,7 +21,7 @@ loop-place-init c =
 pub loop-place-preserved : goal.loop-place-preserved
 loop-place-preserved c =
     let m = recs (records_in c.args.module.now.bytes) in
-    ap (λ t. threads_through t (without_places c.next.new.self)) c.set_undecoded.ensures
+    ap (λ t. threads_through t (without_places c.next.new.self)) c.set_threads.ensures
     ∙ subst (λ xs. threads_through c.loop-place.threads (without_places xs) ≡ threads_through no_threads m) c.in-Some.ensures.steps c.loop-place.invariant
 
 pub returns : goal.returns

@@ -1,17 +1,11 @@
-use Rattle.std.proofs.Common.{◌≡◌, ◌∙◌, ap, sym, subst, List, ℕ, Some}
-use Rattle.omf_image.specs.Overlay.{Laid}
-use Rattle.omf_records.specs.Inner.Seen.{kind_seen, contents_seen}
-use Rattle.omf_reloc.specs.Inner.Walking.{Walk, CanExpand, opened_by}
+use Rattle.std.proofs.Common.{◌≡◌, subst}
+use Rattle.std.specs.Prelude.{OnOk}
+use Rattle.omf_records.specs.Values.{Rec}
+use Rattle.omf_reloc.specs.Inner.Walking.{Walk, opened_by}
 use Rattle.omf_reloc.proofs.relocating.Walk.take_record.Goals as goal
 
-pub expanded-requires : goal.expanded-requires
-expanded-requires c = subst (λ r. CanExpand (kind_seen r) (contents_seen r)) c.in-Iterated.is c.requires.expands
-
-pub returns-in_ok-expanded-in-Iterated-clause-open_data : goal.returns-in_ok-expanded-in-Iterated-clause-open_data
-returns-in_ok-expanded-in-Iterated-clause-open_data c =
-    let i = c.in-Iterated in
-    let w : Walk = c.args.self.now in
-    let new : Walk = c.open-in-Iterated.new.self in
-    let begun = λ (bytes : List ℕ). let l : Laid = record { segment = i.segment.item; offset = i.offset.item; bytes = bytes } in l in
-    subst (λ r. new.open_data ≡ opened_by (kind_seen r) (contents_seen r) w.open_data) (sym i.is)
-    (c.open-in-Iterated.ensures.open_data ∙ ap Some (c.new-in-Iterated.ensures ∙ ap begun c.in_ok-expanded-in-Iterated.ensures))
+pub returns-in-Some-clause-open_data : goal.returns-in-Some-clause-open_data
+returns-in-Some-clause-open_data c =
+    let old : Walk = c.args.self.now in
+    let new : Walk = c.take_data.new.self in
+    subst (λ (r : Rec). OnOk c.take_data.result (new.open_data ≡ opened_by r.kind r.contents old.open_data)) c.in-Some.ensures.some c.take_data.ensures.open_data
