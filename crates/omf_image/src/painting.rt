@@ -82,7 +82,8 @@ pub fn painted(alloc: Global, mut extents: Vec<Extent>) -> Result<Image, AllocEr
     requires { All Fits extents.items }
     ensures { IfOk result (λ i. AreLaidOver [] (all_zeros extents.items) i) }
 {
-    extents.sort_unstable_by_key(|extent| (extent.segment, extent.first));
+    // This sort merges the runs that it finds, which intervals in file order mostly have.
+    extents.sort_by_key(|extent| (extent.segment, extent.first))?;
     let mut image = Image::new(alloc);
     let mut last: Option<Extent> = None;
     for next in extents {

@@ -46,5 +46,5 @@ returns c =
     let none = c.in-None.ensures.steps in
     let empty : into_iter_items at.next-iterator ≡ [] = nothing_left _ (sym at.invariant.size ∙ none.0) in
     let all = sym (append-nil at.yielded) ∙ rw empty at at.invariant.all ∙ c.into_iter-next-iterator.ensures.into_iter_gives.0 in
-    all_painted c.args.extents.items c.sort_unstable_by_key.new.self.items at.image c.paint-2.new.image at.last c.sort_unstable_by_key.ensures.permutation
+    all_painted c.args.extents.items c.sort_by_key.new.self.items at.image c.paint-2.new.image at.last c.sort_by_key.ensures.permutation
     (subst (λ l. AreLaidOver [] (all_zeros l) (at.image ++ all_zeros (option_to_list at.last))) all at.invariant.laid) c.in_ok-paint.ensures
