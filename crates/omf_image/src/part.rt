@@ -1,8 +1,8 @@
 //! Addition of numbers to the locations of fixups.
 
 ghost use Rattle.std.specs.Prelude.{◌≡◌, ◌≤◌, ◌+◌, ◌++◌, length, drop};
-ghost use Rattle.omf_image.specs.Inner.Names.{sum_bytes};
-ghost use Rattle.omf_image.specs.Parts.{part_size, add_part};
+ghost use Rattle.omf_image.specs.Inner.Names.{part_size, sum_bytes};
+ghost use Rattle.omf_image.specs.Parts.{add_part};
 
 use byteorder::{ByteOrder, LittleEndian};
 
@@ -48,7 +48,7 @@ fn add_dword(place: &mut [u8], value: u32)
 /// changes. The number must be within `buf`.
 pub fn add_part(buf: &mut [u8], pos: usize, part: Part, value: u32)
     requires { pos + part_size part ≤ length buf.old }
-    ensures { buf.new ≡ add_part buf.old pos part value }
+    ensures { buf.new ≡ add_part buf.old pos (part_size part) value }
 {
     match part {
         Part::Byte => add_byte(&mut buf[pos..], value),

@@ -6,8 +6,7 @@ use Rattle.std.proofs.lemmas.List.Elements.{All-head, All-tail}
 use Rattle.omf_records.specs.Inner.Names.{location_size, offset_bits, self_relative_bits, width_bits}
 use Rattle.omf_records.specs.Values.{DataItem, location_type, location_offset, is_segment_relative}
 use Rattle.omf_frame.specs.Bytes.{difference}
-use Rattle.omf_image.specs.Parts.{Addition, add_part, add_parts, part_size}
-use Rattle.omf_image.specs.declared.part.Part.TheVariants as part
+use Rattle.omf_image.specs.Parts.{Addition, add_part, add_parts}
 use Rattle.omf_records.specs.Location.{location}
 use Rattle.omf_records.specs.declared.location.LocationType.{LocationType}
 use Rattle.omf_records.specs.declared.location.LocationType.TheVariants.{LowByte, Offset16, Base, Pointer16, HighByte, LoaderOffset16, Offset32, Pointer32, LoaderOffset32}
@@ -33,7 +32,7 @@ use Rattle.omf_output.proofs.WordLaws.{add-apart, add-twice, length-add}
 -- The word of one fixup, where it has one.
 abbrev word_moved : ℕ → Option ℕ → List ℕ → List ℕ
 word_moved k None bytes = bytes
-word_moved k (Some at) bytes = add_part bytes at part.Word k
+word_moved k (Some at) bytes = add_part bytes at 2 k
 
 one-word : (k : ℕ) (o : Option ℕ) (words bytes : List ℕ) → words_moved k (cons_option o words) bytes ≡ words_moved k words (word_moved k o bytes)
 one-word k None words bytes = refl
@@ -46,15 +45,15 @@ module _ (k o s pos : ℕ) (bytes : List ℕ) where
   Adds t = pos + (location t).size ≤ length bytes
       → add_parts pos (more k (selector_at t) (additions_at t o s)) bytes ≡ word_moved k (option_map (λ at. pos + at) (selector_at t)) (add_parts pos (additions_at t o s) bytes)
 
-  as-pointer : pos + 6 ≤ length bytes → add_part (add_part bytes (pos + 0) part.Dword o) (pos + 4) part.Word (s + k)
-      ≡ add_part (add_part (add_part bytes (pos + 0) part.Dword o) (pos + 4) part.Word s) (pos + 4) part.Word k
-  as-pointer h = let kept = length-add bytes (pos + 0) part.Dword o (omega (arith, h)) in add-twice (add_part bytes (pos + 0) part.Dword o) (pos + 4) s k (omega (arith, h, kept))
+  as-pointer : pos + 6 ≤ length bytes → add_part (add_part bytes (pos + 0) 4 o) (pos + 4) 2 (s + k)
+      ≡ add_part (add_part (add_part bytes (pos + 0) 4 o) (pos + 4) 2 s) (pos + 4) 2 k
+  as-pointer h = let kept = length-add bytes (pos + 0) 4 o (omega (arith, h)) in add-twice (add_part bytes (pos + 0) 4 o) (pos + 4) s k (omega (arith, h, kept))
 
-  as-far : pos + 4 ≤ length bytes → add_part (add_part bytes (pos + 0) part.Word o) (pos + 2) part.Word (s + k)
-      ≡ add_part (add_part (add_part bytes (pos + 0) part.Word o) (pos + 2) part.Word s) (pos + 2) part.Word k
-  as-far h = let kept = length-add bytes (pos + 0) part.Word o (omega (arith, h)) in add-twice (add_part bytes (pos + 0) part.Word o) (pos + 2) s k (omega (arith, h, kept))
+  as-far : pos + 4 ≤ length bytes → add_part (add_part bytes (pos + 0) 2 o) (pos + 2) 2 (s + k)
+      ≡ add_part (add_part (add_part bytes (pos + 0) 2 o) (pos + 2) 2 s) (pos + 2) 2 k
+  as-far h = let kept = length-add bytes (pos + 0) 2 o (omega (arith, h)) in add-twice (add_part bytes (pos + 0) 2 o) (pos + 2) s k (omega (arith, h, kept))
 
-  as-base : pos + 2 ≤ length bytes → add_part bytes (pos + 0) part.Word (s + k) ≡ add_part (add_part bytes (pos + 0) part.Word s) (pos + 0) part.Word k
+  as-base : pos + 2 ≤ length bytes → add_part bytes (pos + 0) 2 (s + k) ≡ add_part (add_part bytes (pos + 0) 2 s) (pos + 0) 2 k
   as-base h = add-twice bytes (pos + 0) s k (omega (arith, h))
 
   each-adds : (t : LocationType) → Adds t
@@ -105,25 +104,25 @@ shows-named k pos offset bytes here f moving (Some x) inside ok =
 
 -- ---- the fixups of a record
 
-length-parts : (pos size : ℕ) (parts : List Addition) (bytes : List ℕ) → length bytes ≡ size → All (λ a. pos + a.offset + part_size a.part ≤ size) parts
+length-parts : (pos size : ℕ) (parts : List Addition) (bytes : List ℕ) → length bytes ≡ size → All (λ a. pos + a.offset + a.size ≤ size) parts
     → length (add_parts pos parts bytes) ≡ size
 length-parts pos size [] bytes e all = e
 length-parts pos size (a ∷ parts) bytes e all =
-    let here : pos + a.offset + part_size a.part ≤ size = All-head (λ a. pos + a.offset + part_size a.part ≤ size) a parts all in
-    length-parts pos size parts (add_part bytes (pos + a.offset) a.part a.value) (length-add bytes (pos + a.offset) a.part a.value (omega (arith, here, e)) ∙ e)
-    (All-tail (λ a. pos + a.offset + part_size a.part ≤ size) a parts all)
+    let here : pos + a.offset + a.size ≤ size = All-head (λ a. pos + a.offset + a.size ≤ size) a parts all in
+    length-parts pos size parts (add_part bytes (pos + a.offset) a.size a.value) (length-add bytes (pos + a.offset) a.size a.value (omega (arith, here, e)) ∙ e)
+    (All-tail (λ a. pos + a.offset + a.size ≤ size) a parts all)
 
 parts-apart : (k at pos end : ℕ) (parts : List Addition) (bytes : List ℕ) → at + 2 ≤ length bytes → end ≤ length bytes → (at + 2 ≤ pos) ⊎ (end ≤ at)
-    → All (λ a. pos + a.offset + part_size a.part ≤ end) parts
-    → add_parts pos parts (add_part bytes at part.Word k) ≡ add_part (add_parts pos parts bytes) at part.Word k
+    → All (λ a. pos + a.offset + a.size ≤ end) parts
+    → add_parts pos parts (add_part bytes at 2 k) ≡ add_part (add_parts pos parts bytes) at 2 k
 parts-apart k at pos end [] bytes h g away all = refl
 parts-apart k at pos end (a ∷ parts) bytes h g away all =
-    let here : pos + a.offset + part_size a.part ≤ end = All-head (λ a. pos + a.offset + part_size a.part ≤ end) a parts all in
-    let kept = length-add bytes (pos + a.offset) a.part a.value (omega (arith, here, g)) in
-    let apart : (at + 2 ≤ pos + a.offset) ⊎ (pos + a.offset + part_size a.part ≤ at) = ⊎_elim (λ l. inl (omega (arith, l))) (λ l. inr (omega (arith, l, here))) away in
-    ap (λ bs. add_parts pos parts bs) (add-apart bytes at (pos + a.offset) part.Word a.part k a.value h (omega (arith, here, g)) apart)
-    ∙ parts-apart k at pos end parts (add_part bytes (pos + a.offset) a.part a.value) (omega (arith, h, kept)) (omega (arith, g, kept)) away
-    (All-tail (λ a. pos + a.offset + part_size a.part ≤ end) a parts all)
+    let here : pos + a.offset + a.size ≤ end = All-head (λ a. pos + a.offset + a.size ≤ end) a parts all in
+    let kept = length-add bytes (pos + a.offset) a.size a.value (omega (arith, here, g)) in
+    let apart : (at + 2 ≤ pos + a.offset) ⊎ (pos + a.offset + a.size ≤ at) = ⊎_elim (λ l. inl (omega (arith, l))) (λ l. inr (omega (arith, l, here))) away in
+    ap (λ bs. add_parts pos parts bs) (add-apart bytes at (pos + a.offset) 2 a.size k a.value h (omega (arith, here, g)) apart)
+    ∙ parts-apart k at pos end parts (add_part bytes (pos + a.offset) a.size a.value) (omega (arith, h, kept)) (omega (arith, g, kept)) away
+    (All-tail (λ a. pos + a.offset + a.size ≤ end) a parts all)
 
 module _ (pl : Places) (d : DataItem) where
   abbrev from : List ℕ → List (ℕ × PlainFixup) → List ℕ
@@ -140,10 +139,10 @@ module _ (pl : Places) (d : DataItem) where
       by (Err c) e = refl
 
   one-apart : (k at : ℕ) (f : ℕ × PlainFixup) (bytes : List ℕ) → at + 2 ≤ length bytes → location_end f ≤ length bytes → (at + 2 ≤ location_start f) ⊎ (location_end f ≤ at)
-      → one f (add_part bytes at part.Word k) ≡ add_part (one f bytes) at part.Word k
+      → one f (add_part bytes at 2 k) ≡ add_part (one f bytes) at 2 k
   one-apart k at f bytes h g away = by (outcome pl d f) refl
     where
-      by : (r : Result (List Addition) Cause) → outcome pl d f ≡ r → added (location_start f) r (add_part bytes at part.Word k) ≡ add_part (added (location_start f) r bytes) at part.Word k
+      by : (r : Result (List Addition) Cause) → outcome pl d f ≡ r → added (location_start f) r (add_part bytes at 2 k) ≡ add_part (added (location_start f) r bytes) at 2 k
       by (Ok parts) e = parts-apart k at (location_start f) (location_end f) parts bytes h g away (parts_inside pl d.segment.item d.offset.item f parts (location_end f) e (omega arith))
       by (Err c) e = refl
 
@@ -151,7 +150,7 @@ module _ (pl : Places) (d : DataItem) where
   Away at f = (at + 2 ≤ location_start f) ⊎ (location_end f ≤ at)
 
   all-apart : (k at : ℕ) (fixups : List (ℕ × PlainFixup)) (bytes : List ℕ) → at + 2 ≤ length bytes → AreInside (length bytes) fixups → All (Away at) fixups
-      → from (add_part bytes at part.Word k) fixups ≡ add_part (from bytes fixups) at part.Word k
+      → from (add_part bytes at 2 k) fixups ≡ add_part (from bytes fixups) at 2 k
   all-apart k at [] bytes h inside away = refl
   all-apart k at (f ∷ fs) bytes h inside away =
       let here : location_end f ≤ length bytes = All-head (λ g. location_end g ≤ length bytes) f fs inside in
@@ -204,7 +203,7 @@ module _ (k : ℕ) (mv : Movers) (pl : Places) (h : AreMoversOf mv pl) (d : Data
     where
       by : (o : Option ℕ) → site mv segment f ≡ o → length (word_moved k o bytes) ≡ length bytes
       by None e = refl
-      by (Some at) e = let low = site-inside f at e in length-add bytes at part.Word k (omega (arith, low, here))
+      by (Some at) e = let low = site-inside f at e in length-add bytes at 2 k (omega (arith, low, here))
 
   abbrev Together : ℕ × PlainFixup → Type 0
   Together f = moves_together mv segment f ≡ true

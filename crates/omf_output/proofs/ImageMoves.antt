@@ -4,7 +4,6 @@ use Rattle.std.specs.Prelude.{All, fold, replicate}
 use Rattle.std.proofs.lemmas.List.{append_assoc, take_at, drop_at, drop-drop, length-take-le}
 use Rattle.std.proofs.lemmas.List.Elements.{All-head, All-tail, All-map, All-weaker}
 use Rattle.omf_image.specs.Inner.Names.{sum_bytes}
-use Rattle.omf_image.specs.declared.part.Part.TheVariants as part
 use Rattle.omf_image.specs.Parts.{add_part}
 use Rattle.omf_output.specs.Exe.Relocations.{words_moved}
 use Rattle.omf_output.specs.Exe.Memory.{Chunk, AreUncovered, LiesIn, chunk_words, flat_words, moved_chunk, put}
@@ -27,7 +26,7 @@ putting base c = record { at = at; long = λ x e. refl }
 
 module _ (k : ℕ) where
   abbrev add : ℕ → List ℕ → List ℕ
-  add w bytes = add_part bytes w part.Word k
+  add w bytes = add_part bytes w 2 k
 
   abbrev Inside : List ℕ → ℕ → Type 0
   Inside bytes w = w + 2 ≤ length bytes
@@ -38,7 +37,7 @@ module _ (k : ℕ) where
   pub length-words : (ws bytes : List ℕ) → All (Inside bytes) ws → length (words_moved k ws bytes) ≡ length bytes
   length-words [] bytes all = refl
   length-words (w ∷ ws) bytes all =
-      let kept = length-add bytes w part.Word k (All-head (Inside bytes) w ws all) in
+      let kept = length-add bytes w 2 k (All-head (Inside bytes) w ws all) in
       length-words ws (add w bytes) (keep bytes (add w bytes) kept ws (All-tail (Inside bytes) w ws all)) ∙ kept
 
   words-append : (xs ys bytes : List ℕ) → words_moved k (xs ++ ys) bytes ≡ words_moved k ys (words_moved k xs bytes)
@@ -59,15 +58,15 @@ module _ (k : ℕ) where
       let laf : length (a ++ f) ≡ at + w = omega (arith, e, lf, length-append a f) in
       ap (λ l. add (at + w) (a ++ (l ++ c))) (split x w 2)
       ∙ ap (add (at + w)) (sym (between a f m b c))
-      ∙ (adding (at + w) part.Word k).at (a ++ f) m (b ++ c) laf lm
+      ∙ (adding (at + w) 2 k).at (a ++ f) m (b ++ c) laf lm
       ∙ between a f (sum_bytes 2 m k) b c
-      ∙ sym (ap (λ l. a ++ (l ++ c)) (ap (add w) (split x w 2) ∙ (adding w part.Word k).at f m b lf lm))
+      ∙ sym (ap (λ l. a ++ (l ++ c)) (ap (add w) (split x w 2) ∙ (adding w 2 k).at f m b lf lm))
 
   words-between : (ws a x c : List ℕ) (at : ℕ) → length a ≡ at → All (Inside x) ws → words_moved k (map (λ w. at + w) ws) (a ++ (x ++ c)) ≡ a ++ (words_moved k ws x ++ c)
   words-between [] a x c at e all = refl
   words-between (w ∷ ws) a x c at e all =
       let here = All-head (Inside x) w ws all in
-      let kept = length-add x w part.Word k here in
+      let kept = length-add x w 2 k here in
       ap (words_moved k (map (λ w. at + w) ws)) (word-between a x c at w e here)
       ∙ words-between ws a (add w x) c at e (keep x (add w x) kept ws (All-tail (Inside x) w ws all))
 
@@ -119,7 +118,7 @@ module _ (k : ℕ) where
         let apart : (at + 2 ≤ c.address - base) ⊎ (c.address - base + length c.bytes ≤ at) =
         ⊎_elim (λ l. inl (omega (arith, l, low, above))) (λ l. inr (omega (arith, l, low, above))) (All-head (Away (a + w)) c cs away) in
         ap (λ l. puts l cs) (changes-apart (add at) (λ x. sum_bytes 2 x k) (λ l. put base l c) (λ x. c.bytes) at 2 (c.address - base) (length c.bytes)
-        (adding at part.Word k) (putting base c) bytes (omega (arith, low, high, e)) (omega (arith, above, below, e)) apart)
+        (adding at 2 k) (putting base c) bytes (omega (arith, low, high, e)) (omega (arith, above, below, e)) apart)
         ∙ puts-away a w cs (put base bytes c) (length-put c bytes e h) low high (All-tail (LiesIn base n) c cs all) (All-tail (Away (a + w)) c cs away)
 
     all-away : (a : ℕ) (ws : List ℕ) (cs : List Chunk) (bytes : List ℕ) → length bytes ≡ n → base ≤ a → All (λ w. a + w + 2 ≤ base + n) ws → All (LiesIn base n) cs → All (λ w. All (Away (a + w)) cs) ws
@@ -128,7 +127,7 @@ module _ (k : ℕ) where
     all-away a (w ∷ ws) cs bytes e low high all away =
         let here : a + w + 2 ≤ base + n = All-head (λ w. a + w + 2 ≤ base + n) w ws high in
         let at = a - base + w in
-        let kept : length (add at bytes) ≡ n = length-add bytes at part.Word k (omega (arith, here, low, e)) ∙ e in
+        let kept : length (add at bytes) ≡ n = length-add bytes at 2 k (omega (arith, here, low, e)) ∙ e in
         all-away a ws cs (add at bytes) kept low (All-tail (λ w. a + w + 2 ≤ base + n) w ws high) all (All-tail (λ w. All (Away (a + w)) cs) w ws away)
         ∙ ap (words_moved k (map (λ w. a - base + w) ws)) (puts-away a w cs bytes e low here all (All-head (λ w. All (Away (a + w)) cs) w ws away))
 

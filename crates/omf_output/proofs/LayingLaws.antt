@@ -6,8 +6,7 @@ use Rattle.std.proofs.lemmas.List.Elements.{All-nil, All-cons, All-head, All-tai
 use Rattle.omf_frame.specs.Bytes.{with_after}
 use Rattle.omf_records.specs.Values.{Contents, DataItem, Plain, Iterated, Rec, location_offset}
 use Rattle.omf_image.specs.Inner.Names.{sum_bytes}
-use Rattle.omf_image.specs.Parts.{Addition, add_part, add_parts, part_size}
-use Rattle.omf_image.specs.declared.part.Part.{Part}
+use Rattle.omf_image.specs.Parts.{Addition, add_part, add_parts}
 use Rattle.omf_placement.specs.Placement.{Places}
 use Rattle.omf_reloc.specs.Inner.Names.{location_start}
 use Rattle.omf_reloc.specs.declared.fault.Cause.{Cause}
@@ -30,34 +29,33 @@ use Rattle.omf_output.proofs.WordLaws.{adding, length-add}
 between : (a f p b c : List ℕ) → (a ++ f) ++ (p ++ (b ++ c)) ≡ a ++ ((f ++ (p ++ b)) ++ c)
 between a f p b c = append_assoc a f (p ++ (b ++ c)) ∙ ap (λ l. a ++ l) (sym (append_assoc f (p ++ b) c ∙ ap (λ l. f ++ l) (append_assoc p b c)))
 
-part-between : (a x c : List ℕ) (at w : ℕ) (p : Part) (v : ℕ) → length a ≡ at → w + part_size p ≤ length x → add_part (a ++ (x ++ c)) (at + w) p v ≡ a ++ (add_part x w p v ++ c)
-part-between a x c at w p v e h =
-    let n = part_size p in
+part-between : (a x c : List ℕ) (at w n v : ℕ) → length a ≡ at → w + n ≤ length x → add_part (a ++ (x ++ c)) (at + w) n v ≡ a ++ (add_part x w n v ++ c)
+part-between a x c at w n v e h =
     let f = front_of x w in
     let m = number_of x w n in
     let b = back_of x w n in
     let lf = length-front x w n h in
     let lm = length-number x w n h in
     let laf : length (a ++ f) ≡ at + w = omega (arith, e, lf, length-append a f) in
-    ap (λ l. add_part (a ++ (l ++ c)) (at + w) p v) (split x w n)
-    ∙ ap (λ l. add_part l (at + w) p v) (sym (between a f m b c))
-    ∙ (adding (at + w) p v).at (a ++ f) m (b ++ c) laf lm
+    ap (λ l. add_part (a ++ (l ++ c)) (at + w) n v) (split x w n)
+    ∙ ap (λ l. add_part l (at + w) n v) (sym (between a f m b c))
+    ∙ (adding (at + w) n v).at (a ++ f) m (b ++ c) laf lm
     ∙ between a f (sum_bytes n m v) b c
-    ∙ sym (ap (λ l. a ++ (l ++ c)) (ap (λ l. add_part l w p v) (split x w n) ∙ (adding w p v).at f m b lf lm))
+    ∙ sym (ap (λ l. a ++ (l ++ c)) (ap (λ l. add_part l w n v) (split x w n) ∙ (adding w n v).at f m b lf lm))
 
 abbrev Lies : ℕ → ℕ → Addition → Type 0
-Lies pos n s = pos + s.offset + part_size s.part ≤ n
+Lies pos n s = pos + s.offset + s.size ≤ n
 
 parts-between : (a c : List ℕ) (at pos n : ℕ) (parts : List Addition) (x : List ℕ) → length a ≡ at → length x ≡ n → All (Lies pos n) parts
     → add_parts (at + pos) parts (a ++ (x ++ c)) ≡ a ++ (add_parts pos parts x ++ c)
 parts-between a c at pos n [] x e f h = refl
 parts-between a c at pos n (s ∷ ss) x e f h =
-    let here : pos + s.offset + part_size s.part ≤ n = All-head (Lies pos n) s ss h in
-    let inside : pos + s.offset + part_size s.part ≤ length x = omega (arith, here, f) in
+    let here : pos + s.offset + s.size ≤ n = All-head (Lies pos n) s ss h in
+    let inside : pos + s.offset + s.size ≤ length x = omega (arith, here, f) in
     let same : at + pos + s.offset ≡ at + (pos + s.offset) = omega arith in
-    let kept : length (add_part x (pos + s.offset) s.part s.value) ≡ n = length-add x (pos + s.offset) s.part s.value inside ∙ f in
-    ap (add_parts (at + pos) ss) (ap (λ w. add_part (a ++ (x ++ c)) w s.part s.value) same ∙ part-between a x c at (pos + s.offset) s.part s.value e inside)
-    ∙ parts-between a c at pos n ss (add_part x (pos + s.offset) s.part s.value) e kept (All-tail (Lies pos n) s ss h)
+    let kept : length (add_part x (pos + s.offset) s.size s.value) ≡ n = length-add x (pos + s.offset) s.size s.value inside ∙ f in
+    ap (add_parts (at + pos) ss) (ap (λ w. add_part (a ++ (x ++ c)) w s.size s.value) same ∙ part-between a x c at (pos + s.offset) s.size s.value e inside)
+    ∙ parts-between a c at pos n ss (add_part x (pos + s.offset) s.size s.value) e kept (All-tail (Lies pos n) s ss h)
 
 added-between : (a c : List ℕ) (at pos n : ℕ) (r : Result (List Addition) Cause) (x : List ℕ) → length a ≡ at → length x ≡ n → ((parts : List Addition) → r ≡ Ok parts → All (Lies pos n) parts)
     → added (at + pos) r (a ++ (x ++ c)) ≡ a ++ (added pos r x ++ c)

@@ -7,7 +7,6 @@ use Rattle.std.proofs.Math.ListN.{get_or-append}
 use Rattle.byteorder.specs.Endian.{little_number}
 use Rattle.byteorder.specs.Numbers.{little_from-append, little_number-reads_back}
 use Rattle.omf_image.specs.Inner.Names.{sum_bytes}
-use Rattle.omf_image.specs.declared.part.Part.TheVariants as part
 use Rattle.omf_image.specs.Parts.{add_part}
 use Rattle.omf_output.specs.Exe.Loading.{word}
 use Rattle.omf_output.specs.Exe.Relocations.{words_moved}
@@ -39,10 +38,10 @@ elsewhere R r pos n i bytes x h away =
 
 module _ (k : ℕ) where
   abbrev add : ℕ → List ℕ → List ℕ
-  add w bytes = add_part bytes w part.Word k
+  add w bytes = add_part bytes w 2 k
 
   byte-kept : (w x : ℕ) (bytes : List ℕ) → w + 2 ≤ length bytes → (x < w) ⊎ (w + 2 ≤ x) → slice_index (add w bytes) x ≡ slice_index bytes x
-  byte-kept w x bytes h away = elsewhere (add w) (λ m. sum_bytes 2 m k) w 2 (adding w part.Word k) bytes x h away
+  byte-kept w x bytes h away = elsewhere (add w) (λ m. sum_bytes 2 m k) w 2 (adding w 2 k) bytes x h away
 
   -- A word by its two bytes.
   by-bytes : (old new : List ℕ) (v : ℕ) → slice_index new (v + 0) ≡ slice_index old (v + 0) → slice_index new (v + 1) ≡ slice_index old (v + 1) → word new v ≡ word old v
@@ -70,14 +69,14 @@ module _ (k : ℕ) where
       let old : word bytes w ≡ little_number 2 m =
       ap (λ l. word l w) (split bytes w 2) ∙ ap (little_number 2) (drop_at a (m ++ c) w la) ∙ little_from-append 2 m c (omega (arith, lm)) in
       let new : word (add w bytes) w ≡ y =
-      ap (λ l. word l w) (ap (add w) (split bytes w 2) ∙ (adding w part.Word k).at a m c la lm) ∙ ap (little_number 2) (drop_at a (sum_bytes 2 m k ++ c) w la) ∙ little_number-reads_back 2 y c low in
+      ap (λ l. word l w) (ap (add w) (split bytes w 2) ∙ (adding w 2 k).at a m c la lm) ∙ ap (little_number 2) (drop_at a (sum_bytes 2 m k ++ c) w la) ∙ little_number-reads_back 2 y c low in
       new ∙ ap (λ x. (x + k) % 65536) (sym old)
 
   abbrev Inside : List ℕ → ℕ → Type 0
   Inside bytes w = w + 2 ≤ length bytes
 
   keep : (bytes : List ℕ) (w : ℕ) (ws : List ℕ) → w + 2 ≤ length bytes → All (Inside bytes) ws → All (Inside (add w bytes)) ws
-  keep bytes w ws h all = let kept = length-add bytes w part.Word k h in All-weaker (Inside bytes) (Inside (add w bytes)) (λ v g. omega (arith, g, kept)) ws all
+  keep bytes w ws h all = let kept = length-add bytes w 2 k h in All-weaker (Inside bytes) (Inside (add w bytes)) (λ v g. omega (arith, g, kept)) ws all
 
   -- Words that no other overlaps.
   words-kept : (ws : List ℕ) (v : ℕ) (bytes : List ℕ) → All (Inside bytes) ws → All (Beside v) ws → word (words_moved k ws bytes) v ≡ word bytes v

@@ -8,8 +8,7 @@ use Rattle.std.proofs.lemmas.List.Elements.{All-nil, All-cons, All-head, All-tai
 use Rattle.std.proofs.Math.ListN.{get_or-append}
 use Rattle.byteorder.specs.Numbers.{length-bytes_low_first}
 use Rattle.omf_image.specs.Inner.Names.{sum_bytes}
-use Rattle.omf_image.specs.declared.part.Part.{Part}
-use Rattle.omf_image.specs.Parts.{Addition, part_size, add_part, add_parts}
+use Rattle.omf_image.specs.Parts.{Addition, add_part, add_parts}
 use Rattle.omf_records.specs.Inner.Names.{location_size}
 use Rattle.omf_records.specs.Values.{DataItem, location_type, location_offset, is_segment_relative}
 use Rattle.omf_reloc.specs.Inner.Names.{additions, AreElsewhere, location_start, map_ok, first_or, if_named}
@@ -33,14 +32,14 @@ length-three : (a b c : List ℕ) → length (a ++ b ++ c) ≡ length a + length
 length-three a b c = omega (arith, length-append (a ++ b) c, length-append a b)
 
 -- A part inside the data keeps the length.
-length-add_part : (bytes : List ℕ) (pos : ℕ) (p : Part) (v : ℕ) → pos + part_size p ≤ length bytes → length (add_part bytes pos p v) ≡ length bytes
-length-add_part bytes pos p v h = omega (
+length-add_part : (bytes : List ℕ) (pos n v : ℕ) → pos + n ≤ length bytes → length (add_part bytes pos n v) ≡ length bytes
+length-add_part bytes pos n v h = omega (
   arith,
   h,
-  length-three (take pos bytes) (sum_bytes (part_size p) (drop pos bytes) v) (drop (pos + part_size p) bytes),
+  length-three (take pos bytes) (sum_bytes n (drop pos bytes) v) (drop (pos + n) bytes),
   length-take pos bytes,
-  length-drop (pos + part_size p) bytes,
-  length-sum_bytes (part_size p) (drop pos bytes) v,
+  length-drop (pos + n) bytes,
+  length-sum_bytes n (drop pos bytes) v,
 )
 
 -- It changes no byte elsewhere.
@@ -50,46 +49,46 @@ index-left a b x h = get_or-append a b 0 x h
 index-right : (a b : List ℕ) (n x : ℕ) → length a ≡ n → n ≤ x → slice_index (a ++ b) x ≡ slice_index b (x - n)
 index-right a b n x e h = get_or-append_right a b n x 0 e h
 
-index-add_part : (bytes : List ℕ) (pos : ℕ) (p : Part) (v x : ℕ) → pos + part_size p ≤ length bytes → (x < pos) ⊎ (pos + part_size p ≤ x)
-    → slice_index (add_part bytes pos p v) x ≡ slice_index bytes x
-index-add_part bytes pos p v x h (inl l) =
+index-add_part : (bytes : List ℕ) (pos n v x : ℕ) → pos + n ≤ length bytes → (x < pos) ⊎ (pos + n ≤ x)
+    → slice_index (add_part bytes pos n v) x ≡ slice_index bytes x
+index-add_part bytes pos n v x h (inl l) =
     let front = take pos bytes in
-    let mid = sum_bytes (part_size p) (drop pos bytes) v in
-    let n : length front ≡ pos = omega (arith, length-take pos bytes, h) in
-    index-left (front ++ mid) (drop (pos + part_size p) bytes) x (omega (arith, n, l, length-append front mid))
-    ∙ index-left front mid x (omega (arith, n, l))
+    let mid = sum_bytes n (drop pos bytes) v in
+    let f : length front ≡ pos = omega (arith, length-take pos bytes, h) in
+    index-left (front ++ mid) (drop (pos + n) bytes) x (omega (arith, f, l, length-append front mid))
+    ∙ index-left front mid x (omega (arith, f, l))
     ∙ get_or-take pos bytes x 0 l
-index-add_part bytes pos p v x h (inr l) =
+index-add_part bytes pos n v x h (inr l) =
     let front = take pos bytes in
-    let mid = sum_bytes (part_size p) (drop pos bytes) v in
-    let n : length front ≡ pos = omega (arith, length-take pos bytes, h) in
-    let m : length (front ++ mid) ≡ pos + part_size p = omega (arith, n, length-append front mid, length-sum_bytes (part_size p) (drop pos bytes) v) in
-    index-right (front ++ mid) (drop (pos + part_size p) bytes) (pos + part_size p) x m l
-    ∙ get_or-drop (pos + part_size p) bytes (x - (pos + part_size p)) 0
+    let mid = sum_bytes n (drop pos bytes) v in
+    let f : length front ≡ pos = omega (arith, length-take pos bytes, h) in
+    let m : length (front ++ mid) ≡ pos + n = omega (arith, f, length-append front mid, length-sum_bytes n (drop pos bytes) v) in
+    index-right (front ++ mid) (drop (pos + n) bytes) (pos + n) x m l
+    ∙ get_or-drop (pos + n) bytes (x - (pos + n)) 0
     ∙ ap (slice_index bytes) (omega (arith, l))
 
 -- All the parts of a location stay inside its size.
 abbrev pub fits : ℕ → List Addition → Bool
-fits size parts = list_all (λ p. nat_le (p.offset + part_size p.part) size) parts
+fits size parts = list_all (λ p. nat_le (p.offset + p.size) size) parts
 
 length-add_parts : (size pos : ℕ) (parts : List Addition) (bytes : List ℕ) → fits size parts ≡ true → pos + size ≤ length bytes
     → length (add_parts pos parts bytes) ≡ length bytes
 length-add_parts size pos [] bytes f h = refl
 length-add_parts size pos (p ∷ ps) bytes f h =
-    let inside = leb-true (p.offset + part_size p.part) size (and_parts (nat_le (p.offset + part_size p.part) size) (fits size ps) f).0 in
-    let rest = (and_parts (nat_le (p.offset + part_size p.part) size) (fits size ps) f).1 in
-    let first = length-add_part bytes (pos + p.offset) p.part p.value (omega (arith, inside, h)) in
-    length-add_parts size pos ps (add_part bytes (pos + p.offset) p.part p.value) rest (omega (arith, first, h)) ∙ first
+    let inside = leb-true (p.offset + p.size) size (and_parts (nat_le (p.offset + p.size) size) (fits size ps) f).0 in
+    let rest = (and_parts (nat_le (p.offset + p.size) size) (fits size ps) f).1 in
+    let first = length-add_part bytes (pos + p.offset) p.size p.value (omega (arith, inside, h)) in
+    length-add_parts size pos ps (add_part bytes (pos + p.offset) p.size p.value) rest (omega (arith, first, h)) ∙ first
 
 index-add_parts : (size pos : ℕ) (parts : List Addition) (bytes : List ℕ) (x : ℕ) → fits size parts ≡ true → pos + size ≤ length bytes
     → (x < pos) ⊎ (pos + size ≤ x) → slice_index (add_parts pos parts bytes) x ≡ slice_index bytes x
 index-add_parts size pos [] bytes x f h away = refl
 index-add_parts size pos (p ∷ ps) bytes x f h away =
-    let inside = leb-true (p.offset + part_size p.part) size (and_parts (nat_le (p.offset + part_size p.part) size) (fits size ps) f).0 in
-    let rest = (and_parts (nat_le (p.offset + part_size p.part) size) (fits size ps) f).1 in
-    let first = length-add_part bytes (pos + p.offset) p.part p.value (omega (arith, inside, h)) in
-    index-add_parts size pos ps (add_part bytes (pos + p.offset) p.part p.value) x rest (omega (arith, first, h)) away
-    ∙ index-add_part bytes (pos + p.offset) p.part p.value x (omega (arith, inside, h)) (⊎_elim (λ l. inl (omega (arith, l))) (λ l. inr (omega (arith, l, inside))) away)
+    let inside = leb-true (p.offset + p.size) size (and_parts (nat_le (p.offset + p.size) size) (fits size ps) f).0 in
+    let rest = (and_parts (nat_le (p.offset + p.size) size) (fits size ps) f).1 in
+    let first = length-add_part bytes (pos + p.offset) p.size p.value (omega (arith, inside, h)) in
+    index-add_parts size pos ps (add_part bytes (pos + p.offset) p.size p.value) x rest (omega (arith, first, h)) away
+    ∙ index-add_part bytes (pos + p.offset) p.size p.value x (omega (arith, inside, h)) (⊎_elim (λ l. inl (omega (arith, l))) (λ l. inr (omega (arith, l, inside))) away)
 
 -- What a fixup adds stays inside the size of its location.
 fits-additions : (t o s : ℕ) → t < 16 → fits (location_size t) (additions t o s) ≡ true
@@ -137,17 +136,17 @@ fit-outcome pl d f = fit-outcome_at pl d.segment.item d.offset.item f
 
 -- Each part that a fixup adds to is inside the data if its location is.
 abbrev Inside : ℕ → ℕ → Addition → Type 0
-Inside pos size a = pos + a.offset + part_size a.part ≤ size
+Inside pos size a = pos + a.offset + a.size ≤ size
 
 all-inside : (t pos size : ℕ) (parts : List Addition) → fits t parts ≡ true → pos + t ≤ size → All (Inside pos size) parts
 all-inside t pos size [] f h = All-nil (Inside pos size)
 all-inside t pos size (p ∷ ps) f h =
-    let inside = leb-true (p.offset + part_size p.part) t (and_parts (nat_le (p.offset + part_size p.part) t) (fits t ps) f).0 in
-    let rest = (and_parts (nat_le (p.offset + part_size p.part) t) (fits t ps) f).1 in
+    let inside = leb-true (p.offset + p.size) t (and_parts (nat_le (p.offset + p.size) t) (fits t ps) f).0 in
+    let rest = (and_parts (nat_le (p.offset + p.size) t) (fits t ps) f).1 in
     All-cons (Inside pos size) p ps (omega (arith, inside, h)) (all-inside t pos size ps rest h)
 
 pub parts_inside : (pl : Places) (segment offset : ℕ) (f : ℕ × PlainFixup) (parts : List Addition) (size : ℕ) → outcome_at pl segment offset f ≡ Ok parts
-    → location_end f ≤ size → All (λ a. location_start f + a.offset + part_size a.part ≤ size) parts
+    → location_end f ≤ size → All (λ a. location_start f + a.offset + a.size ≤ size) parts
 parts_inside pl segment offset f parts size e h =
     let t = location_type f.1.locat in
     all-inside (location_size t) (location_start f) size parts (subst (Fit t) e (fit-outcome_at pl segment offset f)) h
@@ -192,6 +191,6 @@ stays_inside pl d fixups inside = record {
 
 -- So there is room for each part, at a location's place in the data.
 pub room-for : (pl : Places) (segment offset size : ℕ) (f : ℕ × PlainFixup) (parts : List Addition) (start n : ℕ) → Ok parts ≡ outcome_at pl segment offset f → location_end f ≤ size
-    → start ≡ location_start f → n ≡ size → All (λ a. start + a.offset + part_size a.part ≤ n) parts
+    → start ≡ location_start f → n ≡ size → All (λ a. start + a.offset + a.size ≤ n) parts
 room-for pl segment offset size f parts start n e h s t =
     subst (λ k. All (Inside start k) parts) (sym t) (subst (λ k. All (Inside k size) parts) (sym s) (parts_inside pl segment offset f parts size (sym e) h))

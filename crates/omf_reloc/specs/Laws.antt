@@ -5,7 +5,7 @@ use Rattle.omf_frame.specs.declared.fault.Place.{Place}
 use Rattle.omf_records.specs.Location.{row_of}
 use Rattle.omf_records.specs.Values.{DataItem, Rec, Plain, Subrecord, Reference, location_type, location_offset}
 use Rattle.omf_image.specs.Limits.{profile_limits}
-use Rattle.omf_image.specs.Parts.{Addition, part_size}
+use Rattle.omf_image.specs.Parts.{Addition}
 use Rattle.omf_check.specs.Rules.{length_of_segment}
 use Rattle.omf_check.specs.Tables.{segments, groups, externals, entry, is_defined}
 use Rattle.omf_check.specs.declared.segment.SegInfo.{SegInfo}
@@ -91,7 +91,7 @@ pub record LiesInSegment (m : List Rec) (segment offset size : ℕ) : Type 0 whe
 pub record PatchesLieIn (pl : Places) (m : List Rec) (d : DataItem) (fixups : List (ℕ × PlainFixup)) : Type 0 where
   pub data_inside : LiesInSegment m d.segment.item d.offset.item (length d.bytes)
   pub locations : AreInside (length d.bytes) fixups
-  pub parts : All (λ f. (parts : List Addition) → outcome pl d f ≡ Ok parts → All (λ a. location_offset f.1.locat + a.offset + part_size a.part ≤ length d.bytes) parts) fixups
+  pub parts : All (λ f. (parts : List Addition) → outcome pl d f ≡ Ok parts → All (λ a. location_offset f.1.locat + a.offset + a.size ≤ length d.bytes) parts) fixups
   pub stays : StaysInside pl d fixups
 
 -- Every byte that is laid is inside its segment, and every byte that a fixup changes is inside the data of its LEDATA.

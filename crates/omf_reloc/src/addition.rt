@@ -2,9 +2,10 @@
 
 ghost use Rattle.omf_records.specs.Inner.Names.{location_number};
 ghost use Rattle.std.specs.Prelude.{◌≡◌, ◌+◌, ◌≤◌, ◌<◌, ◌^◌, ◌∷◌, [], All, length};
-ghost use Rattle.omf_image.specs.Parts.{part_size, add_part, add_parts};
-ghost use Rattle.omf_reloc.specs.Inner.Names.{additions, distance_part, self_relative_value};
-ghost use Rattle.omf_reloc.specs.Additions.{addition, self_relative_additions};
+ghost use Rattle.omf_image.specs.Inner.Names.{part_size};
+ghost use Rattle.omf_image.specs.Parts.{add_part, add_parts};
+ghost use Rattle.omf_reloc.specs.Inner.Names.{addition, additions};
+ghost use Rattle.omf_reloc.specs.Additions.{distance, self_relative_additions};
 
 use omf_image::{Part, add_part};
 use omf_records::LocationType;
@@ -22,7 +23,7 @@ impl Addition {
     /// Adds the number to the bytes of the location at `position`.
     fn add_to(self, bytes: &mut [u8], position: usize)
         requires { position + self.offset + part_size self.part ≤ length bytes.old }
-        ensures { bytes.new ≡ add_part bytes.old (position + self.offset) self.part self.value }
+        ensures { bytes.new ≡ add_part bytes.old (position + self.offset) (part_size self.part) self.value }
     {
         let value = self.value % (1 << 32);
         add_part(bytes, position + self.offset, self.part, value as u32);
@@ -47,34 +48,18 @@ impl Model for Additions {
     ghost view = { λ a. all_added a.first a.second };
 }
 
-/// The part that a self-relative fixup adds to at a location of this type.
-fn distance_part(kind: LocationType) -> Part
-    ensures { result ≡ distance_part kind }
+/// The distance from the byte after a location to an offset in the same frame, modulo 2^32. `size` is the location's size in bytes.
+fn distance(size: u8, offset: u32, location: u32) -> u32
+    ensures { result ≡ distance size offset location }
 {
-    match kind {
-        LocationType::LowByte | LocationType::HighByte => Part::Byte,
-        LocationType::Offset16 | LocationType::LoaderOffset16 | LocationType::Base => Part::Word,
-        LocationType::Offset32
-        | LocationType::LoaderOffset32
-        | LocationType::Pointer16
-        | LocationType::Pointer32 => Part::Dword,
-    }
-}
-
-/// The distance from the byte after a location to an offset in the same frame, modulo 2^(8 * size). `size` is the location's size in bytes.
-fn self_relative_value(size: u8, offset: u32, location: u32) -> u64
-    requires { size ≤ 6 }
-    ensures { result ≡ self_relative_value size offset location }
-{
-    let modulus = 1u64 << (8 * u32::from(size));
-    let behind = u64::from(location) + u64::from(size);
-    (u64::from(offset) + modulus - behind % modulus) % modulus
+    let behind = (u64::from(location) + u64::from(size)) % (1 << 32);
+    ((u64::from(offset) + (1 << 32) - behind) % (1 << 32)) as u32
 }
 
 impl Additions {
     /// One number at the start of the location.
     fn one(part: Part, value: u64) -> Additions
-        ensures { result ≡ addition 0 part value ∷ [] }
+        ensures { result ≡ addition 0 (part_size part) value ∷ [] }
     {
         let offset = 0;
         Additions {
@@ -89,7 +74,7 @@ impl Additions {
 
     /// A pointer: an offset at the start of the location, followed by a selector.
     fn pointer(part: Part, value: u64, offset: usize, selector: u16) -> Additions
-        ensures { result ≡ addition 0 part value ∷ addition offset Part.Word selector ∷ [] }
+        ensures { result ≡ addition 0 (part_size part) value ∷ addition offset 2 selector ∷ [] }
     {
         Additions {
             first: Addition {
@@ -129,16 +114,12 @@ impl Additions {
     pub(crate) fn from_location(kind: LocationType, offset: u32, location: u32) -> Additions
         ensures { result ≡ self_relative_additions (location_number kind) offset location }
     {
-        let size = kind.size();
-        Additions::one(
-            distance_part(kind),
-            self_relative_value(size, offset, location),
-        )
+        Additions::in_frame(kind, distance(kind.size(), offset, location), 0)
     }
 
     /// Adds the numbers at a position, in order. Each wraps at the size of its part and carries nothing into the next one.
     pub fn add_to(&self, bytes: &mut [u8], position: usize)
-        requires { All (λ a. position + a.offset + part_size a.part ≤ length bytes.old) self.now }
+        requires { All (λ a. position + a.offset + a.size ≤ length bytes.old) self.now }
         ensures { bytes.new ≡ add_parts position self.now bytes.old }
     {
         self.first.add_to(bytes, position);

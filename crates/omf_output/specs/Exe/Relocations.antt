@@ -6,7 +6,6 @@ use Rattle.omf_records.specs.Values.{location_type, location_offset, is_segment_
 use Rattle.omf_records.specs.declared.location.LocationType.{LocationType}
 use Rattle.omf_records.specs.declared.location.LocationType.TheVariants.{LowByte, Offset16, Base, Pointer16, HighByte, LoaderOffset16, Offset32, Pointer32, LoaderOffset32}
 use Rattle.omf_image.specs.Parts.{Addition, add_part}
-use Rattle.omf_image.specs.declared.part.Part.TheVariants as part
 use Rattle.omf_reloc.specs.Additions.{type_of_number}
 use Rattle.omf_reloc.specs.Plain.{PlainFixup}
 use Rattle.omf_reloc.specs.Laws.{location_end}
@@ -43,7 +42,7 @@ selector_moving mv segment f =
 
 -- The additions, with k more at the selector.
 abbrev pub more_at : ℕ → ℕ → Addition → Addition
-more_at k at a = if a.offset == at then record { offset = a.offset; part = a.part; value = a.value + k } else a
+more_at k at a = if a.offset == at then record { offset = a.offset; size = a.size; value = a.value + k } else a
 
 abbrev pub more : ℕ → Option ℕ → List Addition → List Addition
 more k None parts = parts
@@ -58,7 +57,7 @@ sites mv segment fixups = filter_map (site mv segment) fixups
 
 -- What a loader does at relocation words: k is added to each, modulo 2^16.
 abbrev pub words_moved : ℕ → List ℕ → List ℕ → List ℕ
-words_moved k words bytes = fold (λ bs at. add_part bs at part.Word k) bytes words
+words_moved k words bytes = fold (λ bs at. add_part bs at 2 k) bytes words
 
 -- No location of these fixups overlaps the word.
 abbrev pub IsApart : List (ℕ × PlainFixup) → Option ℕ → Type 0

@@ -3,9 +3,9 @@
 use Rattle.omf_placement.specs.declared.frame.Placed.{Placed}
 use Rattle.std.specs.Result.{result_map_both, result_err}
 use Rattle.std.specs.Option.{option_map_or}
-use Rattle.std.specs.Prelude.{ℕ, List, [], Result, ◌≤◌, ◌⊎◌, ◌<◌, All, ◌+◌, ◌-◌, ◌%◌, ◌^◌, map, ◌∷◌, nat_lt, option_map, Option, ◌++◌, length, if◌then◌else◌, ok_or, slice_get, Err, ◌==◌, ◌&&◌, Bool, false}
-use Rattle.omf_image.specs.Parts.{Addition, part_size}
-use Rattle.omf_reloc.specs.Additions.{type_of_number, additions_at, part_of}
+use Rattle.std.specs.Prelude.{ℕ, List, [], Result, ◌≤◌, ◌⊎◌, ◌<◌, All, ◌+◌, map, ◌∷◌, nat_lt, option_map, Option, ◌++◌, length, if◌then◌else◌, ok_or, slice_get, Err, ◌==◌, ◌&&◌, Bool, false}
+use Rattle.omf_image.specs.Parts.{Addition}
+use Rattle.omf_reloc.specs.Additions.{type_of_number, additions_at}
 use Rattle.omf_reloc.specs.declared.fault.Cause.{Cause}
 use Rattle.omf_reloc.specs.declared.fault.Cause.TheVariants as cause
 use Rattle.omf_placement.specs.declared.frame.Frame.{Frame}
@@ -23,9 +23,7 @@ use Rattle.omf_frame.specs.Framing.{Raw}
 use Rattle.omf_check.specs.declared.profile.Profile.{Profile}
 use Rattle.omf_image.specs.Limits.{profile_limits}
 use Rattle.omf_check.specs.WellFormed.{IsAccepted}
-use Rattle.omf_records.specs.Location.{location, row_of}
-use Rattle.omf_records.specs.declared.location.LocationType.{LocationType}
-use Rattle.omf_image.specs.declared.part.Part.{Part}
+use Rattle.omf_records.specs.Location.{row_of}
 
 abbrev pub map_ok : {A B : Type 0} → (A → B) → Result A Cause → Result B Cause
 map_ok f r = result_map_both f (λ c. c) r
@@ -46,6 +44,10 @@ lies_at place q = option_map_or (λ p. (p.address == q.address) && (p.frame.base
 abbrev pub causes_at : Places → Option DataItem → List Piece → List (Option Cause)
 causes_at pl found after = option_map_or (λ d. map (λ f. result_err (outcome pl d f)) (fixups_of_data after)) found []
 
+-- an addition to a part of this size
+abbrev pub addition : ℕ → ℕ → ℕ → Addition
+addition offset n value = record { offset = offset; size = n; value = value }
+
 abbrev pub additions : ℕ → ℕ → ℕ → List Addition
 additions t offset selector = additions_at (type_of_number t) offset selector
 
@@ -63,7 +65,7 @@ AreElsewhere x fixups = All (λ f. (x < location_start f) ⊎ (location_offset f
 
 -- Each part that a fixup adds to is inside the data.
 abbrev pub PartsLieIn : ℕ → ℕ → List Addition → Type 0
-PartsLieIn size start parts = All (λ a. start + a.offset + part_size a.part ≤ size) parts
+PartsLieIn size start parts = All (λ a. start + a.offset + a.size ≤ size) parts
 
 abbrev pub plain_fixups : List Subrecord → List (At Subrecord) → List PlainFixup
 plain_fixups earlier subs = with_before plain_fixup earlier (map (λ s. s.item) subs)
@@ -95,10 +97,3 @@ given pl kinds.External = length pl.externals
 
 abbrev pub all_kinds : List Kind
 all_kinds = kinds.Segment ∷ kinds.Group ∷ kinds.External ∷ []
-
--- The part that a self-relative fixup adds to, by the location's type.
-abbrev pub distance_part : LocationType → Part
-distance_part t = part_of (location t).size
-
-abbrev pub self_relative_value : ℕ → ℕ → ℕ → ℕ
-self_relative_value size offset location = (offset + 256 ^ size - (location + size) % 256 ^ size) % 256 ^ size

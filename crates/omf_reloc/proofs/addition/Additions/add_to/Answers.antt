@@ -2,14 +2,14 @@ use Rattle.std.proofs.Common.{◌≡◌, ℕ, ◌+◌, ◌≤◌, [], ◌∷◌,
 use Rattle.std.proofs.lemmas.List.Elements.{All-head, All-tail}
 use Rattle.std.specs.Prelude.{option_map}
 use Rattle.std.specs.Option.{option_to_list}
-use Rattle.omf_image.specs.Parts.{Addition, part_size}
+use Rattle.omf_image.specs.Parts.{Addition}
 use Rattle.omf_reloc.specs.declared.addition.Addition.{Addition as CodeAddition}
 use Rattle.omf_reloc.specs.Inner.Seen.{seen_addition, all_added}
 use Rattle.omf_reloc.proofs.addition.Additions.add_to.Goals as goal
 
 -- an addition stays inside data of this length
 abbrev Fits : ℕ → ℕ → Addition → Type 0
-Fits position size a = position + a.offset + part_size a.part ≤ size
+Fits position size a = position + a.offset + a.size ≤ size
 
 second_fits : (position size : ℕ) (first : CodeAddition) (second : Option CodeAddition) (s : CodeAddition) → second ≡ Some s
     → All (Fits position size) (all_added first second) → Fits position size (seen_addition s)
