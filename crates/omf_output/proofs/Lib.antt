@@ -7,6 +7,7 @@ pub mod Decoded
 pub mod MemoryRuns
 pub mod PlaceMoves
 pub mod OutcomeMoves
+pub mod OwnerLaws
 pub mod ChangeLaws
 pub mod WordLaws
 pub mod DataMoves
@@ -32,6 +33,7 @@ pub mod RoomLaws
 pub mod StartLaws
 pub mod Steps
 pub mod MovedWords
+pub mod NearLaws
 pub mod ApartLaws
 pub mod LowLaws
 pub mod DerivingLaws

@@ -1,7 +1,10 @@
 -- Steps over the modules of a program.
 use Rattle.std.proofs.Common.{◌≡◌, ℕ, zero, suc, ◌+◌, ◌<◌, ◌≤◌, List, [], ◌∷◌, ◌++◌, drop, take, get_or, length, map, max, refl, sym, ◌∙◌, ap, ap₂, ◌-◌, subst, arith}
-use Rattle.std.specs.Prelude.{All, None, Result, Ok, Err, flat_map, fold, replicate}
-use Rattle.std.proofs.Math.Seq.{drop-nil}
+use Rattle.std.specs.Prelude.{All, Option, Some, None, slice_get, Result, Ok, Err, flat_map, fold, replicate}
+use Rattle.std.proofs.Math.Seq.{drop-cons, drop-nil}
+use Rattle.std.proofs.lemmas.Option.{get_or_from_slice_get}
+use Rattle.omf_check.specs.Tables.{entry}
+use Rattle.omf_placement.proofs.NamedLaws.{entry-suc}
 use Rattle.std.proofs.lemmas.List.{drop_more, map-append}
 use Rattle.std.proofs.lemmas.List.Sums.{fold-append}
 use Rattle.std.proofs.lemmas.List.Elements.{All-nil, All-cons, All-head, All-tail}
@@ -17,6 +20,18 @@ use Rattle.omf_output.specs.Exe.Overlaps.{AddInTurn, AddsWords, all_words}
 use Rattle.omf_reloc.proofs.WalkLaws.{all-left, all-right}
 use Rattle.omf_output.proofs.FitLaws.{chunks-end}
 use Rattle.omf_output.proofs.LinkedLaws.{max-bounds}
+
+some_at : {A : Type 0} (xs : List A) (i : ℕ) → i < length xs → (x : A) × (slice_get xs i ≡ Some x)
+some_at [] i h = absurd (omega (arith, h))
+some_at (x ∷ xs) zero h = (x, refl)
+some_at (x ∷ xs) (suc i) h = some_at xs i (omega (arith, h))
+
+-- the entry at an index from 1, and those after it
+pub entry_there : {A : Type 0} (xs : List A) (i : ℕ) → i < length xs → (x : A) × (entry xs (i + 1) ≡ Some x) × (drop i xs ≡ x ∷ drop (i + 1) xs)
+entry_there xs i low =
+    let s = some_at xs i low in
+    let a : suc i ≡ i + 1 = omega arith in
+    (s.0, sym (ap (entry xs) a) ∙ entry-suc xs i ∙ s.1, drop-cons xs i s.0 low ∙ ap (λ y. y ∷ drop (suc i) xs) (get_or_from_slice_get xs i s.0 s.0 s.1) ∙ ap (λ k. s.0 ∷ drop k xs) a)
 
 pub next-of : {A : Type 0} (xs : List A) (i : ℕ) (x : A) → x ≡ get_or xs i x → i < length xs → drop i xs ≡ x ∷ drop (i + 1) xs
 next-of xs i x e h = drop_more xs i x h ∙ ap (λ y. y ∷ drop (i + 1) xs) (sym e)

@@ -1,5 +1,6 @@
 pub mod Outside
 pub mod Taking
 pub mod Laying
+pub mod Owners
 pub mod Rooms
 pub mod Plans

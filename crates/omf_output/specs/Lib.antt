@@ -1,3 +1,4 @@
 pub mod Rom
 pub mod Exe
+pub mod Near
 pub mod Inner

@@ -1,5 +1,7 @@
-//! A linked memory as a file: for a chip (`rom`: a binary, Intel HEX, S-records) or for DOS (`exe`: an MZ file).
+//! A linked memory as a file: for a chip (`rom`: a binary, Intel HEX, S-records) or for DOS (`exe`: an MZ file, a .COM file). `near`: references of it
+//! that stay in a frame.
 #![tactic(auto)]
 
 pub mod exe;
+pub mod near;
 pub mod rom;

@@ -1,7 +1,7 @@
 //! The offset of a reference in its frame, and whether it reaches (TIS OMF 1.1, "FIXUPP"; readings, ranges and causes are this
 //! profile's rule).
 
-ghost use Rattle.std.specs.Prelude.{◌≡◌, ◌+◌, filter, option_and_then, slice_get};
+ghost use Rattle.std.specs.Prelude.{◌≡◌, ◌+◌, filter, is_some, option_and_then, slice_get};
 ghost use Rattle.omf_frame.specs.Bytes.{difference};
 ghost use Rattle.omf_records.specs.Inner.Names.{location_number, offset_bits, self_relative_bits};
 ghost use Rattle.omf_records.specs.Values.{location_offset};
@@ -290,4 +290,13 @@ pub(crate) fn start_outcome(
         }
         None => Err(Cause::Target),
     }
+}
+
+/// Whether a target at an address has a 16-bit offset in the frame with this base, by some reading of a displacement of this width.
+pub fn is_within(address: u32, displacement: u32, width: Width, base: u32) -> bool
+    ensures { result ≡ is_some (slice_get (offsets 16 (number_bits width) address displacement base) 0) }
+{
+    offsets_of(address, displacement, base, width, Width::Bits16)
+        .first()
+        .is_some()
 }

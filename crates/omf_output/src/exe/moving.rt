@@ -22,7 +22,7 @@ use omf_records::{LocationType, Rec};
 use omf_reloc::{Piece, PlainFixup, PlainReference, pieces_of};
 
 /// Whether a location has this type: a base, which holds a selector alone.
-fn is_base(kind: LocationType) -> bool
+pub(crate) fn is_base(kind: LocationType) -> bool
     ensures { result ≡ (location_number kind == 2) }
 {
     match kind {
@@ -133,8 +133,8 @@ fn undecoded_segment(record: &Undecoded<'_>, last: Option<u16>) -> Option<u16>
     }
 }
 
-/// The same, up to and including this piece.
-pub(crate) fn segment_after(piece: &Piece<'_>, last: Option<u16>) -> Option<u16>
+/// The segment of the last data record, up to and including this piece; `last` is that before it.
+pub fn segment_after(piece: &Piece<'_>, last: Option<u16>) -> Option<u16>
     ensures { result ≡ segment_after (piece_seen piece.now) last }
 {
     match piece {

@@ -1,0 +1,15 @@
+use Rattle.std.proofs.Common.{◌≡◌, None}
+use Rattle.omf_check.specs.Listed.{placed_from}
+use Rattle.omf_check.specs.Module.{records_in}
+use Rattle.omf_check.specs.WellFormed.{recs}
+use Rattle.omf_placement.specs.Derive.{PlacedModule}
+use Rattle.omf_reloc.specs.Inner.Pieces.{placed_pieces}
+use Rattle.omf_output.specs.Near.{first_stray}
+use Rattle.omf_output.proofs.near.first_stray.Given as goal
+
+-- the first of the pieces to come is the first of all
+abbrev pub invariant-loop-place : goal.invariant-loop-place
+invariant-loop-place l =
+    let bytes = l.part.«module».now.bytes in
+    let m : PlacedModule = (recs (records_in bytes), l.part.placement.now) in
+    first_stray m l.last l.place-iterator ≡ first_stray m None (placed_pieces (placed_from 0 0 (records_in bytes)))

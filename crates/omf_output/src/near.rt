@@ -1,0 +1,190 @@
+//! Near references into another frame.
+
+ghost use Rattle.std.specs.Prelude.{◌≡◌, ◌==◌, ◌<◌, ◌^◌, ◌&&◌, [], IfOk, not, length, option_and_then, option_map, option_to_list, None};
+ghost use Rattle.omf_check.specs.Listed.{placed_from};
+ghost use Rattle.omf_check.specs.Module.{recs_of, records_in};
+ghost use Rattle.omf_check.specs.Tables.{entry};
+ghost use Rattle.omf_placement.specs.Placement.{place_of};
+ghost use Rattle.omf_records.specs.Inner.Names.{location_number, self_relative_bits};
+ghost use Rattle.std.specs.List.{list_any};
+ghost use Rattle.omf_reloc.specs.Inner.PieceSeen.{piece_seen};
+ghost use Rattle.omf_reloc.specs.Inner.Pieces.{placed_pieces};
+ghost use Rattle.omf_reloc.specs.Inner.Widths.{fixupp_type};
+ghost use Rattle.omf_output.specs.Inner.Owners.{IsTable};
+ghost use Rattle.omf_output.specs.Near.{bases, first_near, first_stray, group_of, has_stray, is_near, is_within, stray_in, strays};
+
+mod owners;
+
+use crate::exe::segment_after;
+use crate::near::owners::{group_at, groups_of};
+use omf_check::Checked;
+use omf_frame::{Place, Width};
+use omf_placement::Placement;
+use omf_records::LocationType;
+use omf_reloc::{Piece, PlainFixup, is_within, pieces_of};
+use std::alloc::{AllocError, Global};
+
+/// A near reference into another frame: the module, from 0, and the place of its fixup.
+#[derive(Clone, Copy, Debug, PartialEq, Eq)]
+pub struct Stray {
+    /// The module, from 0.
+    pub module: u32,
+    /// The place of the fixup.
+    pub place: Place,
+}
+
+/// A module at its placement, with the group of each of its segments.
+#[derive(Clone, Copy)]
+struct Part<'a> {
+    module: &'a Checked,
+    placement: &'a Placement,
+    groups: &'a [u16],
+}
+
+/// Returns whether a self-relative offset at a location of this type has 16 bits.
+fn has_16_bits(kind: LocationType) -> bool
+    ensures { result ≡ (self_relative_bits (location_number kind) == 16) }
+{
+    match kind {
+        LocationType::LowByte
+        | LocationType::Offset32
+        | LocationType::Pointer32
+        | LocationType::LoaderOffset32 => false,
+        LocationType::Offset16
+        | LocationType::Base
+        | LocationType::Pointer16
+        | LocationType::HighByte
+        | LocationType::LoaderOffset16 => true,
+    }
+}
+
+/// Returns whether a fixup is self-relative and has 16 bits.
+fn is_near(fixup: &PlainFixup) -> bool
+    ensures { result ≡ is_near fixup.now }
+{
+    !fixup.location.is_segment_relative() && has_16_bits(fixup.location.location_type())
+}
+
+/// Returns whether the target of a fixup, at an address, has an offset in the frame with this base, if there is one.
+fn is_in(width: Width, fixup: &PlainFixup, address: u32, base: Option<u32>) -> bool
+    ensures { result ≡ list_any (is_within (fixupp_type width, fixup.now) address) (option_to_list base) }
+{
+    match base {
+        Some(base) => is_within(address, fixup.reference.displacement, width, base),
+        None => false,
+    }
+}
+
+/// Returns the base of the frame of a segment.
+fn own_base(part: &Part<'_>, segment: u16) -> Option<u32>
+    ensures { result ≡ option_map (λ p. p.frame.base) (entry part.now.placement.now.segments segment) }
+{
+    let place = part.placement.segment(usize::from(segment))?;
+    Some(place.frame.base)
+}
+
+/// Returns the base of the frame of a segment's group.
+fn group_base(part: &Part<'_>, segment: u16) -> Option<u32>
+    requires { IsTable (recs_of part.now.«module».now.bytes) [] part.now.groups.now }
+    ensures { result ≡ option_map (λ f. f.base) (option_and_then (λ g. entry part.now.placement.now.groups g) (group_of (recs_of part.now.«module».now.bytes) segment)) }
+{
+    let group = group_at(part.module, part.groups, segment)?;
+    let frame = part.placement.group(usize::from(group))?;
+    Some(frame.base)
+}
+
+/// Returns whether the target of a fixup of data in a segment, at an address, is in a frame in which the code there may run.
+fn is_at_home(part: &Part<'_>, segment: u16, width: Width, fixup: &PlainFixup, address: u32) -> bool
+    requires { IsTable (recs_of part.now.«module».now.bytes) [] part.now.groups.now }
+    ensures { result ≡ list_any (is_within (fixupp_type width, fixup.now) address) (bases (recs_of part.now.«module».now.bytes, part.now.placement.now) segment) }
+{
+    is_in(width, fixup, address, own_base(part, segment))
+        || is_in(width, fixup, address, group_base(part, segment))
+}
+
+/// Returns whether a fixup of data in a segment is a near reference into another frame.
+fn strays(part: &Part<'_>, segment: u16, width: Width, fixup: &PlainFixup) -> bool
+    requires { IsTable (recs_of part.now.«module».now.bytes) [] part.now.groups.now }
+    ensures { result ≡ strays (recs_of part.now.«module».now.bytes, part.now.placement.now) segment (fixupp_type width, fixup.now) }
+{
+    if !is_near(fixup) {
+        return false;
+    }
+    match part.placement.place_of(&fixup.reference.target) {
+        Some(target) => !is_at_home(part, segment, width, fixup, target.address),
+        None => false,
+    }
+}
+
+/// Returns whether a piece has such a fixup. `last` is the segment of the last data record before it.
+fn has_stray(part: &Part<'_>, last: Option<u16>, piece: &Piece<'_>) -> bool
+    requires { IsTable (recs_of part.now.«module».now.bytes) [] part.now.groups.now }
+    ensures { result ≡ has_stray (recs_of part.now.«module».now.bytes, part.now.placement.now) last (piece_seen piece.now) }
+{
+    match (piece, last) {
+        (Piece::Fixed { width, fixup }, Some(segment)) => strays(part, segment, *width, fixup),
+        (Piece::Fixed { .. } | Piece::Kept(_) | Piece::End { .. }, _) => false,
+    }
+}
+
+/// Returns the place of a module's first such fixup.
+fn first_stray(part: &Part<'_>) -> Option<Place>
+    requires { IsTable (recs_of part.now.«module».now.bytes) [] part.now.groups.now }
+    ensures { result ≡ first_stray (recs_of part.now.«module».now.bytes, part.now.placement.now) None (placed_pieces (placed_from 0 0 (records_in part.now.«module».now.bytes))) }
+{
+    let mut last = None;
+    for (place, piece) in pieces_of(part.module) {
+        if has_stray(part, last, &piece) {
+            return Some(place);
+        }
+        last = segment_after(&piece, last);
+    }
+    None
+}
+
+/// Returns the first such fixup of a module with this number.
+fn stray_in(
+    alloc: Global,
+    number: u32,
+    module: &Checked,
+    placement: &Placement,
+) -> Result<Option<Stray>, AllocError>
+    ensures { IfOk result (λ o. o ≡ stray_in number «module».now placement.now) }
+{
+    let groups = groups_of(alloc, module)?;
+    let part = Part {
+        module,
+        placement,
+        groups: &groups,
+    };
+    match first_stray(&part) {
+        Some(place) => Ok(Some(Stray {
+            module: number,
+            place,
+        })),
+        None => Ok(None),
+    }
+}
+
+/// Returns the first self-relative fixup of 16 bits, in the order of the modules and of their fixups, whose target has no 16-bit offset in the
+/// frame of the segment of its location, nor in the frame of the first group that has this segment. A near call or jump there leads elsewhere.
+///
+/// # Errors
+///
+/// `AllocError` if memory runs out.
+pub fn first_near(
+    alloc: Global,
+    modules: &[Checked],
+    placements: &[Placement],
+) -> Result<Option<Stray>, AllocError>
+    requires few { length modules.now < 2 ^ 32 }
+    requires placed { length placements.now ≡ length modules.now }
+    ensures { IfOk result (λ o. o ≡ first_near modules.now placements.now) }
+{
+    for (j, module) in modules.iter().enumerate() {
+        if let Some(found) = stray_in(alloc, j as u32, module, &placements[j])? {
+            return Ok(Some(found));
+        }
+    }
+    Ok(None)
+}
