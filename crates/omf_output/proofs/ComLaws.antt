@@ -1,10 +1,11 @@
 -- A .COM program of linked modules.
-use Rattle.std.proofs.Common.{◌≡◌, ◌⊎◌, ℕ, ◌+◌, ◌*◌, ◌-◌, ◌<◌, ◌≤◌, List, [], ◌∷◌, Bool, true, false, cond, drop, length, map, min, refl, sym, ◌∙◌, ap, ap₂, ⊎_elim, inl, inr, arith}
+use Rattle.std.proofs.Common.{◌≡◌, ◌⊎◌, ℕ, ◌+◌, ◌*◌, ◌-◌, ◌<◌, ◌≤◌, List, [], ◌∷◌, ◌++◌, Bool, true, false, cond, drop, length, map, min, take, refl, sym, ◌∙◌, ap, ap₂, ⊎_elim, inl, inr, arith}
 use Rattle.std.specs.Prelude.{All, Option, Some, None, option_map, option_to_list, is_some, Result, Ok, Err, filter_map, find, slice_get, nat_lt, ◌==◌, ◌&&◌, ◌||◌, ◌%◌, ⊤}
 use Rattle.std.specs.List.{cons_option, list_any}
 use Rattle.std.specs.Option.{option_or}
 use Rattle.std.proofs.lemmas.Bool.{and_parts, cases_lt, eqb-true, ltb-false}
-use Rattle.std.proofs.lemmas.List.{drop_all, length-drop}
+use Rattle.std.proofs.lemmas.List.{append-nil, drop_all, length-drop, take_all}
+use Rattle.std.proofs.Math.Nat.{le-max_left}
 use Rattle.std.proofs.lemmas.List.Elements.{All-nil, All-cons, All-head, All-tail}
 use Rattle.omf_frame.specs.declared.fault.Place.{Place}
 use Rattle.omf_records.specs.Values.{Contents, Names, Plain, Iterated, Rec}
@@ -18,9 +19,9 @@ use Rattle.omf_output.specs.declared.exe.com_fault.ComFault.{ComFault}
 use Rattle.omf_output.specs.declared.exe.com_fault.ComFault.TheVariants as fault
 use Rattle.omf_output.specs.declared.exe.fault.ExeFault.{ExeFault}
 use Rattle.omf_output.specs.Exe.Based.{Holds}
-use Rattle.omf_output.specs.Exe.Com.{ComLoaded, after_prefix, com_bytes, com_end, com_fault, com_loaded, exe_part, first_low, first_word, has_word, is_low_record, long_fault, part_fault, start_fault}
+use Rattle.omf_output.specs.Exe.Com.{ComLoaded, after_prefix, com_bytes, com_end, com_fault, com_loaded, counts_apart, exe_part, first_fixup, first_low, fixup_fault, is_low_record, long_fault, part_fault, piece_fault, stack_bytes, start_fault, with_word}
 use Rattle.omf_output.specs.Exe.Linked.{linked_at, member_fault, one_start, placed, starts}
-use Rattle.omf_output.specs.Exe.Members.{Member, all_moving}
+use Rattle.omf_output.specs.Exe.Members.{Member, Portion, all_moving, portions}
 use Rattle.omf_output.specs.Exe.Memory.{Chunk, all_chunks, chunks_at, data_end, flat}
 use Rattle.omf_output.specs.Exe.Movable.{data_segment, segment_after}
 use Rattle.omf_output.specs.Exe.Moved.{Movers}
@@ -34,6 +35,17 @@ use Rattle.omf_output.proofs.ProgramLaws.{length-flat}
 use Rattle.omf_output.proofs.RegisterLaws.{code-moves}
 
 -- ---- modules without a relocation word
+
+-- Whether a piece has a fixup with a relocation word, of data in the segment of the last data record.
+abbrev has_word : Movers → Option ℕ → Piece → Bool
+has_word mv last (Kept r) = false
+has_word mv None (Fixed kind fixups) = false
+has_word mv (Some segment) (Fixed kind fixups) = list_any (λ f. is_some (site mv segment f)) (map (λ f. (kind, f)) fixups)
+has_word mv last (End kind byte start) = false
+
+abbrev pub has_words : Movers → Option ℕ → List (Place × Piece) → Bool
+has_words mv last [] = false
+has_words mv last (x ∷ xs) = has_word mv last x.1 || has_words mv (segment_after x.1 last) xs
 
 module _ (mv : Movers) (pl : Places) where
   abbrev has_site : ℕ → ℕ × PlainFixup → Bool
@@ -76,17 +88,17 @@ module _ (mv : Movers) (pl : Places) where
   follow last o (Fixed kind fs) h = h
   follow last o (End kind byte start) h = h
 
-  all-clear : (last : Option ℕ) (o : Open) (xs : List (Place × Piece)) → Follows last o → first_word mv last xs ≡ None → all_words mv pl o xs [] ≡ Ok []
+  all-clear : (last : Option ℕ) (o : Open) (xs : List (Place × Piece)) → Follows last o → has_words mv last xs ≡ false → all_words mv pl o xs [] ≡ Ok []
   all-clear last o [] h e = refl
   all-clear last o (x ∷ xs) h e = by (has_word mv last x.1) refl e (all-clear (segment_after x.1 last) (opened_after pl x.1 o) xs (follow last o x.1 h))
     where
-      by : (b : Bool) → has_word mv last x.1 ≡ b → cond b (Some x.0) (first_word mv (segment_after x.1 last) xs) ≡ None
-          → (first_word mv (segment_after x.1 last) xs ≡ None → all_words mv pl (opened_after pl x.1 o) xs [] ≡ Ok []) → all_words mv pl o (x ∷ xs) [] ≡ Ok []
+      by : (b : Bool) → has_word mv last x.1 ≡ b → (b || has_words mv (segment_after x.1 last) xs) ≡ false
+          → (has_words mv (segment_after x.1 last) xs ≡ false → all_words mv pl (opened_after pl x.1 o) xs [] ≡ Ok []) → all_words mv pl o (x ∷ xs) [] ≡ Ok []
       by true f g rest = absurd cc
       by false f g rest = ap (or_place x.0 (λ more. all_words mv pl (opened_after pl x.1 o) xs more)) (piece-clear last o x.1 h f) ∙ rest g
 
 abbrev pub HasNoWord : Member → Type 0
-HasNoWord m = first_word m.movers None (placed m) ≡ None
+HasNoWord m = has_words m.movers None (placed m) ≡ false
 
 in-turn : (ms : List Member) → All Holds ms → All HasNoWord ms → AddInTurn (all_moving ms) [] []
 in-turn [] h n = refl
@@ -100,13 +112,39 @@ in-turn (m ∷ ms) h n =
 
 -- ---- no fault
 
+-- Fixups without a fault have no relocation word.
+module _ (m : Member) where
+  none-sited : (p : Place) (segment : ℕ) (fs : List (ℕ × PlainFixup)) → filter_map (fixup_fault m p segment) fs ≡ [] → list_any (λ f. is_some (site m.movers segment f)) fs ≡ false
+  none-sited p segment [] e = refl
+  none-sited p segment (f ∷ fs) e = by (site m.movers segment f) (counts_apart m.places m.movers segment f.1) e (none-sited p segment fs)
+    where
+      by : (o : Option ℕ) (b : Bool) → cons_option (cond (is_some o) (Some (fault.Words m.number p)) (cond b (Some (fault.Frame m.number p)) None)) (filter_map (fixup_fault m p segment) fs) ≡ []
+          → (filter_map (fixup_fault m p segment) fs ≡ [] → list_any (λ g. is_some (site m.movers segment g)) fs ≡ false) → (is_some o || list_any (λ g. is_some (site m.movers segment g)) fs) ≡ false
+      by None false g rest = rest g
+      by None true g rest = absurd cc
+      by (Some at) b g rest = absurd cc
+
+  none-worded : (p : Place) (last : Option ℕ) (piece : Piece) → piece_fault m p last piece ≡ None → has_word m.movers last piece ≡ false
+  none-worded p last (Kept r) e = refl
+  none-worded p None (Fixed kind fs) e = refl
+  none-worded p (Some segment) (Fixed kind fs) e = none-sited p segment (map (λ f. (kind, f)) fs) (get-none (filter_map (fixup_fault m p segment) (map (λ f. (kind, f)) fs)) e)
+  none-worded p last (End kind byte start) e = refl
+
+  no-words-left : (last : Option ℕ) (xs : List (Place × Piece)) → first_fixup m last xs ≡ None → has_words m.movers last xs ≡ false
+  no-words-left last [] e = refl
+  no-words-left last (x ∷ xs) e = by (piece_fault m x.0 last x.1) refl e (no-words-left (segment_after x.1 last) xs)
+    where
+      by : (o : Option ComFault) → piece_fault m x.0 last x.1 ≡ o → option_or o (first_fixup m (segment_after x.1 last) xs) ≡ None
+          → (first_fixup m (segment_after x.1 last) xs ≡ None → has_words m.movers (segment_after x.1 last) xs ≡ false) → has_words m.movers last (x ∷ xs) ≡ false
+      by None f g rest = ap₂ (λ (a b : Bool). a || b) (none-worded x.0 last x.1 f) (rest g)
+      by (Some y) f g rest = absurd cc
+
 no-part-here : (m : Member) → part_fault m ≡ None → HasNoWord m
-no-part-here m e = by (first_low m.places (placed_from 0 0 (records_in m.bytes))) (first_word m.movers None (placed m)) e
+no-part-here m e = by (first_low m.places (placed_from 0 0 (records_in m.bytes))) e
   where
-    by : (a b : Option Place) → option_or (option_map (λ p. fault.Low m.number p) a) (option_map (λ p. fault.Words m.number p) b) ≡ None → b ≡ None
-    by None None f = refl
-    by None (Some p) f = absurd cc
-    by (Some p) b f = absurd cc
+    by : (a : Option Place) → option_or (option_map (λ p. fault.Low m.number p) a) (first_fixup m None (placed m)) ≡ None → HasNoWord m
+    by None f = no-words-left m None (placed m) f
+    by (Some p) f = absurd cc
 
 no-parts : (ms : List Member) → filter_map part_fault ms ≡ [] → All HasNoWord ms
 no-parts [] e = All-nil HasNoWord
@@ -126,12 +164,15 @@ started (Ok s) e = ap (λ (x : ℕ × ℕ). let r : Result (ℕ × ℕ) ExeFault
         ap₂ (λ (a b : ℕ). (a, b)) (eqb-true s.0 0 both.0) (eqb-true s.1 256 both.1)
     by false f g = absurd cc
 
-ended : (ms : List Member) → long_fault ms ≡ None → com_end ms ≤ 65536
-ended ms e = by (nat_lt 65536 (com_end ms)) refl e
+abbrev pub stack_of : List Member → ℕ
+stack_of ms = stack_bytes (portions ms)
+
+ended : (ms : List Member) → long_fault ms ≡ None → com_end ms + stack_of ms ≤ 65534
+ended ms e = by (nat_lt 65534 (com_end ms + stack_of ms)) refl e
   where
-    by : (b : Bool) → nat_lt 65536 (com_end ms) ≡ b → cond b (Some fault.TooLong) None ≡ None → com_end ms ≤ 65536
+    by : (b : Bool) → nat_lt 65534 (com_end ms + stack_of ms) ≡ b → cond b (Some (fault.TooLong (com_end ms) (stack_of ms))) None ≡ None → com_end ms + stack_of ms ≤ 65534
     by true f g = absurd cc
-    by false f g = ltb-false 65536 (com_end ms) f
+    by false f g = ltb-false 65534 (com_end ms + stack_of ms) f
 
 pub no-exe : (ms : List Member) → exe_part ms ≡ None → slice_get (filter_map member_fault ms) 0 ≡ None
 no-exe ms e = by (slice_get (filter_map member_fault ms) 0) e
@@ -145,7 +186,7 @@ pub record AreFree (ms : List Member) : Type 0 where
   pub modules : slice_get (filter_map member_fault ms) 0 ≡ None
   pub starts_low : one_start (starts ms) ≡ Ok (0, 256)
   pub words : All HasNoWord ms
-  pub ends : com_end ms ≤ 65536
+  pub ends : com_end ms + stack_of ms ≤ 65534
 
 pub free : (ms : List Member) → com_fault ms ≡ None → AreFree ms
 free ms e = by (slice_get (filter_map member_fault ms) 0) (start_fault (one_start (starts ms))) (slice_get (filter_map part_fault ms) 0) (long_fault ms) refl refl refl refl e
@@ -165,6 +206,9 @@ free ms e = by (slice_get (filter_map member_fault ms) 0) (start_fault (one_star
 
 -- ---- the file
 
+least_stack : (ps : List Portion) → 256 ≤ stack_bytes ps
+least_stack ps = le-max_left 256 _
+
 module _ (ms : List Member) (r : AreReady ms) (a : AreFree ms) where
   abbrev cs : List Chunk
   cs = all_chunks (all_moving ms)
@@ -182,22 +226,41 @@ module _ (ms : List Member) (r : AreReady ms) (a : AreFree ms) where
       ∙ ap (flat (0 + 16 * k) n) (sym (chunks-move k (all_moving ms) j.moving))
       ∙ ap (λ b. flat b n (chunks_at k (all_moving ms))) here
 
-  pub com-loads : (k : ℕ) → com_loaded (com_bytes ms) k ≡ after_prefix (linked_at k ms)
-  com-loads k =
-      let here : k ≡ 0 + k = omega arith in
-      ap₂ (λ (i : List ℕ) (c : ℕ × ℕ). let l : ComLoaded = record { address = 16 * k + 256; bytes = drop 256 i; code = c } in l) (image-stays k)
-      (ap (λ n. (n % 65536, 256)) here ∙ sym (code-moves k ms (0, 256) (judged).moving a.starts_low))
-
-  pub com-short : length (com_bytes ms) ≤ 65280
+  -- The file ends before the word that DOS puts into the segment, with room for the stack.
+  pub com-short : length (com_bytes ms) + (256 + stack_of ms) ≤ 65534
   com-short =
       let j = judged in
       let n = data_end cs in
       let long : length (flat 0 n cs) ≡ n = length-flat 0 n cs (lie-in cs j.inside) in
       let less : length (drop 256 (flat 0 n cs)) ≡ length (flat 0 n cs) - 256 = length-drop 256 (flat 0 n cs) in
       let ends = a.ends in
-      omega (arith, long, less, ends)
+      let need = least_stack (portions ms) in
+      omega (arith, long, less, ends, need)
+
+  word-after : with_word (com_bytes ms) ≡ com_bytes ms
+  word-after =
+      let short = com-short in
+      let all : length (com_bytes ms) ≤ 65278 = omega (arith, short) in
+      let none : length (com_bytes ms) - 65278 ≡ 0 = omega (arith, all) in
+      ap₂ (λ (x y : List ℕ). x ++ y) (take_all 65278 (com_bytes ms) all) (ap (λ n. take n (0 ∷ 0 ∷ [])) none) ∙ append-nil (com_bytes ms)
+
+  pub com-loads : (k : ℕ) → com_loaded (com_bytes ms) k ≡ after_prefix (linked_at k ms)
+  com-loads k =
+      let here : k ≡ 0 + k = omega arith in
+      ap (λ (bs : List ℕ). let l : ComLoaded = record { address = 16 * k + 256; bytes = bs; code = (k % 65536, 256); stack = (k % 65536, 65534) } in l) word-after
+      ∙ ap₂ (λ (i : List ℕ) (c : ℕ × ℕ). let l : ComLoaded = record { address = 16 * k + 256; bytes = drop 256 i; code = c; stack = (c.0, 65534) } in l) (image-stays k)
+      (ap (λ n. (n % 65536, 256)) here ∙ sym (code-moves k ms (0, 256) (judged).moving a.starts_low))
 
 -- ---- the walks
+
+-- The first fault of the pieces to come, with one piece more and without.
+pub fixup-found : (m : Member) (last : Option ℕ) (x : Place × Piece) (left rest : List (Place × Piece)) (f : ComFault) (whole : Option ComFault) → left ≡ x ∷ rest → piece_fault m x.0 last x.1 ≡ Some f
+    → first_fixup m last left ≡ whole → Some f ≡ whole
+fixup-found m last x left rest f whole e g h = sym (ap (first_fixup m last) e ∙ ap (λ o. option_or o (first_fixup m (segment_after x.1 last) rest)) g) ∙ h
+
+pub no-fixup-here : (m : Member) (last : Option ℕ) (x : Place × Piece) (left rest : List (Place × Piece)) (whole : Option ComFault) → left ≡ x ∷ rest → piece_fault m x.0 last x.1 ≡ None
+    → first_fixup m last left ≡ whole → first_fixup m (segment_after x.1 last) rest ≡ whole
+no-fixup-here m last x left rest whole e g h = sym (ap (first_fixup m last) e ∙ ap (λ o. option_or o (first_fixup m (segment_after x.1 last) rest)) g) ∙ h
 
 pub low-found : (pl : Places) (x : Place × Rec) (left rest : List (Place × Rec)) (b : Bool) (whole : Option Place) → left ≡ x ∷ rest → b ≡ is_low_record pl x.1 → b ≡ true
     → first_low pl left ≡ whole → Some x.0 ≡ whole

@@ -1,5 +1,5 @@
 -- The memory that segments take, one segment after the other.
-use Rattle.std.proofs.Common.{◌≡◌, ℕ, List, [], ◌∷◌, Bool, true, false, cond, map, max, refl, sym, ◌∙◌, ap}
+use Rattle.std.proofs.Common.{◌≡◌, ℕ, ◌+◌, ◌-◌, List, [], ◌∷◌, Bool, true, false, cond, map, max, min, refl, sym, ◌∙◌, ap}
 use Rattle.std.specs.Prelude.{Option, Some, None, filter, filter_map, fold, not, zip}
 use Rattle.std.proofs.lemmas.List.Sums.{fold-append}
 use Rattle.omf_records.specs.Values.{SegmentItem}
@@ -41,6 +41,18 @@ stack-fold room (p ∷ ps) = stack-fold (with_portion room p) ps ∙ by p.is_sta
     by : (b : Bool) → stack_then (cond b (Some (with_stack room.stack p)) room.stack) (filter (λ q. q.is_stack) ps)
         ≡ stack_then room.stack (cond b (p ∷ filter (λ q. q.is_stack) ps) (filter (λ q. q.is_stack) ps))
     by true = stack-more room.stack p (filter (λ q. q.is_stack) ps)
+    by false = refl
+
+abbrev stack_length : ℕ → Portion → ℕ
+stack_length n p = min (n + (p.end - p.place.address)) 65536
+
+pub length-fold : (room : Room) (ps : List Portion) → (fold with_portion room ps).stack_len ≡ fold stack_length room.stack_len (filter (λ p. p.is_stack) ps)
+length-fold room [] = refl
+length-fold room (p ∷ ps) = length-fold (with_portion room p) ps ∙ by p.is_stack
+  where
+    by : (b : Bool) → fold stack_length (cond b (stack_length room.stack_len p) room.stack_len) (filter (λ q. q.is_stack) ps)
+        ≡ fold stack_length room.stack_len (cond b (p ∷ filter (λ q. q.is_stack) ps) (filter (λ q. q.is_stack) ps))
+    by true = refl
     by false = refl
 
 -- One module more, and none.

@@ -1,16 +1,16 @@
 -- .COM programs of linked modules: the file, what DOS makes of it, and why modules have none (this profile's rule; the order of faults too).
-use Rattle.std.specs.Prelude.{◌≡◌, ◌⊎◌, ℕ, ◌+◌, ◌*◌, ◌%◌, ◌==◌, ◌&&◌, List, [], ◌∷◌, drop, filter, filter_map, find, length, map, max, not, nat_lt, Bool, false, Option, Some, None, option_map, is_some, Result, Ok, Err, slice_get, if◌then◌else◌}
-use Rattle.std.specs.List.{list_any}
-use Rattle.std.specs.Option.{option_or}
+use Rattle.std.specs.Prelude.{◌≡◌, ◌⊎◌, ℕ, ◌+◌, ◌-◌, ◌*◌, ◌%◌, ◌==◌, ◌&&◌, List, [], ◌∷◌, ◌++◌, drop, filter, filter_map, find, fold, length, map, max, min, not, nat_lt, Bool, false, Option, Some, None, option_map, is_some, Result, Ok, Err, slice_get, take, if◌then◌else◌}
+use Rattle.std.specs.Option.{option_map_or, option_or}
 use Rattle.omf_frame.specs.declared.fault.Place.{Place}
-use Rattle.omf_records.specs.Values.{Contents, Plain, Iterated, Rec, width}
+use Rattle.omf_records.specs.Values.{Contents, Plain, Iterated, Rec, is_segment_relative, location_type, width}
 -- computed: blocks_are_read and lengths_are_decided of omf_image.
 use Rattle.omf_image.specs.Inner.Expanding.{expanded}
 use Rattle.omf_image.specs.Limits.{profile_limits}
 use Rattle.omf_check.specs.Listed.{placed_from}
 use Rattle.omf_check.specs.Module.{records_in}
-use Rattle.omf_placement.specs.Placement.{Places}
-use Rattle.omf_reloc.specs.Plain.{Piece, Kept, Fixed, End}
+use Rattle.omf_placement.specs.declared.frame.Frame.{Frame}
+use Rattle.omf_placement.specs.Placement.{Places, frame_by}
+use Rattle.omf_reloc.specs.Plain.{Piece, Kept, Fixed, End, PlainFixup}
 use Rattle.omf_output.specs.declared.exe.com_fault.ComFault.{ComFault}
 use Rattle.omf_output.specs.declared.exe.com_fault.ComFault.TheVariants as fault
 use Rattle.omf_output.specs.declared.exe.fault.ExeFault.{ExeFault}
@@ -19,25 +19,31 @@ use Rattle.omf_output.specs.Exe.Loading.{Loaded}
 use Rattle.omf_output.specs.Exe.Members.{Member, Portion, all_moving, memory_end, portions}
 use Rattle.omf_output.specs.Exe.Memory.{all_chunks, data_end, segment_address}
 use Rattle.omf_output.specs.Exe.Movable.{segment_after}
-use Rattle.omf_output.specs.Exe.Moved.{Movers}
+use Rattle.omf_output.specs.Exe.Moved.{Movers, frame_moves}
 use Rattle.omf_output.specs.Exe.Relocations.{site}
 
 -- ---- the file
 
--- What DOS makes of a .COM file: the address where the file's bytes are, the bytes, and CS:IP.
+-- What DOS makes of a .COM file: the address where the file's bytes are, the bytes, CS:IP, and SS:SP.
 pub record ComLoaded : Type 0 where
   pub address : ℕ
   pub bytes : List ℕ
   pub code : ℕ × ℕ
+  pub stack : ℕ × ℕ
 
--- DOS loads the file at offset 100H of a segment, after the 256 bytes that it keeps there for itself (the program segment prefix), and starts it at its
--- first byte, with all segment registers at the segment. Registers have 16 bits.
+-- A word of 0 is at offset FFFEH of the segment, over what the file has there: its bytes begin at 100H.
+abbrev pub with_word : List ℕ → List ℕ
+with_word bytes = take 65278 bytes ++ take (length bytes - 65278) (0 ∷ 0 ∷ [])
+
+-- DOS loads the file at offset 100H of a segment, after the 256 bytes that it keeps there for itself (the program segment prefix). It puts a word of 0
+-- at offset FFFEH, to which a near return leads back to the prefix, and starts the file at its first byte, with all segment registers at the segment
+-- and SP at that word (MS-DOS Programmer's Reference, "Loading .COM programs", where the segment has 64 KB). Registers have 16 bits.
 abbrev pub com_loaded : List ℕ → ℕ → ComLoaded
-com_loaded bytes k = record { address = 16 * k + 256; bytes = bytes; code = (k % 65536, 256) }
+com_loaded bytes k = record { address = 16 * k + 256; bytes = with_word bytes; code = (k % 65536, 256); stack = (k % 65536, 65534) }
 
--- The same of what modules are at a paragraph: their bytes from offset 100H on, and their start.
+-- The same of what modules are at a paragraph: their bytes from offset 100H on, and their start, with the stack at the end of its segment.
 abbrev pub after_prefix : Loaded → ComLoaded
-after_prefix l = record { address = l.address + 256; bytes = drop 256 l.image; code = l.code }
+after_prefix l = record { address = l.address + 256; bytes = drop 256 l.image; code = l.code; stack = (l.code.0, 65534) }
 
 -- The file of linked modules: their bytes from 100H to the last byte of data.
 abbrev pub com_bytes : List Member → List ℕ
@@ -66,33 +72,51 @@ is_low_record pl r = has_low_data pl r.kind r.contents
 abbrev pub first_low : Places → List (Place × Rec) → Option Place
 first_low pl rs = option_map (λ x. x.0) (find (λ x. is_low_record pl x.1) rs)
 
--- Whether a piece has a fixup with a relocation word, of data in the segment of the last data record; and the place of the first that has.
-abbrev pub has_word : Movers → Option ℕ → Piece → Bool
-has_word mv last (Kept r) = false
-has_word mv None (Fixed kind fixups) = false
-has_word mv (Some segment) (Fixed kind fixups) = list_any (λ f. is_some (site mv segment f)) (map (λ f. (kind, f)) fixups)
-has_word mv last (End kind byte start) = false
+-- Whether a fixup of data in a segment adds an offset in a frame that moves with the program and does not begin where it does, so that no segment
+-- register has it. A base adds no offset, and a self-relative fixup no offset in a frame.
+abbrev pub has_base : Option Frame → Bool
+has_base frame = option_map_or (λ f. not (f.base == 0)) frame false
 
-abbrev pub first_word : Movers → Option ℕ → List (Place × Piece) → Option Place
-first_word mv last [] = None
-first_word mv last (x ∷ xs) = if has_word mv last x.1 then Some x.0 else first_word mv (segment_after x.1 last) xs
+abbrev pub counts_apart : Places → Movers → ℕ → PlainFixup → Bool
+counts_apart pl mv segment f =
+    is_segment_relative f.locat && not (location_type f.locat == 2)
+    && (frame_moves mv segment f.reference.target f.reference.frame && has_base (frame_by pl segment f.reference.target f.reference.frame))
 
--- The fault of a module alone: data below 100H, or else a relocation word.
+-- The fault of a fixup of data in a segment, at a place: a relocation word, or else such a frame.
+abbrev pub fixup_fault : Member → Place → ℕ → ℕ × PlainFixup → Option ComFault
+fixup_fault m p segment f =
+    if is_some (site m.movers segment f) then Some (fault.Words m.number p)
+    else (if counts_apart m.places m.movers segment f.1 then Some (fault.Frame m.number p) else None)
+
+-- The first fault of the fixups of a piece at a place, which belong to the data in the segment of the last data record; and the first of all pieces.
+abbrev pub piece_fault : Member → Place → Option ℕ → Piece → Option ComFault
+piece_fault m p last (Kept r) = None
+piece_fault m p None (Fixed kind fixups) = None
+piece_fault m p (Some segment) (Fixed kind fixups) = slice_get (filter_map (fixup_fault m p segment) (map (λ f. (kind, f)) fixups)) 0
+piece_fault m p last (End kind byte start) = None
+
+abbrev pub first_fixup : Member → Option ℕ → List (Place × Piece) → Option ComFault
+first_fixup m last [] = None
+first_fixup m last (x ∷ xs) = option_or (piece_fault m x.0 last x.1) (first_fixup m (segment_after x.1 last) xs)
+
+-- The fault of a module alone: data below 100H, or else that of its first fixup with one.
 abbrev pub part_fault : Member → Option ComFault
-part_fault m =
-    option_or (option_map (λ p. fault.Low m.number p) (first_low m.places (placed_from 0 0 (records_in m.bytes))))
-    (option_map (λ p. fault.Words m.number p) (first_word m.movers None (placed m)))
+part_fault m = option_or (option_map (λ p. fault.Low m.number p) (first_low m.places (placed_from 0 0 (records_in m.bytes)))) (first_fixup m None (placed m))
 
--- The first address after the data and the segments. The segments of the stack do not count: DOS sets SS:SP to the end of the program's segment.
+-- The first address after the prefix, the data and the segments. The segments of the stack do not count: DOS sets SS:SP to the end of the program's segment.
 abbrev pub without_stack : List Portion → List Portion
 without_stack ps = filter (λ p. not p.is_stack) ps
 
 abbrev pub com_end : List Member → ℕ
-com_end ms = max (data_end (all_chunks (all_moving ms))) (memory_end (without_stack (portions ms)))
+com_end ms = max 256 (max (data_end (all_chunks (all_moving ms))) (memory_end (without_stack (portions ms))))
 
--- The program ends in its segment, of 65,536 bytes.
+-- The bytes that the stack needs: those of its segments together, and 256 at least. More than 65,536 count as 65,536.
+abbrev pub stack_bytes : List Portion → ℕ
+stack_bytes ps = max 256 (fold (λ n p. min (n + (p.end - p.place.address)) 65536) 0 (filter (λ p. p.is_stack) ps))
+
+-- The program and its stack end before offset FFFEH.
 abbrev pub long_fault : List Member → Option ComFault
-long_fault ms = if nat_lt 65536 (com_end ms) then Some fault.TooLong else None
+long_fault ms = if nat_lt 65534 (com_end ms + stack_bytes (portions ms)) then Some (fault.TooLong (com_end ms) (stack_bytes (portions ms))) else None
 
 -- The first fault: that of a module that an .EXE file has too; that of the start; that of a module alone; that of the end.
 abbrev pub exe_part : List Member → Option ComFault

@@ -9,6 +9,8 @@ use Rattle.omf_check.specs.Threads.{T0}
 use Rattle.omf_check.specs.declared.method.FrameMethod.TheVariants.{Target as F5}
 use Rattle.omf_reloc.specs.Plain.{Piece, Kept, Fixed, PlainFixup}
 use Rattle.omf_output.specs.Exe.Moved.{Movers}
+use Rattle.omf_placement.specs.Placement.{Places}
+use Rattle.omf_output.specs.Exe.Members.{Member, Portion}
 use Rattle.omf_output.specs.Exe.Memory.{MovingModule}
 
 abbrev pub at : {A : Type 0} → ℕ → A → At A
@@ -44,6 +46,21 @@ file = 0x4D ∷ 0x5A ∷ 36 ∷ 0 ∷ 1 ∷ 0 ∷ 1 ∷ 0 ∷ 2 ∷ 0 ∷ 0 ∷ 
 -- Segment 1 moves, segment 2 does not; a fixup of a FIXUPP of 16 bits.
 abbrev pub one_of_two : Movers
 one_of_two = record { segments = true ∷ false ∷ []; groups = []; externals = [] }
+
+-- Both move; segment 2 is in a frame 4 paragraphs higher.
+abbrev pub both_move : Movers
+both_move = record { segments = true ∷ true ∷ []; groups = []; externals = [] }
+
+abbrev pub two_apart : Places
+two_apart = record { segments = placed_at 0 0 0 ∷ placed_at 0x40 0x40 4 ∷ []; groups = []; externals = [] }
+
+-- The module that loads its own segment, as a member of a program; only its placement and what moves count.
+abbrev pub member_0 : Member
+member_0 = record { number = 0; bytes = []; places = at_0.places; movers = at_0.movers }
+
+-- A segment of the stack, from an address on.
+abbrev pub stack_portion : ℕ → ℕ → Portion
+stack_portion address size = record { place = placed_at address 0 0; end = address + size; is_stack = true }
 
 abbrev pub fixup : ℕ → FrameMethod → TargetMethod → ℕ × PlainFixup
 fixup locat frame target = (0x9C, record { locat = locat; reference = record { frame = frame; target = target; displacement = 0 } })

@@ -34,9 +34,22 @@ pub enum ComFault {
         /// The place of the fixup.
         place: Place,
     },
-    /// The data or the segments, without those of the stack, end after 65,536.
-    #[error("the program ends after 65,536")]
-    TooLong,
+    /// This fixup of a module adds an offset in a frame that moves with the program and does not begin where it does.
+    #[error("an offset in another frame")]
+    Frame {
+        /// The module.
+        module: u32,
+        /// The place of the fixup.
+        place: Place,
+    },
+    /// The program and its stack have no room before offset FFFEH.
+    #[error("the program ends at {end}, and its stack needs {stack} bytes")]
+    TooLong {
+        /// The first offset after the data and the segments, without those of the stack.
+        end: u64,
+        /// The bytes that the stack needs.
+        stack: u64,
+    },
 }
 
 impl From<AllocError> for ComFault {

@@ -1,10 +1,10 @@
 //! A DOS program of linked modules without a header (.COM).
 
-ghost use Rattle.std.specs.Prelude.{◌≡◌, ◌≤◌, ℕ, All, IfOk, IfErr, Some, None, drop, length};
+ghost use Rattle.std.specs.Prelude.{◌≡◌, ◌≤◌, ◌+◌, ℕ, All, IfOk, IfErr, Some, None, drop, length};
 ghost use Rattle.omf_output.specs.Exe.Based.{HasReached, Holds};
-ghost use Rattle.omf_output.specs.Exe.Com.{IsComFault, after_prefix, com_bytes, com_fault, com_loaded, exe_part, long_fault, start_fault};
+ghost use Rattle.omf_output.specs.Exe.Com.{IsComFault, after_prefix, com_bytes, com_fault, com_loaded, exe_part, long_fault, stack_bytes, start_fault};
 ghost use Rattle.omf_output.specs.Exe.Linked.{linked_at, one_start, starts};
-ghost use Rattle.omf_output.specs.Exe.Members.{all_moving};
+ghost use Rattle.omf_output.specs.Exe.Members.{all_moving, portions};
 ghost use Rattle.omf_output.specs.Exe.Memory.{all_chunks, data_end};
 
 use crate::exe::com_fault::ComFault;
@@ -18,6 +18,11 @@ use std::alloc::{AllocError, Global};
 
 /// The offset of a program in its segment. DOS has the bytes before it for itself.
 const PREFIX: usize = 256;
+
+/// The offset of the word that DOS puts at the end of the segment, and the bytes that a stack needs below it at least.
+const STACK_TOP: u64 = 65534;
+
+const LEAST_STACK: u64 = 256;
 
 /// The first fault of a module that an .EXE file has too.
 fn exe_part(members: &[Member<'_>]) -> Option<ComFault>
@@ -41,13 +46,16 @@ fn start_fault(members: &[Member<'_>]) -> Option<ComFault>
     }
 }
 
-/// The fault of a program whose data end at an address, if it has no room in its segment.
+/// The fault of a program whose data end at an address, if it and its stack have no room before offset FFFEH of its segment.
 fn long_fault(members: &[Member<'_>], end: usize) -> Option<ComFault>
     requires { end ≡ data_end (all_chunks (all_moving members.now)) }
     ensures { result ≡ long_fault members.now }
 {
-    if end > 65536 || room_of(members).own_end > 65536 {
-        return Some(ComFault::TooLong);
+    let room = room_of(members);
+    let end = room.own_end.max(end as u64).max(PREFIX as u64);
+    let stack = room.stack_len.max(LEAST_STACK);
+    if end.saturating_add(stack) > STACK_TOP {
+        return Some(ComFault::TooLong { end, stack });
     }
     None
 }
@@ -81,19 +89,21 @@ fn after_prefix(alloc: Global, image: &[u8]) -> Result<Vec<u8>, AllocError>
 /// The .COM file of linked modules: their bytes from 100H to the last byte of data. Each has a placement of a program that begins at
 /// paragraph 0, and the movers of it.
 ///
-/// DOS loads the file at offset 100H of a segment, with CS, DS, ES and SS at the segment, and IP at 100H. At any segment this is, byte for
-/// byte, what the modules have at their placements moved to that paragraph, from offset 100H on, with their start there.
+/// DOS loads the file at offset 100H of a segment, puts a word of 0 at its offset FFFEH, and starts it with CS, DS, ES and SS at the segment, IP at
+/// 100H and SP at FFFEH. At any segment this is, byte for byte, what the modules have at their placements moved to that paragraph, from offset
+/// 100H on, with their start there: the word is after the file's bytes, and so are the bytes that the stack needs.
 ///
 /// # Errors
 ///
 /// `Exe` with the fault of the first module that does not reach or does not move, or with that of the start, as `link_exe` returns them; else
 /// `Start` for a start that is not at offset 100H of the first paragraph; else, for the first module with such a fault, `Low` with the first
-/// data record that has a byte below 100H, or else `Words` with the first fixup that has a relocation word; else `TooLong` if the data or the
-/// segments, without those of the stack, end after 65,536. `Memory` if memory runs out, only if there is none of these faults.
+/// data record that has a byte below 100H, or else the first fixup that has a relocation word (`Words`) or adds an offset in a frame that moves with
+/// the program and does not begin where it does (`Frame`); else `TooLong` if the data or the segments, without those of the stack, end after
+/// 65,534 less the bytes of the stack's segments, or less 256 if these are fewer. `Memory` if memory runs out, only if there is none of these faults.
 pub fn link_com(alloc: Global, members: &[Member<'_>]) -> Result<Vec<u8>, ComFault>
     ensures file { IfOk result (λ v. v.items ≡ com_bytes members.now) }
     ensures loaded { IfOk result (λ v. (k : ℕ) → com_loaded v.items k ≡ after_prefix (linked_at k members.now)) }
-    ensures short { IfOk result (λ v. length v.items ≤ 65280) }
+    ensures short { IfOk result (λ v. length v.items + (256 + stack_bytes (portions members.now)) ≤ 65534) }
     ensures none { IfOk result (λ _. com_fault members.now ≡ None) }
     ensures fault { IfErr result (IsComFault members.now) }
 {

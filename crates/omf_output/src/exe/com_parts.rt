@@ -1,24 +1,22 @@
-//! Parts of modules that no .COM program has: data below 100H, and relocation words.
+//! Parts of modules that no .COM program has: data below 100H, relocation words, and offsets in other frames.
 
-ghost use Rattle.std.specs.Prelude.{◌≡◌, ◌∷◌, [], ◌+◌, None, All, filter_map, slice_get};
+ghost use Rattle.std.specs.Prelude.{◌≡◌, ◌==◌, ◌&&◌, ℕ, ◌+◌, None, All, filter_map, not, slice_get};
 ghost use Rattle.omf_check.specs.Listed.{placed_from};
 ghost use Rattle.omf_check.specs.Module.{records_in};
 ghost use Rattle.omf_records.specs.Inner.Seen.{contents_seen, kind_seen, rec_seen};
 ghost use Rattle.omf_reloc.specs.Inner.PieceSeen.{piece_seen};
-ghost use Rattle.omf_reloc.specs.Inner.Pieces.{placed_pieces};
-ghost use Rattle.omf_reloc.specs.Inner.Widths.{fixupp_type};
-ghost use Rattle.omf_reloc.specs.Plain.{Fixed};
-ghost use Rattle.omf_output.specs.Exe.Com.{first_low, first_word, has_low_data, has_word, part_fault};
+ghost use Rattle.omf_records.specs.Values.{is_segment_relative, location_type};
+ghost use Rattle.omf_output.specs.Exe.Com.{counts_apart, first_fixup, first_low, fixup_fault, has_base, has_low_data, part_fault, piece_fault};
+ghost use Rattle.omf_output.specs.Exe.Linked.{placed};
 ghost use Rattle.omf_output.specs.Inner.Laying.{CanEnd};
 
 use crate::exe::com_fault::ComFault;
 use crate::exe::laying::segment_address;
 use crate::exe::member::Member;
-use crate::exe::movers::Movers;
-use crate::exe::moving::{segment_after, site};
+use crate::exe::moving::{is_base, segment_after, site};
 use omf_check::{Checked, Undecoded};
-use omf_frame::{Place, Width};
-use omf_placement::Placement;
+use omf_frame::Place;
+use omf_placement::{Frame, Placement};
 use omf_records::Rec;
 use omf_reloc::{Piece, PlainFixup, measure, pieces_of};
 
@@ -59,41 +57,88 @@ fn first_low(module: &Checked, placement: &Placement) -> Option<Place>
     None
 }
 
-/// Whether a fixup of the last data record has a relocation word. `last` is the segment of that record; without one there is no word.
-fn fixup_has_word(movers: &Movers, last: Option<u16>, width: Width, fixup: &PlainFixup) -> bool
-    ensures { result ≡ has_word movers.now last (Fixed (fixupp_type width) (fixup.now ∷ [])) }
+/// Whether a fixup adds an offset in a frame: it is segment-relative, and no base (TIS OMF 1.1, "FIXUPP", LOCATION).
+fn has_offset(fixup: &PlainFixup) -> bool
+    ensures { result ≡ (is_segment_relative fixup.now.locat && not (location_type fixup.now.locat == 2)) }
 {
-    match last {
-        Some(segment) => site(movers, segment, fixup).is_some(),
+    fixup.location.is_segment_relative() && !is_base(fixup.location.location_type())
+}
+
+/// Whether a frame does not begin at address 0.
+fn has_base(frame: Option<Frame>) -> bool
+    ensures { result ≡ has_base frame }
+{
+    match frame {
+        Some(frame) => frame.base != 0,
         None => false,
     }
 }
 
-/// Whether a piece is a fixup with a relocation word. `last` is the segment of the last data record before it.
-fn has_word(movers: &Movers, last: Option<u16>, piece: &Piece<'_>) -> bool
-    ensures { result ≡ has_word movers.now last (piece_seen piece.now) }
+/// Whether a fixup of data in a segment adds an offset in a frame that moves with the program and does not begin where it does.
+fn counts_apart(member: &Member<'_>, segment: u16, fixup: &PlainFixup) -> bool
+    ensures { result ≡ counts_apart member.now.places member.now.movers segment fixup.now }
+{
+    let reference = &fixup.reference;
+    has_offset(fixup)
+        && member
+            .movers
+            .frame_moves(segment, &reference.target, &reference.frame)
+        && has_base(
+            member
+                .placement
+                .frame_by(segment, &reference.target, &reference.frame),
+        )
+}
+
+/// The fault of a fixup of data in a segment, at a place.
+fn fixup_fault(
+    member: &Member<'_>,
+    place: Place,
+    segment: u16,
+    fixup: &PlainFixup,
+) -> Option<ComFault>
+    ensures { (kind : ℕ) → result ≡ fixup_fault member.now place segment (kind, fixup.now) }
+{
+    let module = member.number;
+    if site(member.movers, segment, fixup).is_some() {
+        return Some(ComFault::Words { module, place });
+    }
+    if counts_apart(member, segment, fixup) {
+        return Some(ComFault::Frame { module, place });
+    }
+    None
+}
+
+/// The fault of a piece at a place. `last` is the segment of the last data record before it; without one there is none.
+fn piece_fault(
+    member: &Member<'_>,
+    place: Place,
+    last: Option<u16>,
+    piece: &Piece<'_>,
+) -> Option<ComFault>
+    ensures { result ≡ piece_fault member.now place last (piece_seen piece.now) }
 {
     match piece {
-        Piece::Fixed { width, fixup } => fixup_has_word(movers, last, *width, fixup),
-        Piece::Kept(_) | Piece::End { .. } => false,
+        Piece::Fixed { fixup, .. } => fixup_fault(member, place, last?, fixup),
+        Piece::Kept(_) | Piece::End { .. } => None,
     }
 }
 
-/// The place of a module's first fixup with a relocation word.
-fn first_word(module: &Checked, movers: &Movers) -> Option<Place>
-    ensures { result ≡ first_word movers.now None (placed_pieces (placed_from 0 0 (records_in «module».now.bytes))) }
+/// The fault of a module's first fixup that has one.
+fn first_fixup(member: &Member<'_>) -> Option<ComFault>
+    ensures { result ≡ first_fixup member.now None (placed member.now) }
 {
     let mut last = None;
-    for (place, piece) in pieces_of(module) {
-        if has_word(movers, last, &piece) {
-            return Some(place);
+    for (place, piece) in pieces_of(member.module) {
+        if let Some(fault) = piece_fault(member, place, last, &piece) {
+            return Some(fault);
         }
         last = segment_after(&piece, last);
     }
     None
 }
 
-/// The fault of a module: data below 100H, or else a relocation word.
+/// The fault of a module: data below 100H, or else that of its first fixup with one.
 fn part_fault(member: &Member<'_>) -> Option<ComFault>
     ensures { result ≡ part_fault member.now }
 {
@@ -101,10 +146,7 @@ fn part_fault(member: &Member<'_>) -> Option<ComFault>
     if let Some(place) = first_low(member.module, member.placement) {
         return Some(ComFault::Low { module, place });
     }
-    match first_word(member.module, member.movers) {
-        Some(place) => Some(ComFault::Words { module, place }),
-        None => None,
-    }
+    first_fixup(member)
 }
 
 /// The fault of the first module that has one.

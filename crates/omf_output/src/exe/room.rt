@@ -1,11 +1,11 @@
 //! The memory that the segments of a program take, and its stack.
 
-ghost use Rattle.std.specs.Prelude.{◌≡◌, true, ◌∷◌, ◌++◌, ◌<◌, ◌≤◌, ◌^◌, ◌+◌, List, ℕ, [], None, filter_map, fold, option_to_list, zip};
+ghost use Rattle.std.specs.Prelude.{◌≡◌, true, ◌∷◌, ◌++◌, ◌<◌, ◌≤◌, ◌^◌, ◌+◌, List, ℕ, [], None, filter_map, fold, max, min, option_to_list, zip};
 ghost use Rattle.omf_records.specs.Inner.Seen.{contents_seen, kind_seen, odd_if};
 ghost use Rattle.omf_records.specs.Values.{SegmentItem};
 ghost use Rattle.omf_check.specs.Module.{recs_of};
 ghost use Rattle.omf_check.specs.Tables.{segment_length};
-ghost use Rattle.omf_output.specs.Exe.Com.{without_stack};
+ghost use Rattle.omf_output.specs.Exe.Com.{stack_bytes, without_stack};
 ghost use Rattle.omf_output.specs.Exe.Members.{is_stack, memory_end, portion, portions, portions_in, segdefs, segdefs_in, stack};
 ghost use Rattle.omf_output.specs.Inner.Rooms.{no_room, with_portion, with_stack};
 
@@ -34,6 +34,8 @@ pub(crate) struct Room {
     pub(crate) own_end: u64,
     /// The stack, if one of them is a part of it.
     pub(crate) stack: Option<Stack>,
+    /// The bytes of the stack's segments together, at most 65,536.
+    pub(crate) stack_len: u64,
 }
 
 impl Model for Room {
@@ -41,7 +43,7 @@ impl Model for Room {
 
     ghost Value = { Rooms };
 
-    ghost view = { λ r. record { end = r.end; own_end = r.own_end; stack = r.stack } };
+    ghost view = { λ r. record { end = r.end; own_end = r.own_end; stack = r.stack; stack_len = r.stack_len } };
 }
 
 /// The length of a segment in bytes, in a SEGDEF of this width (TIS OMF 1.1, "SEGDEF", B bit).
@@ -87,6 +89,13 @@ fn with_stack(stack: Option<Stack>, frame: Frame, end: u64) -> Stack
     }
 }
 
+/// A sum with one more length, at most 65,536.
+fn with_length(sum: u64, length: u64) -> u64
+    ensures { result ≡ min (sum + length) 65536 }
+{
+    sum.saturating_add(length).min(65536)
+}
+
 impl Room {
     /// That of no segments.
     fn new() -> Room
@@ -96,6 +105,7 @@ impl Room {
             end: 0,
             own_end: 0,
             stack: None,
+            stack_len: 0,
         }
     }
 
@@ -106,7 +116,8 @@ impl Room {
         if segment.absolute.is_some() {
             return self;
         }
-        let end = u64::from(place.address) + segment_length(width, segment);
+        let length = segment_length(width, segment);
+        let end = u64::from(place.address) + length;
         let is_stack = is_stack(segment.attribute);
         let stack = if is_stack {
             Some(with_stack(self.stack, place.frame, end))
@@ -118,10 +129,16 @@ impl Room {
         } else {
             self.own_end.max(end)
         };
+        let stack_len = if is_stack {
+            with_length(self.stack_len, length)
+        } else {
+            self.stack_len
+        };
         Room {
             end: self.end.max(end),
             own_end,
             stack,
+            stack_len,
         }
     }
 }
@@ -180,6 +197,7 @@ pub(crate) fn room_of(members: &[Member<'_>]) -> Room
     ensures end { result.end ≡ memory_end (portions members.now) }
     ensures own_end { result.own_end ≡ memory_end (without_stack (portions members.now)) }
     ensures stack { result.stack ≡ stack (portions members.now) }
+    ensures stack_len { max 256 result.stack_len ≡ stack_bytes (portions members.now) }
 {
     let mut room = Room::new();
     for member in members {

@@ -6,14 +6,14 @@ ghost use Rattle.omf_check.specs.Threads.{F0, T0};
 ghost use Rattle.omf_check.specs.declared.method.FrameMethod.TheVariants.{Target as F5};
 ghost use Rattle.omf_reloc.specs.Image.{start};
 ghost use Rattle.omf_output.specs.declared.exe.com_fault.ComFault.TheVariants as com_fault;
-ghost use Rattle.omf_output.specs.Exe.Com.{com_loaded, first_low, first_word, is_low, start_fault};
+ghost use Rattle.omf_output.specs.Exe.Com.{com_loaded, counts_apart, first_fixup, first_low, is_low, stack_bytes, start_fault};
 ghost use Rattle.omf_output.specs.Exe.Exe.{exe};
 ghost use Rattle.omf_output.specs.Exe.Memory.{IsProgram, program};
 ghost use Rattle.omf_output.specs.Exe.Judged.{pieces_move};
 ghost use Rattle.omf_reloc.specs.Plain.{Fixed, pieces};
 ghost use Rattle.omf_output.specs.Exe.Loading.{loaded};
 ghost use Rattle.omf_output.specs.Exe.Moved.{moved};
-ghost use Rattle.omf_output.specs.Exe.Rows.{at_0, base_under_offset, file, fixup, loads_its_segment, numbered, numbered_records, one_of_two, place};
+ghost use Rattle.omf_output.specs.Exe.Rows.{at_0, base_under_offset, both_move, file, fixup, loads_its_segment, member_0, numbered, numbered_records, one_of_two, place, stack_portion, two_apart};
 ghost use Rattle.omf_output.specs.Exe.Overlaps.{all_words};
 ghost use Rattle.omf_reloc.specs.Inner.Pieces.{single_pieces};
 ghost use Rattle.omf_output.specs.Exe.Relocations.{moves_together, sites};
@@ -71,10 +71,18 @@ pub fn words_in_file_order()
     ensures under_fixup { all_words at_0.movers at_0.places None (numbered 0 base_under_offset) [] ≡ Err (place 2) }
 {}
 
-/// Two bytes, `int 20H`, in segment 1234H: they are at 12440H, and CS:IP is 1234H:100H. FFFFH is the last segment.
+/// Two bytes, `int 20H`, in segment 1234H: they are at 12440H, CS:IP is 1234H:100H, and SS:SP is 1234H:FFFEH. FFFFH is the last segment.
 pub fn com_file_in_a_segment()
-    ensures low { com_loaded (0xCD ∷ 0x20 ∷ []) 0x1234 ≡ record { address = 0x12440; bytes = 0xCD ∷ 0x20 ∷ []; code = (0x1234, 256) } }
-    ensures high { com_loaded (0xCD ∷ 0x20 ∷ []) 0xFFFF ≡ record { address = 0x1000F0; bytes = 0xCD ∷ 0x20 ∷ []; code = (0xFFFF, 256) } }
+    ensures low { com_loaded (0xCD ∷ 0x20 ∷ []) 0x1234 ≡ record { address = 0x12440; bytes = 0xCD ∷ 0x20 ∷ []; code = (0x1234, 256); stack = (0x1234, 0xFFFE) } }
+    ensures high { com_loaded (0xCD ∷ 0x20 ∷ []) 0xFFFF ≡ record { address = 0x1000F0; bytes = 0xCD ∷ 0x20 ∷ []; code = (0xFFFF, 256); stack = (0xFFFF, 0xFFFE) } }
+{}
+
+/// The stack of a .COM program needs 256 bytes at least, and the bytes of its segments together: 512 and 1,024 make 1,536.
+pub fn stack_of_a_com_program()
+    ensures none { stack_bytes [] ≡ 256 }
+    ensures small { stack_bytes (stack_portion 0x100 16 ∷ []) ≡ 256 }
+    ensures two { stack_bytes (stack_portion 0x100 512 ∷ stack_portion 0x300 1024 ∷ []) ≡ 1536 }
+    ensures large { stack_bytes (stack_portion 0 65536 ∷ stack_portion 0 65536 ∷ []) ≡ 65536 }
 {}
 
 /// What no .COM program has: a start that is not at 0:100H; a byte below 100H, as the data of the module that loads its own segment, which is
@@ -87,6 +95,11 @@ pub fn what_no_com_file_has()
     ensures first_byte { is_low 256 1 ≡ false }
     ensures no_byte { is_low 0 0 ≡ false }
     ensures data { first_low at_0.places (numbered_records 0 loads_its_segment) ≡ Some (place 1) }
-    ensures word { first_word at_0.movers None (numbered 0 (single_pieces loads_its_segment)) ≡ Some (place 2) }
-    ensures no_word { first_word one_of_two (Some 1) ((place 0, Fixed 0x9C ((fixup 0xC402 F5 (T0 1)).1 ∷ [])) ∷ []) ≡ None }
+    ensures word { first_fixup member_0 None (numbered 0 (single_pieces loads_its_segment)) ≡ Some (com_fault.Words 0 (place 2)) }
+    ensures no_word { first_fixup member_0 (Some 1) ((place 0, Fixed 0x9C ((fixup 0xC402 F5 (T0 1)).1 ∷ [])) ∷ []) ≡ None }
+    ensures apart { counts_apart two_apart both_move 1 (fixup 0xC402 F5 (T0 2)).1 ≡ true }
+    ensures own { counts_apart two_apart both_move 1 (fixup 0xC402 F5 (T0 1)).1 ≡ false }
+    ensures stays { counts_apart two_apart one_of_two 1 (fixup 0xC402 F5 (T0 2)).1 ≡ false }
+    ensures base { counts_apart two_apart both_move 1 (fixup 0xC802 F5 (T0 2)).1 ≡ false }
+    ensures distance { counts_apart two_apart both_move 1 (fixup 0x8402 F5 (T0 2)).1 ≡ false }
 {}
