@@ -5,8 +5,8 @@ use omf_host::About;
 /// Its name, how it is called, and what its tasks and options do. The second is that of `omf_linker::link::Link`.
 pub(crate) const ABOUT: About = About {
     name: "omf-link",
-    usage: "usage: omf-link exe -o FILE [--map FILE] [--stack SIZE] [--order dos|input] [--library-path DIR] [--no-default-libraries] [--allow twice] [--ignore-case] FILE ..
-       omf-link com -o FILE [--map FILE] [--stack SIZE] [--order dos|input] [--library-path DIR] [--no-default-libraries] [--allow twice] [--ignore-case] FILE ..
+    usage: "usage: omf-link exe -o FILE [--map FILE] [--stack SIZE] [--order dos|input] [--library-path DIR] [--no-default-libraries] [--allow KIND] [--ignore-case] FILE ..
+       omf-link com -o FILE [--map FILE] [--stack SIZE] [--order dos|input] [--library-path DIR] [--no-default-libraries] [--allow KIND] [--ignore-case] FILE ..
        omf-link image [--allow KIND] [--ignore-case] [-t TEXT] [-o FILE] [FILE ..]
        omf-link map [--ignore-case] [-t TEXT] [-o FILE] [FILE ..]
        omf-link bin --base ADDRESS --size SIZE [--fill BYTE] [--allow KIND] [--ignore-case] [-t TEXT] [-o FILE] [FILE ..]
@@ -36,7 +36,8 @@ pub(crate) const ABOUT: About = About {
   --allow KIND             image, bin, hex, srec: a warning in place of a fault where
                            the text does this: overlap, align or group; or where
                            modules define a name twice that none asks for: twice;
-                           exe, com: twice alone
+                           exe, com: group, near (a near call or jump into
+                           another frame) and twice
   --ignore-case            the case of publics, externals and communals does not
                            count; they are shown in lower case
   --base ADDRESS           bin: the address of the first byte; draft: of the first

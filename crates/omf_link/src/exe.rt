@@ -63,16 +63,21 @@ struct MadeProgram {
     bytes: Vec<u8>,
     map: Option<Vec<u8>>,
     repeated: String,
+    long: String,
+    near: String,
     lacks_stack: bool,
 }
 
-/// What is written: the program, as a .COM file or not, and its map; and whether more than one public may have a name.
+/// What is written: the program, as a .COM file or not, and its map; and whether more than one public may have a name, segments and groups may be longer
+/// than 64 KB, and near references may be into another frame.
 #[derive(Clone, Copy)]
 struct Output<'a> {
     name: &'a str,
     is_com: bool,
     map: Option<&'a str>,
     allows_twice: bool,
+    allows_long: bool,
+    allows_near: bool,
 }
 
 /// The bytes of the program of modules, and whether it lacks a stack that it is to have.
@@ -97,7 +102,13 @@ fn made(
     output: Output<'_>,
 ) -> Result<MadeProgram, Refusal> {
     let linked = modules.linked(alloc)?;
-    let (bytes, lacks_stack) = bytes_of(alloc, &linked, files, output.is_com)?;
+    let bytes = match bytes_of(alloc, &linked, files, output.is_com) {
+        Err(Refusal::Undefined(lines)) => return Err(Refusal::Undefined(lines)),
+        bytes => bytes,
+    };
+    let long = linked.long(alloc, files, output.allows_long)?;
+    let near = linked.near(alloc, files, output.allows_near)?;
+    let (bytes, lacks_stack) = bytes?;
     let map = map_of(alloc, &linked, files, output.map.is_some())?;
     let repeated = linked.repeated(alloc, files, output.allows_twice)?;
     forget(linked);
@@ -105,15 +116,22 @@ fn made(
         bytes,
         map,
         repeated,
+        long,
+        near,
         lacks_stack,
     })
 }
 
 /// Prints the warnings of a program on the standard error.
 fn warn(rt: &HostRuntime, made: &MadeProgram) {
-    if !made.repeated.is_empty() {
-        let lines = made.repeated.as_str();
-        let _ = eprint!(rt; "{lines}");
+    for lines in [
+        made.repeated.as_str(),
+        made.long.as_str(),
+        made.near.as_str(),
+    ] {
+        if !lines.is_empty() {
+            let _ = eprint!(rt; "{lines}");
+        }
     }
     if made.lacks_stack {
         let _ = eprint!(rt; "{NO_STACK}");
@@ -186,6 +204,8 @@ pub fn on_words<K: Sink>(
         is_com,
         map: options.map,
         allows_twice: options.allows_twice,
+        allows_long: options.allows_long,
+        allows_near: options.allows_near,
     };
     with_options(rt, &asked, &options, output, writer)
 }

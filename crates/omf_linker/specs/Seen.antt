@@ -1,4 +1,5 @@
 pub mod Overlaps
+pub mod Long
 pub mod Lying
 pub mod Wide
 pub mod Unseen

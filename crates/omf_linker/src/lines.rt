@@ -18,6 +18,7 @@ use omf_frame::{Name, Place};
 use omf_layout::printing::print_quoted;
 use omf_linking::locator::entry_name;
 use omf_linking::space::Owner;
+use omf_output::near::Stray;
 use omf_reloc::{Cause, Kind, ReachFault};
 use std::alloc::{AllocError, Global};
 use std::fmt::Write;
@@ -122,6 +123,25 @@ pub(crate) fn put_part(
     put_own(text, named.labels, module)?;
     put_spot(text, named.modules, module, spot, place.number)?;
     text.push_str(what)
+}
+
+/// Appends the line of a near reference into another frame.
+pub(crate) fn put_stray(
+    text: &mut String,
+    named: Labeled<'_>,
+    stray: Stray,
+) -> Result<(), AllocError> {
+    text.push_str("near: ")?;
+    put_part(text, named, stray.module, stray.place, ":")?;
+    let name = match named.modules.get(stray.module as usize) {
+        Some(module) => external_at(module, stray.place),
+        None => None,
+    };
+    match name {
+        Some(_) => put_after(text, name)?,
+        None => text.push_str(" its target")?,
+    }
+    text.push_str(" is in another frame\n")
 }
 
 /// The line of an external whose address is too high.

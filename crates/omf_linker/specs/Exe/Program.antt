@@ -1,5 +1,5 @@
 -- The DOS program of modules (this profile's rule): they are laid out from address 0 on in real mode, and their externals are derived from their publics.
-use Rattle.std.specs.Prelude.{◌≡◌, ◌⊎◌, ⊤, ℕ, ◌+◌, ◌≤◌, List, [], ◌∷◌, Bool, Some, None, Ok, Err, is_some, length}
+use Rattle.std.specs.Prelude.{◌≡◌, ◌⊎◌, ⊤, ℕ, ◌+◌, ◌≤◌, List, [], ◌∷◌, Bool, Option, Some, None, Ok, Err, is_some, length}
 use Rattle.omf_check.specs.Module.{Module, typed_modules}
 use Rattle.omf_placement.specs.declared.several.fault.DeriveFault.{DeriveFault}
 use Rattle.omf_placement.specs.declared.several.given.Given.{Given}
@@ -14,7 +14,7 @@ use Rattle.omf_layout.specs.Several.Laying.{laid}
 use Rattle.omf_layout.specs.Several.Placing.{arranged_places}
 use Rattle.omf_output.specs.declared.exe.com_fault.ComFault.{ComFault}
 use Rattle.omf_output.specs.declared.exe.fault.ExeFault.{ExeFault}
-use Rattle.omf_output.specs.Exe.Com.{IsComFault, after_prefix, com_bytes, com_fault, com_loaded}
+use Rattle.omf_output.specs.Exe.Com.{IsComFault, after_prefix, com_bytes, com_fault, com_loaded, stack_bytes}
 use Rattle.omf_output.specs.Exe.Derived.{AreMovers, IsMoversFault}
 use Rattle.omf_output.specs.Exe.Exe.{exe}
 use Rattle.omf_output.specs.Exe.Linked.{IsExeFault, linked, linked_at}
@@ -27,6 +27,10 @@ use Rattle.omf_linker.specs.declared.exe.fault.ComProgramFault.{ComProgramFault}
 use Rattle.omf_linker.specs.declared.exe.fault.ComProgramFault.TheVariants as no_com
 use Rattle.omf_linker.specs.declared.exe.fault.PlacingFault.{PlacingFault}
 use Rattle.omf_linker.specs.declared.exe.fault.PlacingFault.TheVariants as no_place
+use Rattle.omf_output.specs.Near.{first_near}
+use Rattle.omf_output.specs.declared.near.Stray.{Stray}
+use Rattle.omf_linker.specs.Seen.Long.{first_long}
+use Rattle.omf_linker.specs.declared.seen.wide.FarMember.{FarMember}
 use Rattle.omf_linker.specs.declared.exe.fault.ProgramFault.{ProgramFault}
 use Rattle.omf_linker.specs.declared.exe.fault.ProgramFault.TheVariants as fault
 
@@ -73,6 +77,20 @@ pub record IsProgramOf (ms : List Module) (bytes : List ℕ) (has_stack : Bool) 
   pub loads : (k : ℕ) → loaded bytes k ≡ linked_at k members
   pub stack : has_stack ≡ is_some (stack (portions members))
 
+-- The first segment, or else the first member of a group, that ends too far from its frame, with the modules at the places of their program.
+pub record IsLongOf (ms : List Module) (found : Option FarMember) : Type 0 where
+  pub places : List Places
+  pub laid : AreLaid ms places
+  pub first : found ≡ first_long (placed_modules ms places)
+
+-- The first near reference into another frame, with the modules at the placements of their program.
+pub record IsNearOf (ms : List Module) (found : Option Stray) : Type 0 where
+  pub places : List Places
+  pub placements : List Places
+  pub laid : AreLaid ms places
+  pub derived : derived (placed_modules ms places) (weak_of ms places) ≡ Ok placements
+  pub first : found ≡ first_near ms placements
+
 -- The map of a program: that of its modules at their placements.
 pub record IsMapOf (ms : List Module) (text : List ℕ) : Type 0 where
   pub places : List Places
@@ -107,13 +125,13 @@ IsPlacingFault ms (no_place.External f) = IsExternalFault ms f
 -- ---- .COM programs
 
 -- The bytes of the .COM program. What DOS makes of them in segment k, for every k, is what these modules are at their placements moved by k paragraphs, from
--- offset 100H on. No byte of the modules is below 100H, and they end in the segment.
+-- offset 100H on. No byte of the modules is below 100H, and they end with room for the stack before the word at FFFEH.
 pub record IsComOf (ms : List Module) (bytes : List ℕ) : Type 0 where
   pub members : List Member
   pub made : AreMade ms members
   pub file : bytes ≡ com_bytes members
   pub loads : (k : ℕ) → com_loaded bytes k ≡ after_prefix (linked_at k members)
-  pub short : length bytes ≤ 65280
+  pub short : length bytes + (256 + stack_bytes (portions members)) ≤ 65534
   pub none : com_fault members ≡ None
 
 -- Why modules are no .COM program: they have no places; or, at their places, they have a fault.

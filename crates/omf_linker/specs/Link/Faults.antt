@@ -95,8 +95,8 @@ report fault.Write = record { status = 3; text = [] }
 -- The usage.
 abbrev pub usage : List ℕ
 usage = flat_map (λ line. line ++ 10 ∷ [])
-    (codes "usage: omf-link exe -o FILE [--map FILE] [--stack SIZE] [--order dos|input] [--library-path DIR] [--no-default-libraries] [--allow twice] [--ignore-case] FILE .."
-    ∷ codes "       omf-link com -o FILE [--map FILE] [--stack SIZE] [--order dos|input] [--library-path DIR] [--no-default-libraries] [--allow twice] [--ignore-case] FILE .."
+    (codes "usage: omf-link exe -o FILE [--map FILE] [--stack SIZE] [--order dos|input] [--library-path DIR] [--no-default-libraries] [--allow KIND] [--ignore-case] FILE .."
+    ∷ codes "       omf-link com -o FILE [--map FILE] [--stack SIZE] [--order dos|input] [--library-path DIR] [--no-default-libraries] [--allow KIND] [--ignore-case] FILE .."
     ∷ codes "       omf-link image [--allow KIND] [--ignore-case] [-t TEXT] [-o FILE] [FILE ..]"
     ∷ codes "       omf-link map [--ignore-case] [-t TEXT] [-o FILE] [FILE ..]"
     ∷ codes "       omf-link bin --base ADDRESS --size SIZE [--fill BYTE] [--allow KIND] [--ignore-case] [-t TEXT] [-o FILE] [FILE ..]"

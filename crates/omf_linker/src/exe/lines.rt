@@ -4,8 +4,9 @@ use crate::exe::fault::{ComProgramFault, PlacingFault, ProgramFault};
 use crate::exe::input::Origin;
 use crate::exe::ordering::OrderingFault;
 use crate::exe::sharing::SharingFault;
-use crate::lines::{Labeled, high_line, put_part, reach_line, starts_line};
+use crate::lines::{Labeled, high_line, put_part, put_stray, reach_line, starts_line};
 use crate::link::{InputFile, put_own, repeated_text, unresolved_text};
+use crate::seen::{FarMember, Finding, put_line};
 use omf_check::Checked;
 use omf_cmd::{RunFault, fault_line};
 use omf_frame::Place;
@@ -13,13 +14,19 @@ use omf_layout::own::{CommunalReason, CommunalsFault, OrderFault};
 use omf_layout::printing::print_quoted;
 use omf_library::LibraryFault;
 use omf_output::exe::{ComFault, ExeFault, FarAddress};
+use omf_output::near::Stray;
 use omf_placement::DeriveFault;
 use omf_records::Rec;
+use omf_reloc::{Cause, ReachFault};
 use std::alloc::{AllocError, Global};
 use std::fmt::Write;
 
 /// The line of segments that end too high.
 const TOO_HIGH: &str = "the program ends after 1048576";
+
+/// What is wrong with an offset in a frame that is not the segment of a .COM file.
+const OTHER_FRAME: &str =
+    ": counts from another frame: a .COM file has one segment, put code and data in one group";
 
 /// A program's modules with their origins, and the files.
 #[derive(Clone, Copy)]
@@ -96,6 +103,38 @@ impl<'a> Origins<'a> {
         }
         let labels = self.labels(alloc)?;
         repeated_text(alloc, &labels, self.modules)
+    }
+
+    /// The line of a segment, or of a member of a group, that ends too far from its frame; empty if there is none.
+    pub(crate) fn long_line(
+        &self,
+        alloc: Global,
+        found: Option<FarMember>,
+    ) -> Result<String, AllocError> {
+        let mut text = String::new(alloc);
+        if let Some(far) = found {
+            let labels = self.labels(alloc)?;
+            put_line(&mut text, &labels, self.modules, Finding::Group(far))?;
+        }
+        Ok(text)
+    }
+
+    /// The line of a near reference into another frame; empty if there is none.
+    pub(crate) fn near_line(
+        &self,
+        alloc: Global,
+        found: Option<Stray>,
+    ) -> Result<String, AllocError> {
+        let mut text = String::new(alloc);
+        if let Some(stray) = found {
+            let labels = self.labels(alloc)?;
+            let named = Labeled {
+                labels: &labels,
+                modules: self.modules,
+            };
+            put_stray(&mut text, named, stray)?;
+        }
+        Ok(text)
     }
 
     /// The lines of a program's fault.
@@ -198,11 +237,36 @@ fn external_lines(
     }
 }
 
+/// The line of a module that does not reach. A location that is not in the frame of its target is one of a near reference into another frame.
+fn far_line(
+    alloc: Global,
+    named: Labeled<'_>,
+    module: u32,
+    fault: ReachFault,
+) -> Result<String, AllocError> {
+    let ReachFault::TooFar {
+        number,
+        within,
+        cause: Cause::Location,
+    } = fault
+    else {
+        return reach_line(alloc, named, module, fault);
+    };
+    let place = Place {
+        number,
+        start: 0,
+        within,
+    };
+    let mut text = String::new(alloc);
+    put_stray(&mut text, named, Stray { module, place })?;
+    Ok(text)
+}
+
 /// The line of a fault of the modules at their placements.
 fn exe_line(alloc: Global, named: Labeled<'_>, fault: ExeFault) -> Result<String, AllocError> {
     match fault {
         ExeFault::Memory => line(alloc, "memory"),
-        ExeFault::Reach { module, fault } => reach_line(alloc, named, module, fault),
+        ExeFault::Reach { module, fault } => far_line(alloc, named, module, fault),
         ExeFault::Movers { module } => module_line(alloc, named, module, " movers"),
         ExeFault::Stays { module, place } => {
             part_line(
@@ -238,6 +302,16 @@ fn start_line(alloc: Global, start: FarAddress) -> Result<String, AllocError> {
     Ok(text)
 }
 
+/// The line of a program that has no room in the segment of a .COM file.
+fn long_line(alloc: Global, end: u64, stack: u64) -> Result<String, AllocError> {
+    let mut text = String::new(alloc);
+    write!(
+        text,
+        "the program ends at {end}, and its stack needs {stack} bytes: a .COM file has room up to 65534\n"
+    )?;
+    Ok(text)
+}
+
 /// The line of a fault of the modules of a .COM program at their placements.
 fn com_line(alloc: Global, named: Labeled<'_>, fault: ComFault) -> Result<String, AllocError> {
     match fault {
@@ -262,12 +336,8 @@ fn com_line(alloc: Global, named: Labeled<'_>, fault: ComFault) -> Result<String
                 ": a .COM file has no relocation words",
             )
         }
-        ComFault::TooLong => {
-            line(
-                alloc,
-                "the program ends after 65536, where the segment of a .COM file ends",
-            )
-        }
+        ComFault::Frame { module, place } => part_line(alloc, named, module, place, OTHER_FRAME),
+        ComFault::TooLong { end, stack } => long_line(alloc, end, stack),
     }
 }
 

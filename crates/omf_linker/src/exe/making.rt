@@ -6,14 +6,16 @@ ghost use Rattle.omf_output.specs.Exe.Derived.{AreMovers};
 ghost use Rattle.omf_placement.specs.Derive.{placed_modules};
 ghost use Rattle.omf_placement.specs.Inner.Derived.{derived};
 ghost use Rattle.omf_placement.specs.Inner.Linkage.{IsLinkage};
-ghost use Rattle.omf_linker.specs.Exe.Program.{AreLaid, AreMade, IsComOf, IsComProgramFault, IsExternalFault, IsMapOf, IsPlacingFault, IsProgramFault, IsProgramOf, members_from, weak_of};
+ghost use Rattle.omf_linker.specs.Exe.Program.{AreLaid, AreMade, IsComOf, IsComProgramFault, IsExternalFault, IsLongOf, IsMapOf, IsNearOf, IsPlacingFault, IsProgramFault, IsProgramOf, members_from, weak_of};
 
 use crate::exe::fault::{ComProgramFault, PlacingFault, ProgramFault};
 use crate::map::map_text;
+use crate::seen::{FarMember, first_long};
 use omf_check::Checked;
 use omf_layout::several::place_segments;
 use omf_layout::{Frames, LayoutFault, Options};
 use omf_output::exe::{ExeFault, ExeFile, Member, Movers, link_com, link_exe, movers_of};
+use omf_output::near::{Stray, first_near};
 use omf_placement::{DeriveFault, Linkage, Placement, derive_linked, with_weak_linked};
 use std::alloc::{AllocError, Global};
 
@@ -206,6 +208,47 @@ pub fn com_linked(
     };
     let members = members_of(alloc, modules, &settled.placements, &settled.movers)?;
     com_file_of(alloc, modules, &members)
+}
+
+/// The first segment, or else the first member of a group, that ends too far from its frame, with modules at the places of their program.
+///
+/// # Errors
+///
+/// `NoRoom` if a segment does not end below 2^20. `Memory` if memory runs out.
+pub fn long_of(alloc: Global, modules: &[Checked]) -> Result<Option<FarMember>, PlacingFault>
+    requires { length modules.now < 2 ^ 32 }
+    ensures found { IfOk result (IsLongOf modules.now) }
+    ensures fault { IfErr result (IsPlacingFault modules.now) }
+{
+    let places = places_of(alloc, modules)?;
+    Ok(first_long(modules, &places))
+}
+
+/// The first near reference into another frame, with modules at the placements of their program, as `first_near` has it.
+///
+/// # Errors
+///
+/// `NoRoom` if a segment does not end below 2^20; otherwise `External` for the first external without a place. `Memory` if memory runs out.
+pub fn near_linked(
+    alloc: Global,
+    linkage: &Linkage,
+    modules: &[Checked],
+) -> Result<Option<Stray>, PlacingFault>
+    requires few { length modules.now < 2 ^ 32 }
+    requires linked { IsLinkage (typed_modules modules.now) linkage.now }
+    ensures found { IfOk result (IsNearOf modules.now) }
+    ensures fault { IfErr result (IsPlacingFault modules.now) }
+{
+    let places = places_of(alloc, modules)?;
+    let settled = match settle(alloc, linkage, modules, places) {
+        Ok(settled) => settled,
+        Err(DeriveFault::Memory) => return Err(PlacingFault::Memory),
+        Err(fault) => return Err(PlacingFault::External(fault)),
+    };
+    match first_near(alloc, modules, &settled.placements) {
+        Ok(found) => Ok(found),
+        Err(AllocError) => Err(PlacingFault::Memory),
+    }
 }
 
 /// The map of modules at the places of their program, as `map_text` prints it.

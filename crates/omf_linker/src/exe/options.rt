@@ -37,6 +37,10 @@ pub struct ExeOptions<'a> {
     pub order: Option<Order>,
     /// Whether several publics may have one name, if no external has it.
     pub allows_twice: bool,
+    /// Whether 16-bit segments and groups may be longer than 64 KB.
+    pub allows_long: bool,
+    /// Whether near references may be into another frame.
+    pub allows_near: bool,
 }
 
 /// The size of a stack: a decimal number from 1 to 65534.
@@ -71,16 +75,22 @@ impl<'a> ExeOptions<'a> {
             stack: None,
             order: None,
             allows_twice: false,
+            allows_long: false,
+            allows_near: false,
         }
     }
 
     /// Allows what a value names. Returns false if that is none of what a program may do, or if it is allowed already.
     fn allow(&mut self, kind: &str) -> bool {
-        if self.allows_twice || kind != "twice" {
-            return false;
-        }
-        self.allows_twice = true;
-        true
+        let slot = match kind {
+            "twice" => &mut self.allows_twice,
+            "group" => &mut self.allows_long,
+            "near" => &mut self.allows_near,
+            _ => return false,
+        };
+        let is_new = !*slot;
+        *slot = true;
+        is_new
     }
 
     /// Takes an option without a value. Returns false if it is none.

@@ -17,7 +17,7 @@ use crate::exe::input::{Input, Origin};
 use crate::exe::joining::{join_needed, move_all, take_into};
 use crate::exe::lines::Origins;
 use crate::exe::listing::modules_text;
-use crate::exe::making::{com_linked, map_linked, program_linked};
+use crate::exe::making::{com_linked, long_of, map_linked, near_linked, program_linked};
 use crate::exe::options::ExeOptions;
 use crate::exe::ordering::{order_of, with_front};
 use crate::exe::refusal::Refusal;
@@ -108,6 +108,15 @@ pub fn order_modules(alloc: Global, modules: Vec<Checked>) -> Result<Vec<Checked
     match with_front(alloc, order, modules) {
         Ok(all) => Ok(all),
         Err(AllocError) => Err(memory()),
+    }
+}
+
+/// Lines that are allowed, or that are none; else the refusal with them.
+fn allowed(lines: String, is_allowed: bool) -> Result<String, Refusal> {
+    if is_allowed || lines.is_empty() {
+        Ok(lines)
+    } else {
+        Err(Refusal::Line(lines.into_bytes()))
     }
 }
 
@@ -329,11 +338,62 @@ impl<'a> LinkedModules<'a> {
         let Ok(lines) = self.program.origins(files).repeated_lines(alloc) else {
             return Err(memory());
         };
-        if is_allowed || lines.is_empty() {
-            Ok(lines)
-        } else {
-            Err(Refusal::Line(lines.into_bytes()))
+        allowed(lines, is_allowed)
+    }
+
+    /// The line of the first segment, or else of the first member of a group, that ends more than 65,536 bytes after the base of its frame; empty
+    /// if there is none. No 16-bit offset reaches its end.
+    ///
+    /// # Errors
+    ///
+    /// The line, if there is one and it is not allowed; the fault of `long_of`; or out of memory.
+    pub fn long(
+        &self,
+        alloc: Global,
+        files: &[InputFile],
+        is_allowed: bool,
+    ) -> Result<String, Refusal> {
+        let program = self.program;
+        if program.modules.len() > u32::MAX as usize {
+            return Err(memory());
         }
+        let found = match long_of(alloc, &program.modules) {
+            Ok(found) => found,
+            Err(fault) => {
+                return Err(program.com_refused(alloc, files, ComProgramFault::Placing(fault)));
+            }
+        };
+        let Ok(line) = program.origins(files).long_line(alloc, found) else {
+            return Err(memory());
+        };
+        allowed(line, is_allowed)
+    }
+
+    /// The line of the first near reference into another frame; empty if there is none.
+    ///
+    /// # Errors
+    ///
+    /// The line, if there is one and it is not allowed; the fault of `near_linked`; or out of memory.
+    pub fn near(
+        &self,
+        alloc: Global,
+        files: &[InputFile],
+        is_allowed: bool,
+    ) -> Result<String, Refusal> {
+        let program = self.program;
+        if program.modules.len() > u32::MAX as usize {
+            return Err(memory());
+        }
+        let found = match near_linked(alloc, &self.linkage, &program.modules) {
+            Ok(found) => found,
+            Err(fault) => {
+                return Err(program.com_refused(alloc, files, ComProgramFault::Placing(fault)));
+            }
+        };
+        let Ok(line) = program.origins(files).near_line(alloc, found) else {
+            return Err(memory());
+        };
+        allowed(line, is_allowed)
     }
 
     /// The map of the program: a line for each module, and the map of the modules at the places of the program.

@@ -72,7 +72,7 @@ fn put_group(
     }
 }
 
-/// Appends the line of a member of a group that ends too far from the group's frame, but for its line feed.
+/// Appends the line of a segment that ends too far from its frame, or from that of its group if it has one, but for its line feed.
 fn put_far_member(
     text: &mut String,
     labels: &[String],
@@ -80,15 +80,23 @@ fn put_far_member(
     far: FarMember,
 ) -> Result<(), AllocError> {
     put_module(text, labels, far.module)?;
-    put_group(text, modules, far.module, far.group)?;
-    write!(text, " frame {:08X},", far.base)?;
+    if far.group > 0 {
+        put_group(text, modules, far.module, far.group)?;
+        write!(text, " frame {:08X},", far.base)?;
+    }
     let owner = Owner {
         module: far.module,
         segment: far.segment,
     };
     put_segment(text, modules, owner)?;
+    if far.group == 0 {
+        write!(text, " frame {:08X}", far.base)?;
+    }
     let end = far.end.min(u128::from(u64::MAX)) as u64;
-    write!(text, " ends at {end:08X}")
+    let over = end
+        .saturating_sub(u64::from(far.base))
+        .saturating_sub(65_536);
+    write!(text, " ends at {end:08X}, {over} bytes too far")
 }
 
 /// Appends a segment and its addresses, from the first to the last.

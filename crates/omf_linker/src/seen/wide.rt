@@ -46,7 +46,7 @@ struct Part<'a> {
 }
 
 /// Returns a member at its place, if it ends too far from the frame of its group.
-fn wide_if(
+pub(crate) fn wide_if(
     found: FarMember,
     frame: Frame,
     place: Placed,

@@ -10,17 +10,33 @@ use std::alloc::Global;
 const ONE: &str =
     "80030001413B 960600000154015300 98070028020102010100 A00600010001CD2000 8A0700C1000101000100";
 
-/// The same with a stack of 65,535 bytes.
+/// The same with a stack of 1,024 bytes.
 const STACK: &str =
+    "80030001413B 960600000154015300 98070028020102010100 98070074000403010100 A00600010001CD2000 8A0700C1000101000100";
+
+/// The same with a stack of 65,535 bytes.
+const LARGE_STACK: &str =
     "80030001413B 960600000154015300 98070028020102010100 98070074FFFF03010100 A00600010001CD2000 8A0700C1000101000100";
 
-/// The same with 65,278 bytes after it, which no data record gives: they end at 65,536.
+/// The same with 65,020 bytes after it, which no data record gives: they end at 65,278, and 256 bytes of stack at 65,534.
 const FULL: &str =
-    "80030001413B 960600000154015300 98070028020102010100 98070028FEFE03010100 A00600010001CD2000 8A0700C1000101000100";
+    "80030001413B 960600000154015300 98070028020102010100 98070028FCFD03010100 A00600010001CD2000 8A0700C1000101000100";
 
-/// The same with 65,279 bytes.
+/// The same with 65,021 bytes.
 const LONG: &str =
-    "80030001413B 960600000154015300 98070028020102010100 98070028FFFE03010100 A00600010001CD2000 8A0700C1000101000100";
+    "80030001413B 960600000154015300 98070028020102010100 98070028FDFD03010100 A00600010001CD2000 8A0700C1000101000100";
+
+/// The same with 65,020 bytes and a stack of 257.
+const FULL_STACK: &str =
+    "80030001413B 960600000154015300 98070028020102010100 98070028FCFD03010100 98070074010103010100 A00600010001CD2000 8A0700C1000101000100";
+
+/// A main module: `mov dx, m` and `int 20H` at 100H of the segment T, with m in the segment S, which is in no group with T.
+const APART: &str =
+    "80030001413B 960600000154015300 98070028050102010100 98070068010003010100 A00900010001BA0000CD2000 9C0500C401540200 A0050002000024008A0700C1000101000100";
+
+/// The same with a displacement of `mov dx, m - $`: self-relative, from any frame.
+const NEAR: &str =
+    "80030001413B 960600000154015300 98070028050102010100 98070068010003010100 A00900010001E80000CD2000 9C05008401540200 A0050002000024008A0700C1000101000100";
 
 /// A main module: `call f` at 100H of the segment T, which is public.
 const CALLS: &str =
@@ -49,17 +65,22 @@ struct Case {
     line: &'static str,
 }
 
-static CASES: [Case; 9] = [
+static CASES: [Case; 13] = [
     Case {
         files: &[("one.obj", ONE)],
         program: "CD20",
         line: "",
     },
-    // The stack takes no room, and is not stored.
+    // The stack is not stored, and has its room at the end of the segment.
     Case {
         files: &[("stack.obj", STACK)],
         program: "CD20",
         line: "",
+    },
+    Case {
+        files: &[("large.obj", LARGE_STACK)],
+        program: "",
+        line: "the program ends at 258, and its stack needs 65535 bytes: a .COM file has room up to 65534\n",
     },
     Case {
         files: &[("full.obj", FULL)],
@@ -69,7 +90,23 @@ static CASES: [Case; 9] = [
     Case {
         files: &[("long.obj", LONG)],
         program: "",
-        line: "the program ends after 65536, where the segment of a .COM file ends\n",
+        line: "the program ends at 65279, and its stack needs 256 bytes: a .COM file has room up to 65534\n",
+    },
+    Case {
+        files: &[("full.obj", FULL_STACK)],
+        program: "",
+        line: "the program ends at 65278, and its stack needs 257 bytes: a .COM file has room up to 65534\n",
+    },
+    Case {
+        files: &[("apart.obj", APART)],
+        program: "",
+        line: "file \"apart.obj\" module 1 segment \"T\" offset 00000101: counts from another frame: a .COM file has one segment, put code and data in one group\n",
+    },
+    // From 103H to 110H, where S is.
+    Case {
+        files: &[("near.obj", NEAR)],
+        program: "E80D00CD20000000000000000000000024",
+        line: "",
     },
     // Only the second member takes part: its byte is at 103H, right after the call.
     Case {

@@ -17,6 +17,8 @@ struct Read {
     stack: Option<u16>,
     order: Option<Order>,
     allows_twice: bool,
+    allows_long: bool,
+    allows_near: bool,
 }
 
 /// No options.
@@ -28,12 +30,14 @@ const NONE: Read = Read {
     stack: None,
     order: None,
     allows_twice: false,
+    allows_long: false,
+    allows_near: false,
 };
 
 /// Arguments, separated by spaces, and the options that they give.
 type Case = (&'static str, Option<Read>);
 
-static CASES: [Case; 26] = [
+static CASES: [Case; 30] = [
     ("", Some(NONE)),
     (
         "--map a.map",
@@ -94,6 +98,28 @@ static CASES: [Case; 26] = [
         }),
     ),
     (
+        "--allow group",
+        Some(Read {
+            allows_long: true,
+            ..NONE
+        }),
+    ),
+    (
+        "--allow near",
+        Some(Read {
+            allows_near: true,
+            ..NONE
+        }),
+    ),
+    (
+        "--allow group --allow twice",
+        Some(Read {
+            allows_twice: true,
+            allows_long: true,
+            ..NONE
+        }),
+    ),
+    (
         "--map a.map --allow twice --order dos",
         Some(Read {
             map: Some("a.map"),
@@ -116,6 +142,7 @@ static CASES: [Case; 26] = [
     ("--allow overlap", None),
     ("--allow TWICE", None),
     ("--allow twice --allow twice", None),
+    ("--allow group --allow group", None),
     ("--map a --map b", None),
     ("--stack 1 --stack 1", None),
     ("--base 0", None),
@@ -141,6 +168,8 @@ fn are_read(options: &ExeOptions<'_>, read: &Read) -> bool {
         && options.stack == read.stack
         && options.order == read.order
         && options.allows_twice == read.allows_twice
+        && options.allows_long == read.allows_long
+        && options.allows_near == read.allows_near
 }
 
 /// Whether arguments give the options of a case.

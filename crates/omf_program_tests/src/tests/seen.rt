@@ -225,7 +225,7 @@ static CASES: [Case; 20] = [
         modules: [DATA, GROUP],
         text: "M #1\nS #1 7C00 0 0\nM #2\nS #1 1FFFD 10000 1000\nG #1 10000 1000",
         allowed: NOTHING,
-        faults: "group: file \"b.obj\" module 1 \"G\" frame 00010000, segment \"T\" ends at 00020001\n",
+        faults: "group: file \"b.obj\" module 1 \"G\" frame 00010000, segment \"T\" ends at 00020001, 1 bytes too far\n",
         warnings: "",
     },
     Case {

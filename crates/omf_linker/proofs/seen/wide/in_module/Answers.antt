@@ -8,7 +8,8 @@ use Rattle.omf_placement.specs.Derive.{PlacedModule}
 use Rattle.omf_records.specs.Values.{GroupItem}
 use Rattle.omf_linker.specs.Seen.Wide.{wide_in_group}
 use Rattle.omf_linker.proofs.MapLaws.{none_left}
-use Rattle.omf_linker.proofs.WideLaws.{first_found, first_later, first_none, entry_there}
+use Rattle.omf_linker.proofs.WideLaws.{first_found, first_later, first_none}
+use Rattle.omf_output.proofs.Steps.{entry_there}
 use Rattle.omf_linker.proofs.seen.wide.in_module.Goals as goal
 
 pub loop-before-init : goal.loop-before-init

@@ -1,0 +1,15 @@
+use Rattle.std.proofs.Common.{◌∙◌, ap, length}
+use Rattle.omf_placement.specs.Derive.{placed_modules}
+use Rattle.omf_linker.specs.Seen.Long.{first_long}
+use Rattle.omf_linker.proofs.ExeLaws.{laid-many}
+use Rattle.omf_linker.proofs.exe.making.long_of.Goals as goal
+
+pub first_long-requires-placed : goal.first_long-requires-placed
+first_long-requires-placed c = ap length c.deref.ensures.value ∙ laid-many c.args.modules.now c.in_ok-places.places.items c.in_ok-places.ensures.laid
+
+pub returns-clause-found : goal.returns-clause-found
+returns-clause-found c = record {
+  places = c.in_ok-places.places.items;
+  laid = c.in_ok-places.ensures.laid;
+  first = c.first_long.ensures ∙ ap (λ pls. first_long (placed_modules c.args.modules.now pls)) c.deref.ensures.value;
+}
