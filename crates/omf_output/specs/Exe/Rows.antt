@@ -1,6 +1,6 @@
 -- Words of the worked examples.
-use Rattle.std.specs.Prelude.{ℕ, ◌+◌, List, [], ◌∷◌, true, false, Some, None}
-use Rattle.omf_records.specs.Values.{At, Rec, Segment, Plain, Fixups, ModEnd, Fixup, SegmentItem}
+use Rattle.std.specs.Prelude.{ℕ, ◌+◌, List, [], ◌∷◌, ◌++◌, true, false, Some, None}
+use Rattle.omf_records.specs.Values.{At, Rec, Segment, Group, Plain, Fixups, ModEnd, Fixup, SegmentItem}
 use Rattle.omf_check.specs.declared.method.FrameMethod.{FrameMethod}
 use Rattle.omf_check.specs.declared.method.TargetMethod.{TargetMethod}
 use Rattle.omf_placement.specs.declared.frame.Placed.{Placed}
@@ -57,6 +57,16 @@ two_apart = record { segments = placed_at 0 0 0 ∷ placed_at 0x40 0x40 4 ∷ []
 -- The module that loads its own segment, as a member of a program; only its placement and what moves count.
 abbrev pub member_0 : Member
 member_0 = record { number = 0; bytes = []; places = at_0.places; movers = at_0.movers }
+
+-- Two segments of 16 bytes, at 0 and at 40H, each in a frame of its own; and the same with a group of both, whose frame begins at 0.
+abbrev pub two_segments : List Rec
+two_segments = record { kind = 0x98; contents = Segment segment_of_4 } ∷ record { kind = 0x98; contents = Segment segment_of_4 } ∷ []
+
+abbrev pub in_a_group : List Rec
+in_a_group = two_segments ++ record { kind = 0x9A; contents = Group (record { name = at 3 1; members = at 4 (at 5 1) ∷ at 6 (at 7 2) ∷ [] }) } ∷ []
+
+abbrev pub two_apart_grouped : Places
+two_apart_grouped = record { segments = two_apart.segments; groups = record { base = 0; selector = 0 } ∷ []; externals = [] }
 
 -- A segment of the stack, from an address on.
 abbrev pub stack_portion : ℕ → ℕ → Portion

@@ -13,7 +13,8 @@ ghost use Rattle.omf_output.specs.Exe.Judged.{pieces_move};
 ghost use Rattle.omf_reloc.specs.Plain.{Fixed, pieces};
 ghost use Rattle.omf_output.specs.Exe.Loading.{loaded};
 ghost use Rattle.omf_output.specs.Exe.Moved.{moved};
-ghost use Rattle.omf_output.specs.Exe.Rows.{at_0, base_under_offset, both_move, file, fixup, loads_its_segment, member_0, numbered, numbered_records, one_of_two, place, stack_portion, two_apart};
+ghost use Rattle.omf_output.specs.Exe.Rows.{at_0, base_under_offset, both_move, file, fixup, in_a_group, loads_its_segment, member_0, numbered, numbered_records, one_of_two, place, stack_portion, two_apart, two_apart_grouped, two_segments};
+ghost use Rattle.omf_output.specs.Near.{group_of, strays};
 ghost use Rattle.omf_output.specs.Exe.Overlaps.{all_words};
 ghost use Rattle.omf_reloc.specs.Inner.Pieces.{single_pieces};
 ghost use Rattle.omf_output.specs.Exe.Relocations.{moves_together, sites};
@@ -83,6 +84,18 @@ pub fn stack_of_a_com_program()
     ensures small { stack_bytes (stack_portion 0x100 16 ∷ []) ≡ 256 }
     ensures two { stack_bytes (stack_portion 0x100 512 ∷ stack_portion 0x300 1024 ∷ []) ≡ 1536 }
     ensures large { stack_bytes (stack_portion 0 65536 ∷ stack_portion 0 65536 ∷ []) ≡ 65536 }
+{}
+
+/// A near reference of a location in segment 2, at 40H, to segment 1, at 0, is into another frame, unless a group has both; the reverse is not. A far
+/// one, and one of 32 bits, is no near reference.
+pub fn near_references()
+    ensures back { strays (two_segments, two_apart) 2 (fixup 0x8401 F5 (T0 1)) ≡ true }
+    ensures forth { strays (two_segments, two_apart) 1 (fixup 0x8401 F5 (T0 2)) ≡ false }
+    ensures grouped { strays (in_a_group, two_apart_grouped) 2 (fixup 0x8401 F5 (T0 1)) ≡ false }
+    ensures far { strays (two_segments, two_apart) 2 (fixup 0xC401 F5 (T0 1)) ≡ false }
+    ensures wide { strays (two_segments, two_apart) 2 (fixup 0xA401 F5 (T0 1)) ≡ false }
+    ensures group { group_of in_a_group 2 ≡ Some 1 }
+    ensures alone { group_of two_segments 2 ≡ None }
 {}
 
 /// What no .COM program has: a start that is not at 0:100H; a byte below 100H, as the data of the module that loads its own segment, which is
