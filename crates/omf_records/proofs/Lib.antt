@@ -10,6 +10,7 @@ pub mod DirectLaws
 pub mod PassingLaws
 pub mod DirectFixupLaws
 pub mod RoomLaws
+pub mod OwnLaws
 pub mod Heads
 pub mod LaidOut
 pub mod ReasonLaws

@@ -43,6 +43,12 @@ fn is_within(high: u8, low: u8, len: usize) -> bool
     usize::from(u16::from(high % 4) * 256 + u16::from(low) + u16::from(room)) <= len
 }
 
+/// The upper halves of the fix data bytes with a frame method of their own (F0, F1, F2, F4, F5), and the lower halves of those with a
+/// target method of their own (T0, T1, T2, with a displacement or without), bit by bit.
+const OWN_FRAMES: u32 = 0x37;
+
+const OWN_TARGETS: u32 = 0x77;
+
 /// Whether a fix data byte is valid and names no thread.
 #[inline(always)]
 pub(crate) fn is_own(fix: u8) -> bool
@@ -50,11 +56,10 @@ pub(crate) fn is_own(fix: u8) -> bool
     ensures frame { result ≡ true → frame_by_thread fix ≡ false }
     ensures target { result ≡ true → target_by_thread fix ≡ false }
 {
-    if fix / 128 % 2 == 1 || fix / 8 % 2 == 1 {
+    if (OWN_FRAMES >> (fix / 16)) % 2 == 0 {
         return false;
     }
-    let frame = fix / 16 % 8;
-    fix % 4 != 3 && (frame < 3 || frame == 4 || frame == 5)
+    (OWN_TARGETS >> (fix % 16)) % 2 == 1
 }
 
 /// Whether an index is that of an entry of a table of `count` entries.
