@@ -43,10 +43,10 @@ fn is_within(high: u8, low: u8, len: usize) -> bool
     usize::from(u16::from(high % 4) * 256 + u16::from(low) + u16::from(room)) <= len
 }
 
-/// The upper halves of the fix data bytes with a frame method of their own (F0, F1, F2, F4, F5), and the lower halves of those with a
-/// target method of their own (T0, T1, T2, with a displacement or without), bit by bit.
+/// The upper halves of the fix data bytes with a frame method of their own (F0, F1, F2, F4, F5), bit by bit.
 const OWN_FRAMES: u32 = 0x37;
 
+/// The lower halves of the fix data bytes with a target method of their own (T0, T1, T2, with a displacement or without), bit by bit.
 const OWN_TARGETS: u32 = 0x77;
 
 /// Whether a fix data byte is valid and names no thread.
@@ -137,21 +137,13 @@ fn pass_fixup<'a>(here: Here<'a>, counts: &[usize; 4], len: usize) -> Option<Her
     }
 }
 
-/// `pass_fixup` near the end of a record.
-#[inline(never)]
-fn pass_last<'a>(here: Here<'a>, counts: &[usize; 4], len: usize) -> Option<Here<'a>>
-    ensures { IfSome result (Passes (IsSound counts.now len) here.entry.wide ((subrecord_reader here.entry.wide).read here.entry.within here.entry.bytes.now)) }
-{
-    pass_fixup(here, counts, len)
-}
-
-/// `pass_fixup`, in a form of its own where the longest FIXUP fits: there the compiler leaves out the tests whether a field is there.
+/// `pass_fixup`, compiled twice: where the longest FIXUP fits, the tests whether a field is there are left out.
 #[inline(always)]
 fn pass_next<'a>(here: Here<'a>, counts: &[usize; 4], len: usize) -> Option<Here<'a>>
     ensures { IfSome result (Passes (IsSound counts.now len) here.entry.wide ((subrecord_reader here.entry.wide).read here.entry.within here.entry.bytes.now)) }
 {
     if here.bytes().len() < FIXUP_LIMIT {
-        return pass_last(here, counts, len);
+        return pass_fixup(here, counts, len);
     }
     pass_fixup(here, counts, len)
 }
