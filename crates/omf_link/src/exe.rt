@@ -108,6 +108,9 @@ fn made(
     };
     let long = linked.long(alloc, files, output.allows_long)?;
     let near = linked.near(alloc, files, output.allows_near)?;
+    if !output.is_com {
+        linked.stack_is_alone(alloc, files)?;
+    }
     let (bytes, lacks_stack) = bytes?;
     let map = map_of(alloc, &linked, files, output.map.is_some())?;
     let repeated = linked.repeated(alloc, files, output.allows_twice)?;

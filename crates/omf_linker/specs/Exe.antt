@@ -4,3 +4,4 @@ pub mod Program
 pub mod Taken
 pub mod Sharing
 pub mod Ordering
+pub mod Adding

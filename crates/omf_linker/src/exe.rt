@@ -24,7 +24,9 @@ pub use fault::{ComProgramFault, PlacingFault, ProgramFault};
 pub(crate) use input::is_library;
 pub(crate) use joining::move_all;
 pub use joining::{Joined, join_needed};
-pub use making::{com_linked, long_of, map_linked, near_linked, program_linked, program_of};
+pub use making::{
+    between_of, com_linked, long_of, map_linked, near_linked, program_linked, program_of,
+};
 pub use options::{ExeOptions, Order};
 pub use ordering::{OrderingFault, order_of};
 pub use program::{

@@ -16,7 +16,7 @@ pub use allowed::{Allowed, allowed_in};
 pub use files::{Request, SeenLines, SeenText, files_seen, input_seen, is_looked_at};
 pub use finding::{Finding, Range, first_misaligned, unseen};
 pub use folded::{files_folded, input_folded};
-pub(crate) use lines::put_line;
+pub(crate) use lines::{put_line, put_range};
 pub use long::first_long;
 pub use span::{Sharing, Span};
 pub use spans::spans_of;

@@ -30,6 +30,7 @@ pub mod FlagLaws
 pub mod LinkedLaws
 pub mod RegisterLaws
 pub mod RoomLaws
+pub mod StackLaws
 pub mod StartLaws
 pub mod Steps
 pub mod MovedWords

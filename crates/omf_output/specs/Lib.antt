@@ -1,4 +1,5 @@
 pub mod Rom
 pub mod Exe
 pub mod Near
+pub mod Stacks
 pub mod Inner

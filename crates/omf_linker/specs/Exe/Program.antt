@@ -28,6 +28,8 @@ use Rattle.omf_linker.specs.declared.exe.fault.ComProgramFault.TheVariants as no
 use Rattle.omf_linker.specs.declared.exe.fault.PlacingFault.{PlacingFault}
 use Rattle.omf_linker.specs.declared.exe.fault.PlacingFault.TheVariants as no_place
 use Rattle.omf_output.specs.Near.{first_near}
+use Rattle.omf_output.specs.Stacks.{first_between}
+use Rattle.omf_output.specs.declared.stacks.Interval.{Interval}
 use Rattle.omf_output.specs.declared.near.Stray.{Stray}
 use Rattle.omf_linker.specs.Seen.Long.{first_long}
 use Rattle.omf_linker.specs.declared.seen.wide.FarMember.{FarMember}
@@ -82,6 +84,12 @@ pub record IsLongOf (ms : List Module) (found : Option FarMember) : Type 0 where
   pub places : List Places
   pub laid : AreLaid ms places
   pub first : found ≡ first_long (placed_modules ms places)
+
+-- The first segment between the parts of the stack, with the modules at the places of their program.
+pub record IsBetweenOf (ms : List Module) (found : Option Interval) : Type 0 where
+  pub places : List Places
+  pub laid : AreLaid ms places
+  pub first : found ≡ first_between (placed_modules ms places)
 
 -- The first near reference into another frame, with the modules at the placements of their program.
 pub record IsNearOf (ms : List Module) (found : Option Stray) : Type 0 where

@@ -6,15 +6,17 @@ use crate::exe::ordering::OrderingFault;
 use crate::exe::sharing::SharingFault;
 use crate::lines::{Labeled, high_line, put_part, put_stray, reach_line, starts_line};
 use crate::link::{InputFile, put_own, repeated_text, unresolved_text};
-use crate::seen::{FarMember, Finding, put_line};
+use crate::seen::{FarMember, Finding, Range, put_line, put_range};
 use omf_check::Checked;
 use omf_cmd::{RunFault, fault_line};
 use omf_frame::Place;
 use omf_layout::own::{CommunalReason, CommunalsFault, OrderFault};
 use omf_layout::printing::print_quoted;
 use omf_library::LibraryFault;
+use omf_linking::space::Owner;
 use omf_output::exe::{ComFault, ExeFault, FarAddress};
 use omf_output::near::Stray;
+use omf_output::stacks::Interval;
 use omf_placement::DeriveFault;
 use omf_records::Rec;
 use omf_reloc::{Cause, ReachFault};
@@ -105,35 +107,33 @@ impl<'a> Origins<'a> {
         repeated_text(alloc, &labels, self.modules)
     }
 
-    /// The line of a segment, or of a member of a group, that ends too far from its frame; empty if there is none.
-    pub(crate) fn long_line(
-        &self,
-        alloc: Global,
-        found: Option<FarMember>,
-    ) -> Result<String, AllocError> {
+    /// The line of a segment, or of a member of a group, that ends too far from its frame.
+    pub(crate) fn long_line(&self, alloc: Global, far: FarMember) -> Result<String, AllocError> {
+        let labels = self.labels(alloc)?;
         let mut text = String::new(alloc);
-        if let Some(far) = found {
-            let labels = self.labels(alloc)?;
-            put_line(&mut text, &labels, self.modules, Finding::Group(far))?;
-        }
+        put_line(&mut text, &labels, self.modules, Finding::Group(far))?;
         Ok(text)
     }
 
-    /// The line of a near reference into another frame; empty if there is none.
-    pub(crate) fn near_line(
-        &self,
-        alloc: Global,
-        found: Option<Stray>,
-    ) -> Result<String, AllocError> {
+    /// The line of a segment between the parts of the stack.
+    pub(crate) fn stack_line(&self, alloc: Global, found: Interval) -> Result<Vec<u8>, AllocError> {
+        let labels = self.labels(alloc)?;
         let mut text = String::new(alloc);
-        if let Some(stray) = found {
-            let labels = self.labels(alloc)?;
-            let named = Labeled {
-                labels: &labels,
-                modules: self.modules,
-            };
-            put_stray(&mut text, named, stray)?;
-        }
+        text.push_str("stack: ")?;
+        put_range(&mut text, &labels, self.modules, range_of(found))?;
+        text.push_str(" is between its parts\n")?;
+        Ok(text.into_bytes())
+    }
+
+    /// The line of a near reference into another frame.
+    pub(crate) fn near_line(&self, alloc: Global, stray: Stray) -> Result<String, AllocError> {
+        let labels = self.labels(alloc)?;
+        let named = Labeled {
+            labels: &labels,
+            modules: self.modules,
+        };
+        let mut text = String::new(alloc);
+        put_stray(&mut text, named, stray)?;
         Ok(text)
     }
 
@@ -177,6 +177,18 @@ impl<'a> Origins<'a> {
             ComProgramFault::Modules(fault) => com_line(alloc, named, fault)?,
         };
         Ok(lines.into_bytes())
+    }
+}
+
+/// A segment and its addresses, as lines show them.
+fn range_of(found: Interval) -> Range {
+    Range {
+        owner: Owner {
+            module: found.module,
+            segment: found.segment,
+        },
+        first: found.first.min(u128::from(u32::MAX)) as u32,
+        end: found.end,
     }
 }
 

@@ -6,7 +6,7 @@ ghost use Rattle.omf_output.specs.Exe.Derived.{AreMovers};
 ghost use Rattle.omf_placement.specs.Derive.{placed_modules};
 ghost use Rattle.omf_placement.specs.Inner.Derived.{derived};
 ghost use Rattle.omf_placement.specs.Inner.Linkage.{IsLinkage};
-ghost use Rattle.omf_linker.specs.Exe.Program.{AreLaid, AreMade, IsComOf, IsComProgramFault, IsExternalFault, IsLongOf, IsMapOf, IsNearOf, IsPlacingFault, IsProgramFault, IsProgramOf, members_from, weak_of};
+ghost use Rattle.omf_linker.specs.Exe.Program.{AreLaid, AreMade, IsBetweenOf, IsComOf, IsComProgramFault, IsExternalFault, IsLongOf, IsMapOf, IsNearOf, IsPlacingFault, IsProgramFault, IsProgramOf, members_from, weak_of};
 
 use crate::exe::fault::{ComProgramFault, PlacingFault, ProgramFault};
 use crate::map::map_text;
@@ -16,6 +16,7 @@ use omf_layout::several::place_segments;
 use omf_layout::{Frames, LayoutFault, Options};
 use omf_output::exe::{ExeFault, ExeFile, Member, Movers, link_com, link_exe, movers_of};
 use omf_output::near::{Stray, first_near};
+use omf_output::stacks::{Interval, first_between};
 use omf_placement::{DeriveFault, Linkage, Placement, derive_linked, with_weak_linked};
 use std::alloc::{AllocError, Global};
 
@@ -222,6 +223,23 @@ pub fn long_of(alloc: Global, modules: &[Checked]) -> Result<Option<FarMember>, 
 {
     let places = places_of(alloc, modules)?;
     Ok(first_long(modules, &places))
+}
+
+/// The first segment between the parts of the stack, with modules at the places of their program.
+///
+/// # Errors
+///
+/// `NoRoom` if a segment does not end below 2^20. `Memory` if memory runs out.
+pub fn between_of(alloc: Global, modules: &[Checked]) -> Result<Option<Interval>, PlacingFault>
+    requires { length modules.now < 2 ^ 32 }
+    ensures found { IfOk result (IsBetweenOf modules.now) }
+    ensures fault { IfErr result (IsPlacingFault modules.now) }
+{
+    let places = places_of(alloc, modules)?;
+    match first_between(alloc, modules, &places) {
+        Ok(found) => Ok(found),
+        Err(AllocError) => Err(PlacingFault::Memory),
+    }
 }
 
 /// The first near reference into another frame, with modules at the placements of their program, as `first_near` has it.

@@ -1,12 +1,14 @@
 //! The modules of a program, and what is made of them: its file and its map.
 
-ghost use Rattle.std.specs.Prelude.{◌≡◌, IfOk, List};
+ghost use Rattle.std.specs.Prelude.{⊥, ◌≡◌, ◌++◌, ℕ, IfOk, List, None, false, string_bytes};
 ghost use Rattle.omf_linking.specs.File.{InputFile as FileModel};
 ghost use Rattle.std.specs.List.{AllZip};
 ghost use Rattle.omf_check.specs.Module.{Module};
 ghost use Rattle.omf_linking.specs.Folded.{IsFolded};
+ghost use Rattle.omf_linker.specs.Exe.Adding.{AreAdded};
 ghost use Rattle.omf_linker.specs.Exe.Input.{AllGive, AreOfFiles, AreOfFolded};
 ghost use Rattle.omf_linker.specs.Exe.Ordering.{AreOrdered};
+ghost use Rattle.omf_linker.specs.Exe.Program.{IsBetweenOf, IsComOf, IsLongOf, IsMapOf, IsNearOf, IsProgramOf};
 ghost use Rattle.omf_linker.specs.Exe.Sharing.{AreShared};
 
 use crate::exe::added::{is_dos_ordered, stack_of};
@@ -17,7 +19,9 @@ use crate::exe::input::{Input, Origin};
 use crate::exe::joining::{join_needed, move_all, take_into};
 use crate::exe::lines::Origins;
 use crate::exe::listing::modules_text;
-use crate::exe::making::{com_linked, long_of, map_linked, near_linked, program_linked};
+use crate::exe::making::{
+    between_of, com_linked, long_of, map_linked, near_linked, program_linked,
+};
 use crate::exe::options::ExeOptions;
 use crate::exe::ordering::{order_of, with_front};
 use crate::exe::refusal::Refusal;
@@ -111,12 +115,14 @@ pub fn order_modules(alloc: Global, modules: Vec<Checked>) -> Result<Vec<Checked
     }
 }
 
-/// Lines that are allowed, or that are none; else the refusal with them.
-fn allowed(lines: String, is_allowed: bool) -> Result<String, Refusal> {
-    if is_allowed || lines.is_empty() {
-        Ok(lines)
-    } else {
-        Err(Refusal::Line(lines.into_bytes()))
+/// Lines that are allowed; else the refusal with them.
+fn allowed(lines: Result<String, AllocError>, is_allowed: bool) -> Result<String, Refusal>
+    ensures { is_allowed ≡ false → IfOk result (λ _. ⊥) }
+{
+    match lines {
+        Ok(lines) if is_allowed => Ok(lines),
+        Ok(lines) => Err(Refusal::Line(lines.into_bytes())),
+        Err(AllocError) => Err(memory()),
     }
 }
 
@@ -170,7 +176,9 @@ impl ProgramModules {
     }
 
     /// The modules, and before them the module that puts them in DOS order.
-    fn in_dos_order(self, alloc: Global) -> Result<ProgramModules, Refusal> {
+    fn in_dos_order(self, alloc: Global) -> Result<ProgramModules, Refusal>
+        ensures { IfOk result (λ p. AreOrdered self.modules p.modules) }
+    {
         let ProgramModules { modules, from } = self;
         let modules = order_modules(alloc, modules)?;
         match with_front(alloc, None, from) {
@@ -189,16 +197,18 @@ impl ProgramModules {
         self,
         alloc: Global,
         options: &ExeOptions<'_>,
-    ) -> Result<ProgramModules, Refusal> {
+    ) -> Result<ProgramModules, Refusal>
+        ensures { IfOk result (λ p. AreAdded options.now.stack options.now.order self.modules p.modules) }
+    {
         let ProgramModules { modules, from } = self;
         let shared = share_communals(alloc, modules)?;
-        let Ok(stack) = stack_of(alloc, options) else {
+        let Ok(stack) = stack_of(alloc, options.stack) else {
             return Err(memory());
         };
         let Ok(modules) = with_added(shared, stack) else {
             return Err(memory());
         };
-        let is_ordered = is_dos_ordered(&modules, options);
+        let is_ordered = is_dos_ordered(&modules, options.order);
         let all = ProgramModules { modules, from };
         if is_ordered {
             all.in_dos_order(alloc)
@@ -293,7 +303,9 @@ impl<'a> LinkedModules<'a> {
     /// # Errors
     ///
     /// The fault of `program_linked`, as lines.
-    pub fn exe(&self, alloc: Global, files: &[InputFile]) -> Result<ExeFile, Refusal> {
+    pub fn exe(&self, alloc: Global, files: &[InputFile]) -> Result<ExeFile, Refusal>
+        ensures { IfOk result (λ e. IsProgramOf self.now.modules e.bytes.items e.has_stack) }
+    {
         let program = self.program;
         if program.modules.len() > u32::MAX as usize {
             return Err(memory());
@@ -309,7 +321,9 @@ impl<'a> LinkedModules<'a> {
     /// # Errors
     ///
     /// The fault of `com_linked`, as lines.
-    pub fn com(&self, alloc: Global, files: &[InputFile]) -> Result<Vec<u8>, Refusal> {
+    pub fn com(&self, alloc: Global, files: &[InputFile]) -> Result<Vec<u8>, Refusal>
+        ensures { IfOk result (λ v. IsComOf self.now.modules v.items) }
+    {
         let program = self.program;
         if program.modules.len() > u32::MAX as usize {
             return Err(memory());
@@ -338,7 +352,10 @@ impl<'a> LinkedModules<'a> {
         let Ok(lines) = self.program.origins(files).repeated_lines(alloc) else {
             return Err(memory());
         };
-        allowed(lines, is_allowed)
+        if lines.is_empty() {
+            return Ok(lines);
+        }
+        allowed(Ok(lines), is_allowed)
     }
 
     /// The line of the first segment, or else of the first member of a group, that ends more than 65,536 bytes after the base of its frame; empty
@@ -352,7 +369,9 @@ impl<'a> LinkedModules<'a> {
         alloc: Global,
         files: &[InputFile],
         is_allowed: bool,
-    ) -> Result<String, Refusal> {
+    ) -> Result<String, Refusal>
+        ensures { is_allowed ≡ false → IfOk result (λ _. IsLongOf self.now.modules None) }
+    {
         let program = self.program;
         if program.modules.len() > u32::MAX as usize {
             return Err(memory());
@@ -363,10 +382,31 @@ impl<'a> LinkedModules<'a> {
                 return Err(program.com_refused(alloc, files, ComProgramFault::Placing(fault)));
             }
         };
-        let Ok(line) = program.origins(files).long_line(alloc, found) else {
+        match found {
+            Some(far) => allowed(program.origins(files).long_line(alloc, far), is_allowed),
+            None => Ok(String::new(alloc)),
+        }
+    }
+
+    /// Looks whether a segment is between the parts of the stack.
+    ///
+    /// # Errors
+    ///
+    /// The line of the first such segment; the fault of `between_of`; or out of memory.
+    pub fn stack_is_alone(&self, alloc: Global, files: &[InputFile]) -> Result<(), Refusal>
+        ensures { IfOk result (λ _. IsBetweenOf self.now.modules None) }
+    {
+        let program = self.program;
+        if program.modules.len() > u32::MAX as usize {
             return Err(memory());
-        };
-        allowed(line, is_allowed)
+        }
+        match between_of(alloc, &program.modules) {
+            Ok(None) => Ok(()),
+            Ok(Some(found)) => Err(in_line(program.origins(files).stack_line(alloc, found))),
+            Err(fault) => {
+                Err(program.com_refused(alloc, files, ComProgramFault::Placing(fault)))
+            }
+        }
     }
 
     /// The line of the first near reference into another frame; empty if there is none.
@@ -379,7 +419,9 @@ impl<'a> LinkedModules<'a> {
         alloc: Global,
         files: &[InputFile],
         is_allowed: bool,
-    ) -> Result<String, Refusal> {
+    ) -> Result<String, Refusal>
+        ensures { is_allowed ≡ false → IfOk result (λ _. IsNearOf self.now.modules None) }
+    {
         let program = self.program;
         if program.modules.len() > u32::MAX as usize {
             return Err(memory());
@@ -390,10 +432,10 @@ impl<'a> LinkedModules<'a> {
                 return Err(program.com_refused(alloc, files, ComProgramFault::Placing(fault)));
             }
         };
-        let Ok(line) = program.origins(files).near_line(alloc, found) else {
-            return Err(memory());
-        };
-        allowed(line, is_allowed)
+        match found {
+            Some(stray) => allowed(program.origins(files).near_line(alloc, stray), is_allowed),
+            None => Ok(String::new(alloc)),
+        }
     }
 
     /// The map of the program: a line for each module, and the map of the modules at the places of the program.
@@ -401,7 +443,9 @@ impl<'a> LinkedModules<'a> {
     /// # Errors
     ///
     /// The fault of `map_linked`, as lines.
-    pub fn map(&self, alloc: Global, files: &[InputFile]) -> Result<Vec<u8>, Refusal> {
+    pub fn map(&self, alloc: Global, files: &[InputFile]) -> Result<Vec<u8>, Refusal>
+        ensures { IfOk result (λ v. (front : List ℕ) × (text : List ℕ) × (v.items ≡ front ++ text) × IsMapOf self.now.modules text) }
+    {
         let program = self.program;
         if program.modules.len() > u32::MAX as usize {
             return Err(memory());
@@ -419,7 +463,9 @@ impl<'a> LinkedModules<'a> {
     }
 
     /// The lines of the modules, and a map after them.
-    fn listed(&self, alloc: Global, files: &[InputFile], map: &str) -> Result<String, AllocError> {
+    fn listed(&self, alloc: Global, files: &[InputFile], map: &str) -> Result<String, AllocError>
+        ensures { IfOk result (λ text. (front : List ℕ) × (string_bytes text ≡ front ++ map.now)) }
+    {
         let mut text = modules_text(alloc, self.program.origins(files))?;
         text.push_str(map)?;
         Ok(text)

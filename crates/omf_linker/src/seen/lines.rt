@@ -100,7 +100,7 @@ fn put_far_member(
 }
 
 /// Appends a segment and its addresses, from the first to the last.
-fn put_range(
+pub(crate) fn put_range(
     text: &mut String,
     labels: &[String],
     modules: &[Checked],
