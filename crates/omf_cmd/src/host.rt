@@ -12,8 +12,9 @@ use std::env;
 use std::io::{BufReader, ErrorKind, StdinLock, Write};
 use std::process::ExitCode;
 
-/// The number of bytes read from the standard input at once.
-const PIECE: usize = 65_536;
+/// The number of bytes read from the standard input at once: 31 pages, so that most records of 65,000 bytes are in one piece, and glibc gives the
+/// memory without a mapping of its own.
+const PIECE: usize = 126_976;
 
 /// The arguments of the process, the program's own name first; empty if one of them is not UTF-8.
 fn arguments_of(rt: &HostRuntime) -> Result<Vec<String>, AllocError> {
