@@ -1,7 +1,7 @@
 //! Files by name: reading, and writing of whole files.
 
 use std::alloc::AllocError;
-use std::fs::File;
+use std::fs::{File, Metadata};
 use std::io::{Read, Write};
 use std::{fs, io};
 
@@ -33,10 +33,23 @@ pub enum Written {
     Failed(io::Error),
 }
 
-/// Writes a file under a name that is not there yet. An error leaves no such file.
-fn fill_new(rt: &HostRuntime, path: &str, bytes: &[u8]) -> io::Result<()> {
+/// Gives a file the mode of another one, if there is one, and then its bytes.
+fn fill(file: &mut File, bytes: &[u8], like: Option<&Metadata>) -> io::Result<()> {
+    if let Some(like) = like {
+        file.set_permissions(like.permissions())?;
+    }
+    file.write_all(bytes)
+}
+
+/// Writes a file under a name that is not there yet, with the mode of another one, if there is one. An error leaves no such file.
+pub(crate) fn fill_new(
+    rt: &HostRuntime,
+    path: &str,
+    bytes: &[u8],
+    like: Option<&Metadata>,
+) -> io::Result<()> {
     let mut file = File::create_new(rt, path)?;
-    match file.write_all(bytes) {
+    match fill(&mut file, bytes, like) {
         Ok(()) => Ok(()),
         Err(error) => {
             let _ = fs::remove_file(rt, path);
@@ -56,7 +69,7 @@ pub fn write_whole(
     bytes: &[u8],
 ) -> Result<io::Result<()>, AllocError> {
     let beside = format!(in rt.alloc(); "{path}.tmp")?;
-    if let Err(error) = fill_new(rt, beside.as_str(), bytes) {
+    if let Err(error) = fill_new(rt, beside.as_str(), bytes, None) {
         return Ok(Err(error));
     }
     let renamed = fs::rename(rt, beside.as_str(), path);
@@ -73,11 +86,14 @@ fn is_there(rt: &HostRuntime, path: &str) -> bool {
 
 /// Moves a file to a name that is not there. Links never replace a file; where the file system has none, the name is
 /// looked up before the move.
-fn move_new(rt: &HostRuntime, from: &str, to: &str) -> Written {
+pub(crate) fn move_new(rt: &HostRuntime, from: &str, to: &str) -> Written {
     match fs::hard_link(rt, from, to) {
         Ok(()) => match fs::remove_file(rt, from) {
             Ok(()) => Written::Whole,
-            Err(error) => Written::Failed(error),
+            Err(error) => {
+                let _ = fs::remove_file(rt, to);
+                Written::Failed(error)
+            }
         },
         Err(_) if is_there(rt, to) => Written::IsThere,
         Err(_) => match fs::rename(rt, from, to) {
@@ -98,7 +114,7 @@ pub fn write_new(rt: &HostRuntime, path: &str, bytes: &[u8]) -> Result<Written, 
         return Ok(Written::IsThere);
     }
     let beside = format!(in rt.alloc(); "{path}.tmp")?;
-    if let Err(error) = fill_new(rt, beside.as_str(), bytes) {
+    if let Err(error) = fill_new(rt, beside.as_str(), bytes, None) {
         return Ok(Written::Failed(error));
     }
     let written = move_new(rt, beside.as_str(), path);

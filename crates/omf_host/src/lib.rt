@@ -15,6 +15,7 @@
 //! ```
 #![tactic(auto)]
 
+mod clash;
 mod digits;
 mod ending;
 mod files;
@@ -22,9 +23,13 @@ mod lines;
 mod misuse;
 mod output;
 mod question;
+pub mod rows;
+mod spot;
 mod text;
 mod words;
+mod writing;
 
+pub use clash::{RunFiles, refuse_clash};
 pub use ending::Status;
 pub use files::{Written, read_input, write_new, write_whole};
 pub use lines::{put_failure, put_title, put_unread, put_unwritten};
@@ -33,3 +38,4 @@ pub use output::{end, misused, out_of_memory, put};
 pub use question::{Question, answer, question_in};
 pub use text::{is_plain, put_byte, put_decimal, put_eight, put_four, put_name, put_quoted};
 pub use words::{arguments, program_and_arguments};
+pub use writing::{OutputFile, Unwritten, write_outputs};

@@ -1,0 +1,30 @@
+//! Worked examples, each evaluated by the check.
+
+ghost use Rattle.std.specs.Prelude.{◌≡◌, [], ◌∷◌, ◌++◌, codes, true, false, None, Some};
+ghost use Rattle.omf_host.specs.Spots.{clash_line, first_clash, is_one_file};
+ghost use Rattle.omf_host.specs.declared.clash.Clash.TheVariants as clashes;
+ghost use Rattle.omf_host.specs.declared.spot.Spot.TheVariants as spot;
+
+/// One inode of one device is one file; another inode or another device is not. The standard output is one with itself alone, and what writing does not
+/// destroy not even with that.
+pub fn names_of_one_file()
+    ensures same { is_one_file (spot.There (record { device = 1; inode = 2 })) (spot.There (record { device = 1; inode = 2 })) ≡ true }
+    ensures device { is_one_file (spot.There (record { device = 1; inode = 2 })) (spot.There (record { device = 3; inode = 2 })) ≡ false }
+    ensures inode { is_one_file (spot.There (record { device = 1; inode = 2 })) (spot.There (record { device = 1; inode = 1 })) ≡ false }
+    ensures output { is_one_file spot.Output spot.Output ≡ true }
+    ensures elsewhere { is_one_file spot.Elsewhere spot.Elsewhere ≡ false }
+{}
+
+/// Of two inputs neither is an output; the first output is one, and then it does not matter what the second is; the second is one; both outputs are one file.
+pub fn outputs_refused()
+    ensures none { first_clash (spot.There (record { device = 1; inode = 1 }) ∷ spot.There (record { device = 1; inode = 2 }) ∷ []) (spot.There (record { device = 1; inode = 3 })) (Some spot.Output) ≡ None }
+    ensures first { first_clash (spot.There (record { device = 1; inode = 1 }) ∷ spot.There (record { device = 1; inode = 2 }) ∷ []) (spot.There (record { device = 1; inode = 2 })) (Some (spot.There (record { device = 1; inode = 2 }))) ≡ Some clashes.FirstIsRead }
+    ensures second { first_clash (spot.There (record { device = 1; inode = 1 }) ∷ []) spot.Output (Some (spot.There (record { device = 1; inode = 1 }))) ≡ Some clashes.SecondIsRead }
+    ensures one { first_clash (spot.Elsewhere ∷ []) (spot.There (record { device = 1; inode = 1 })) (Some (spot.There (record { device = 1; inode = 1 }))) ≡ Some clashes.AreOne }
+{}
+
+/// The lines on an output that is an input, and on two outputs of one name.
+pub fn lines_on_outputs()
+    ensures input { clash_line (codes "omf-link") (codes "a.obj") clashes.FirstIsRead ≡ codes "omf-link: \"a.obj\" is an input and an output" ++ 10 ∷ [] }
+    ensures both { clash_line (codes "omf-link") (codes "a.exe") clashes.AreOne ≡ codes "omf-link: \"a.exe\" is two outputs" ++ 10 ∷ [] }
+{}
