@@ -2,14 +2,12 @@
 
 ghost use Rattle.std.specs.Prelude.{◌≡◌, ℕ, List, [], ◌∷◌, ◌++◌, IfOk, OnOk, flat_map, map};
 ghost use Rattle.omf_check.specs.Module.{recs_of};
-ghost use Rattle.omf_records.specs.Inner.Seen.{contents_seen};
 ghost use Rattle.omf_library.specs.Defaults.{asked, asked_by, asked_in, once};
 ghost use Rattle.omf_library.specs.Inner.Asked.{HasAsked};
 ghost use Rattle.omf_library.specs.Inner.Names.{names_seen};
 
 use omf_check::{Checked, Undecoded};
 use omf_names::NameKey;
-use omf_records::Rec;
 use std::alloc::{AllocError, Global};
 use std::collections::BTreeMap;
 
@@ -39,52 +37,25 @@ impl<'a> Asked<'a> {
     }
 }
 
-/// Adds the name that a record asks for, if it does.
-fn push_record<'a>(names: &mut Vec<&'a [u8]>, rec: &Rec<'a>) -> Result<(), AllocError>
-    ensures { OnOk result (names_seen names.new.items ≡ names_seen names.old.items ++ asked_in (contents_seen rec.now)) }
+/// Adds the name that a record asks for, if it does. No record but a comment is decoded.
+fn push_record<'a>(names: &mut Vec<&'a [u8]>, rec: &Undecoded<'a>) -> Result<(), AllocError>
+    ensures { OnOk result (names_seen names.new.items ≡ names_seen names.old.items ++ asked_in rec.now.contents) }
 {
-    match rec {
-        Rec::Comment { class, text, .. } => {
-            if *class == DEFAULT_LIBRARY {
-                names.push(*text)?;
-            }
-            Ok(())
-        }
-        Rec::Header { .. }
-        | Rec::Names(_)
-        | Rec::Segment { .. }
-        | Rec::Group { .. }
-        | Rec::Externs(_)
-        | Rec::Publics { .. }
-        | Rec::Communals(_)
-        | Rec::Plain { .. }
-        | Rec::Iterated { .. }
-        | Rec::Fixups { .. }
-        | Rec::ModEnd { .. }
-        | Rec::LocalNames(_)
-        | Rec::LocalExterns { .. }
-        | Rec::LocalPublics { .. }
-        | Rec::LocalCommunals(_)
-        | Rec::Carried { .. } => Ok(()),
+    let Some(comment) = rec.as_comment() else {
+        return Ok(());
+    };
+    if comment.class == DEFAULT_LIBRARY {
+        names.push(comment.text)?;
     }
-}
-
-/// The same for a record that is not decoded yet. It is decoded only if it is a comment.
-fn push_undecoded<'a>(names: &mut Vec<&'a [u8]>, record: &Undecoded<'a>) -> Result<(), AllocError>
-    ensures { OnOk result (names_seen names.new.items ≡ names_seen names.old.items ++ asked_in «record».now.contents) }
-{
-    match record.comment() {
-        Some(rec) => push_record(names, &rec),
-        None => Ok(()),
-    }
+    Ok(())
 }
 
 /// Adds the names that a module asks for.
 fn push_module<'a>(names: &mut Vec<&'a [u8]>, module: &'a Checked) -> Result<(), AllocError>
     ensures { OnOk result (names_seen names.new.items ≡ names_seen names.old.items ++ asked_by (recs_of «module».entry.now.bytes)) }
 {
-    for (_, record) in module.undecoded() {
-        push_undecoded(names, &record)?;
+    for (_, rec) in module.undecoded() {
+        push_record(names, &rec)?;
     }
     Ok(())
 }

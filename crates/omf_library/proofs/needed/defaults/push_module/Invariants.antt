@@ -6,5 +6,5 @@ use Rattle.omf_library.specs.Inner.Names.{names_seen}
 use Rattle.omf_library.proofs.needed.defaults.push_module.Given as goal
 
 -- the names so far and those of the records to come are all
-abbrev pub invariant-loop-record : goal.invariant-loop-record
-invariant-loop-record l = names_seen l.names.items ++ flat_map (λ x. asked_in x.1.contents) l.record-iterator ≡ names_seen l.fn.names.items ++ asked_by (recs_of l.«module».bytes)
+abbrev pub invariant-loop-rec : goal.invariant-loop-rec
+invariant-loop-rec l = names_seen l.names.items ++ flat_map (λ x. asked_in x.1.contents) l.rec-iterator ≡ names_seen l.fn.names.items ++ asked_by (recs_of l.«module».bytes)

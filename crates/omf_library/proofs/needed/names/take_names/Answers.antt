@@ -6,8 +6,8 @@ use Rattle.omf_library.specs.Inner.Names.{names_by, names_seen}
 use Rattle.omf_library.proofs.ListedNames.{listed-all}
 use Rattle.omf_library.proofs.needed.names.take_names.Goals as goal
 
-pub loop-record-init : goal.loop-record-init
-loop-record-init c =
-    ap (λ ns. names_seen ns ++ flat_map (λ x. shared_of (names_by c.args.side) x.1.kind x.1.contents) c.into_iter-record-iterator.result) c.clear.ensures.items
-    ∙ ap (flat_map (λ x. shared_of (names_by c.args.side) x.1.kind x.1.contents)) (c.into_iter-record-iterator.ensures.into_iter_gives ∙ c.undecoded-record-items.ensures.listed)
+pub loop-rec-init : goal.loop-rec-init
+loop-rec-init c =
+    ap (λ ns. names_seen ns ++ flat_map (λ x. shared_of (names_by c.args.side) x.1.kind x.1.contents) c.into_iter-rec-iterator.result) c.clear.ensures.items
+    ∙ ap (flat_map (λ x. shared_of (names_by c.args.side) x.1.kind x.1.contents)) (c.into_iter-rec-iterator.ensures.into_iter_gives ∙ c.undecoded-rec-items.ensures.listed)
     ∙ listed-all (λ r. shared_of (names_by c.args.side) r.kind r.contents) 0 0 (records_in c.args.«module».now.bytes)
