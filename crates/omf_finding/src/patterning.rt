@@ -1,7 +1,7 @@
 //! Patterns: what is known of a module's image before it is placed.
 
 ghost use Rattle.std.specs.Prelude.{◌≡◌, ◌+◌, ◌^◌, ◌≤◌, ℕ, [], ◌∷◌, OnOk, IfOk, IfSome, None, Some, option_map, replicate, vec_len};
-ghost use Rattle.omf_records.specs.Inner.Seen.{odd_if, kind_seen, contents_seen};
+ghost use Rattle.omf_records.specs.Inner.Seen.{odd_if};
 ghost use Rattle.omf_records.specs.Values.{width};
 ghost use Rattle.omf_image.specs.Inner.Expanding.{expanded};
 ghost use Rattle.omf_image.specs.Limits.{profile_limits};
@@ -14,10 +14,10 @@ ghost use Rattle.omf_finding.specs.Pattern.{pattern};
 ghost use Rattle.omf_finding.specs.Run.{closed_byte, cells, IsPatternRun};
 ghost use Rattle.omf_finding.specs.Inner.Walking.{byte_in, byte_with, unmarked, marked_all, raw_contents, raw_of, marks_of, IsNext, FitsContents, CanMark, CanTake, marks_contents};
 
-use omf_check::{Checked, Undecoded};
+use omf_check::{Checked, Data, Undecoded};
 use omf_frame::Index;
 use omf_image::{Image, Limits, Run, expand};
-use omf_records::{At, Blocks, Rec};
+use omf_records::{At, Blocks};
 use omf_reloc::{Piece, PlainFixup, pieces_of};
 use std::alloc::{AllocError, Global};
 use std::marker::Model;
@@ -201,25 +201,28 @@ impl Walk {
         Ok(())
     }
 
-    /// Takes the next record.
-    fn take_record(&mut self, alloc: Global, rec: &Rec<'_>) -> Result<(), AllocError>
-        requires expands { CanExpand (kind_seen rec.now) (contents_seen rec.now) }
-        requires fits { FitsContents (kind_seen rec.now) (contents_seen rec.now) }
-        ensures values { OnOk result (AreLaidOver self.old.values (raw_contents (kind_seen rec.now) (contents_seen rec.now)) self.new.values) }
-        ensures marks { OnOk result (AreLaidOver self.old.marks (marks_contents (kind_seen rec.now) (contents_seen rec.now)) self.new.marks) }
-        ensures place { OnOk result (self.new.last_place ≡ data_place (contents_seen rec.now) self.old.last_place) }
+    /// Takes the next record. No record without data is decoded.
+    fn take_record(&mut self, alloc: Global, rec: &Undecoded<'_>) -> Result<(), AllocError>
+        requires expands { CanExpand rec.now.kind rec.now.contents }
+        requires fits { FitsContents rec.now.kind rec.now.contents }
+        ensures values { OnOk result (AreLaidOver self.old.values (raw_contents rec.now.kind rec.now.contents) self.new.values) }
+        ensures marks { OnOk result (AreLaidOver self.old.marks (marks_contents rec.now.kind rec.now.contents) self.new.marks) }
+        ensures place { OnOk result (self.new.last_place ≡ data_place rec.now.contents self.old.last_place) }
     {
-        match rec {
-            Rec::Plain {
+        let Some(data) = rec.as_data() else {
+            return Ok(());
+        };
+        match &data {
+            Data::Plain {
                 segment,
                 offset,
-                data,
+                bytes,
                 ..
             } => {
-                let bytes = data.to_vec(alloc)?;
+                let bytes = bytes.to_vec(alloc)?;
                 self.lay(alloc, segment, offset, bytes)
             }
-            Rec::Iterated {
+            Data::Iterated {
                 segment,
                 offset,
                 blocks,
@@ -227,35 +230,6 @@ impl Walk {
                 let bytes = expanded(alloc, *blocks)?;
                 self.lay(alloc, segment, offset, bytes)
             }
-            Rec::Header { .. }
-            | Rec::Comment { .. }
-            | Rec::Names(_)
-            | Rec::Segment { .. }
-            | Rec::Group { .. }
-            | Rec::Externs(_)
-            | Rec::Publics { .. }
-            | Rec::Communals(_)
-            | Rec::Fixups { .. }
-            | Rec::ModEnd { .. }
-            | Rec::LocalNames(_)
-            | Rec::LocalExterns { .. }
-            | Rec::LocalPublics { .. }
-            | Rec::LocalCommunals(_)
-            | Rec::Carried { .. } => Ok(()),
-        }
-    }
-
-    /// The same for a record that is not decoded yet.
-    fn take_undecoded(&mut self, alloc: Global, record: &Undecoded<'_>) -> Result<(), AllocError>
-        requires expands { CanExpand «record».now.kind «record».now.contents }
-        requires fits { FitsContents «record».now.kind «record».now.contents }
-        ensures values { OnOk result (AreLaidOver self.old.values (raw_contents «record».now.kind «record».now.contents) self.new.values) }
-        ensures marks { OnOk result (AreLaidOver self.old.marks (marks_contents «record».now.kind «record».now.contents) self.new.marks) }
-        ensures place { OnOk result (self.new.last_place ≡ data_place «record».now.contents self.old.last_place) }
-    {
-        match record.data() {
-            Some(rec) => self.take_record(alloc, &rec),
-            None => Ok(()),
         }
     }
 
@@ -284,7 +258,7 @@ impl Walk {
         ensures { OnOk result (IsNext (piece_seen piece.now) self.old self.new) }
     {
         match piece {
-            Piece::Kept(record) => self.take_undecoded(alloc, record),
+            Piece::Kept(rec) => self.take_record(alloc, rec),
             Piece::Fixed { fixup, .. } => self.mark(alloc, fixup),
             Piece::End { .. } => Ok(()),
         }
