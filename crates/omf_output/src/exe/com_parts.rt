@@ -3,7 +3,6 @@
 ghost use Rattle.std.specs.Prelude.{◌≡◌, ◌==◌, ◌&&◌, ℕ, ◌+◌, None, All, filter_map, not, slice_get};
 ghost use Rattle.omf_check.specs.Listed.{placed_from};
 ghost use Rattle.omf_check.specs.Module.{records_in};
-ghost use Rattle.omf_records.specs.Inner.Seen.{contents_seen, kind_seen, rec_seen};
 ghost use Rattle.omf_reloc.specs.Inner.PieceSeen.{piece_seen};
 ghost use Rattle.omf_records.specs.Values.{is_segment_relative, location_type};
 ghost use Rattle.omf_output.specs.Exe.Com.{counts_apart, first_fixup, first_low, fixup_fault, has_base, has_low_data, part_fault, piece_fault};
@@ -11,21 +10,20 @@ ghost use Rattle.omf_output.specs.Exe.Linked.{placed};
 ghost use Rattle.omf_output.specs.Inner.Laying.{CanEnd};
 
 use crate::exe::com_fault::ComFault;
-use crate::exe::laying::segment_address;
+use crate::exe::laying::{extent_of, segment_address};
 use crate::exe::member::Member;
 use crate::exe::moving::{is_base, segment_after, site};
 use omf_check::{Checked, Undecoded};
 use omf_frame::Place;
 use omf_placement::{Frame, Placement};
-use omf_records::Rec;
-use omf_reloc::{Piece, PlainFixup, measure, pieces_of};
+use omf_reloc::{Piece, PlainFixup, pieces_of};
 
-/// Whether a record has a byte of data below 100H.
-fn has_low_data(placement: &Placement, rec: &Rec<'_>) -> bool
-    requires { CanEnd (rec_seen rec.now) }
-    ensures { result ≡ has_low_data placement.now (kind_seen rec.now) (contents_seen rec.now) }
+/// Whether a record has a byte of data below 100H. No record without data is decoded.
+fn has_low_data(placement: &Placement, rec: &Undecoded<'_>) -> bool
+    requires { CanEnd rec.now }
+    ensures { result ≡ has_low_data placement.now rec.now.kind rec.now.contents }
 {
-    match measure(rec) {
+    match extent_of(rec) {
         Some(extent) => {
             let first = segment_address(placement, extent.segment) + extent.first as usize;
             first < 256 && extent.len > 0
@@ -34,23 +32,12 @@ fn has_low_data(placement: &Placement, rec: &Rec<'_>) -> bool
     }
 }
 
-/// The same for a record that is not decoded yet. It is decoded only if it has data.
-fn has_low_undecoded(placement: &Placement, record: &Undecoded<'_>) -> bool
-    requires { CanEnd «record».now }
-    ensures { result ≡ has_low_data placement.now «record».now.kind «record».now.contents }
-{
-    match record.data() {
-        Some(rec) => has_low_data(placement, &rec),
-        None => false,
-    }
-}
-
 /// The place of a module's first data record with a byte below 100H.
 fn first_low(module: &Checked, placement: &Placement) -> Option<Place>
     ensures { result ≡ first_low placement.now (placed_from 0 0 (records_in «module».now.bytes)) }
 {
-    for (place, record) in module.undecoded() {
-        if has_low_undecoded(placement, &record) {
+    for (place, rec) in module.undecoded() {
+        if has_low_data(placement, &rec) {
             return Some(place);
         }
     }

@@ -1,11 +1,12 @@
 //! The bytes that modules lay, from address 0 on.
 
-ghost use Rattle.std.specs.Prelude.{◌≡◌, Some, ◌+◌, ◌<◌, ◌≤◌, ◌^◌, All, fold, length, max, flat_map, IfOk, OnOk};
+ghost use Rattle.std.specs.Prelude.{◌≡◌, Some, ◌+◌, ◌<◌, ◌≤◌, ◌^◌, All, fold, length, max, flat_map, option_to_list, IfOk, OnOk};
 ghost use Rattle.omf_check.specs.Module.{recs_of};
 ghost use Rattle.omf_image.specs.Inner.Expanding.{expanded};
 ghost use Rattle.omf_image.specs.Limits.{profile_limits};
-ghost use Rattle.omf_records.specs.Inner.Seen.{contents_seen, kind_seen, odd_if, rec_seen};
+ghost use Rattle.omf_records.specs.Inner.Seen.{odd_if};
 ghost use Rattle.omf_records.specs.Values.{width};
+ghost use Rattle.omf_reloc.specs.Inner.Measuring.{CanMeasure, measured};
 ghost use Rattle.omf_reloc.specs.Inner.PieceSeen.{piece_seen};
 ghost use Rattle.omf_reloc.specs.Inner.Walking.{Expands};
 ghost use Rattle.omf_reloc.specs.Inner.Widths.{fixupp_type};
@@ -17,11 +18,11 @@ ghost use Rattle.omf_output.specs.Exe.Memory.{all_chunks, chunks, data_end, flat
 ghost use Rattle.omf_output.specs.Exe.Moved.{Movers};
 
 use crate::exe::member::Member;
-use omf_check::{Checked, Undecoded};
+use omf_check::{Checked, Data, Undecoded};
 use omf_frame::{Index, Width};
-use omf_image::{Limits, expand};
+use omf_image::{Extent, Limits, expand};
 use omf_placement::Placement;
-use omf_records::{At, Blocks, Rec};
+use omf_records::{At, Blocks};
 use omf_reloc::{Piece, PlainFixup, measure, outcome, pieces_of};
 use std::alloc::{AllocError, Global};
 
@@ -43,6 +44,17 @@ fn address_at(placement: &Placement, segment: &At<Index>, offset: &At<u32>) -> u
     segment_address(placement, segment.item.0) + offset.item as usize
 }
 
+/// The extent of a record's data; `None` if it has none. No record without data is decoded.
+pub(crate) fn extent_of(rec: &Undecoded<'_>) -> Option<Extent>
+    requires { CanMeasure rec.now }
+    ensures { option_to_list result ≡ measured rec.now }
+{
+    match rec.as_data() {
+        Some(_) => measure(&rec.decoded()),
+        None => None,
+    }
+}
+
 /// The expanded bytes of an LIDATA's blocks.
 fn expanded(alloc: Global, blocks: Blocks<'_>) -> Result<Vec<u8>, AllocError>
     requires { Expands (odd_if blocks.width 0xA2) blocks.bytes.now }
@@ -60,103 +72,44 @@ fn put(image: &mut [u8], at: usize, bytes: &[u8])
     image[at..at + bytes.len()].copy_from_slice(bytes);
 }
 
-/// Puts the data of a data record at their address. Other records have none.
+/// The segment of an LEDATA and the offset of its first byte there.
+type Source = (u16, u32);
+
+/// Puts the data of a record at their address. No record without data is decoded. `last` is the last data record before it, if it is an
+/// LEDATA; returns the last up to and including it.
 fn put_data(
     alloc: Global,
     image: &mut [u8],
     placement: &Placement,
-    rec: &Rec<'_>,
-) -> Result<(), AllocError>
-    requires { DataFit placement.now (length image.old) (kind_seen rec.now) (contents_seen rec.now) }
-    ensures { OnOk result (image.new ≡ with_data placement.now (kind_seen rec.now) (contents_seen rec.now) image.old) }
+    last: Option<Source>,
+    rec: &Undecoded<'_>,
+) -> Result<Option<Source>, AllocError>
+    requires { DataFit placement.now (length image.old) rec.now.kind rec.now.contents }
+    ensures image { OnOk result (image.new ≡ with_data placement.now rec.now.kind rec.now.contents image.old) }
+    ensures last { IfOk result (λ s. s ≡ source_in rec.now.contents last) }
 {
-    match rec {
-        Rec::Plain {
+    let Some(data) = rec.as_data() else {
+        return Ok(last);
+    };
+    match &data {
+        Data::Plain {
             segment,
             offset,
-            data,
+            bytes,
             ..
         } => {
-            put(image, address_at(placement, segment, offset), data);
-            Ok(())
+            put(image, address_at(placement, segment, offset), bytes);
+            Ok(Some((segment.item.0, offset.item)))
         }
-        Rec::Iterated {
+        Data::Iterated {
             segment,
             offset,
             blocks,
         } => {
             let bytes = expanded(alloc, *blocks)?;
             put(image, address_at(placement, segment, offset), &bytes);
-            Ok(())
+            Ok(None)
         }
-        Rec::Header { .. }
-        | Rec::Comment { .. }
-        | Rec::Names(_)
-        | Rec::Segment { .. }
-        | Rec::Group { .. }
-        | Rec::Externs(_)
-        | Rec::Publics { .. }
-        | Rec::Communals(_)
-        | Rec::Fixups { .. }
-        | Rec::ModEnd { .. }
-        | Rec::LocalNames(_)
-        | Rec::LocalExterns { .. }
-        | Rec::LocalPublics { .. }
-        | Rec::LocalCommunals(_)
-        | Rec::Carried { .. } => Ok(()),
-    }
-}
-
-/// The segment of an LEDATA and the offset of its first byte there.
-type Source = (u16, u32);
-
-/// The last data record, if it is an LEDATA, up to and including this record.
-fn source_in(rec: &Rec<'_>, last: Option<Source>) -> Option<Source>
-    ensures { result ≡ source_in (contents_seen rec.now) last }
-{
-    match rec {
-        Rec::Plain {
-            segment,
-            offset,
-            ..
-        } => Some((segment.item.0, offset.item)),
-        Rec::Iterated { .. } => None,
-        Rec::Header { .. }
-        | Rec::Comment { .. }
-        | Rec::Names(_)
-        | Rec::Segment { .. }
-        | Rec::Group { .. }
-        | Rec::Externs(_)
-        | Rec::Publics { .. }
-        | Rec::Communals(_)
-        | Rec::Fixups { .. }
-        | Rec::ModEnd { .. }
-        | Rec::LocalNames(_)
-        | Rec::LocalExterns { .. }
-        | Rec::LocalPublics { .. }
-        | Rec::LocalCommunals(_)
-        | Rec::Carried { .. } => last,
-    }
-}
-
-/// Puts the data of a record that is not decoded yet. It is decoded only if it has data. Returns the last data record, as `source_in`.
-fn put_undecoded(
-    alloc: Global,
-    image: &mut [u8],
-    placement: &Placement,
-    last: Option<Source>,
-    record: &Undecoded<'_>,
-) -> Result<Option<Source>, AllocError>
-    requires { DataFit placement.now (length image.old) «record».now.kind «record».now.contents }
-    ensures image { OnOk result (image.new ≡ with_data placement.now «record».now.kind «record».now.contents image.old) }
-    ensures last { IfOk result (λ s. s ≡ source_in «record».now.contents last) }
-{
-    match record.data() {
-        Some(rec) => {
-            put_data(alloc, image, placement, &rec)?;
-            Ok(source_in(&rec, last))
-        }
-        None => Ok(last),
     }
 }
 
@@ -185,7 +138,7 @@ fn take(
     ensures last { IfOk result (λ s. s ≡ source_after (piece_seen piece.now) last) }
 {
     match piece {
-        Piece::Kept(record) => put_undecoded(alloc, image, placement, last, record),
+        Piece::Kept(rec) => put_data(alloc, image, placement, last, rec),
         Piece::Fixed { width, fixup } => {
             if let Some(source) = last {
                 fix(image, placement, source, *width, fixup);
@@ -233,27 +186,16 @@ fn lay_all(alloc: Global, image: &mut [u8], members: &[Member<'_>]) -> Result<()
     Ok(())
 }
 
-/// The first address after the data of a record; 0 if it has none.
-fn record_end(placement: &Placement, rec: &Rec<'_>) -> usize
-    requires { CanEnd (rec_seen rec.now) }
-    ensures { result ≡ fold max 0 (record_ends placement.now (rec_seen rec.now)) }
+/// The first address after the data of a record; 0 if it has none. No record without data is decoded.
+fn record_end(placement: &Placement, rec: &Undecoded<'_>) -> usize
+    requires { CanEnd rec.now }
+    ensures { result ≡ fold max 0 (record_ends placement.now rec.now) }
 {
-    match measure(rec) {
+    match extent_of(rec) {
         Some(extent) => {
             let first = segment_address(placement, extent.segment) + extent.first as usize;
             first + extent.len as usize
         }
-        None => 0,
-    }
-}
-
-/// The same for a record that is not decoded yet. It is decoded only if it has data.
-fn undecoded_end(placement: &Placement, record: &Undecoded<'_>) -> usize
-    requires { CanEnd «record».now }
-    ensures { result ≡ fold max 0 (record_ends placement.now «record».now) }
-{
-    match record.data() {
-        Some(rec) => record_end(placement, &rec),
         None => 0,
     }
 }
@@ -264,8 +206,8 @@ fn with_end(before: usize, module: &Checked, placement: &Placement) -> usize
     ensures holds { ModuleHolds profile_limits (recs_of «module».now.bytes) }
 {
     let mut end = before;
-    for (_place, record) in module.undecoded() {
-        end = end.max(undecoded_end(placement, &record));
+    for (_place, rec) in module.undecoded() {
+        end = end.max(record_end(placement, &rec));
     }
     end
 }

@@ -5,7 +5,6 @@ ghost use Rattle.std.specs.List.{list_all};
 ghost use Rattle.omf_check.specs.Listed.{placed_from};
 ghost use Rattle.omf_check.specs.Module.{recs_of, records_in};
 ghost use Rattle.omf_records.specs.Inner.Names.{location_number};
-ghost use Rattle.omf_records.specs.Inner.Seen.{contents_seen};
 ghost use Rattle.omf_reloc.specs.Additions.{type_of_number};
 ghost use Rattle.omf_reloc.specs.Inner.PieceSeen.{piece_seen};
 ghost use Rattle.omf_reloc.specs.Inner.Pieces.{placed_pieces};
@@ -16,9 +15,9 @@ ghost use Rattle.omf_output.specs.Exe.Movable.{data_segment, first_unmoved, move
 ghost use Rattle.omf_output.specs.Exe.Relocations.{moves_together, selector_at, site};
 
 use crate::exe::movers::Movers;
-use omf_check::{Checked, Undecoded};
+use omf_check::{Checked, Data, Undecoded};
 use omf_frame::{Place, Width};
-use omf_records::{LocationType, Rec};
+use omf_records::LocationType;
 use omf_reloc::{Piece, PlainFixup, PlainReference, pieces_of};
 
 /// Whether a location has this type: a base, which holds a selector alone.
@@ -98,38 +97,16 @@ fn start_moves(movers: &Movers, start: &Option<PlainReference>) -> bool
     }
 }
 
-/// The segment of a data record; `None` for any other record.
-fn data_segment(rec: &Rec<'_>) -> Option<u16>
-    ensures { result ≡ data_segment (contents_seen rec.now) None }
+/// The segment of the last data record, up to and including this record. No record without data is decoded.
+fn data_segment(rec: &Undecoded<'_>, last: Option<u16>) -> Option<u16>
+    ensures { result ≡ data_segment rec.now.contents last }
 {
-    match rec {
-        Rec::Plain { segment, .. } => Some(segment.item.0),
-        Rec::Iterated { segment, .. } => Some(segment.item.0),
-        Rec::Header { .. }
-        | Rec::Comment { .. }
-        | Rec::Names(_)
-        | Rec::Segment { .. }
-        | Rec::Group { .. }
-        | Rec::Externs(_)
-        | Rec::Publics { .. }
-        | Rec::Communals(_)
-        | Rec::Fixups { .. }
-        | Rec::ModEnd { .. }
-        | Rec::LocalNames(_)
-        | Rec::LocalExterns { .. }
-        | Rec::LocalPublics { .. }
-        | Rec::LocalCommunals(_)
-        | Rec::Carried { .. } => None,
-    }
-}
-
-/// The segment of the last data record, up to and including this record. It is decoded only if it has data.
-fn undecoded_segment(record: &Undecoded<'_>, last: Option<u16>) -> Option<u16>
-    ensures { result ≡ data_segment «record».now.contents last }
-{
-    match record.data() {
-        Some(rec) => data_segment(&rec).or(last),
-        None => last,
+    let Some(data) = rec.as_data() else {
+        return last;
+    };
+    match &data {
+        Data::Plain { segment, .. } => Some(segment.item.0),
+        Data::Iterated { segment, .. } => Some(segment.item.0),
     }
 }
 
@@ -138,16 +115,16 @@ pub fn segment_after(piece: &Piece<'_>, last: Option<u16>) -> Option<u16>
     ensures { result ≡ segment_after (piece_seen piece.now) last }
 {
     match piece {
-        Piece::Kept(record) => undecoded_segment(record, last),
+        Piece::Kept(rec) => data_segment(rec, last),
         Piece::Fixed { .. } | Piece::End { .. } => last,
     }
 }
 
 /// The segment of the last data record, up to and including this record; `None` if it has data of a segment that does not move.
-fn record_moves(movers: &Movers, last: Option<u16>, record: &Undecoded<'_>) -> Option<Option<u16>>
-    ensures { result ≡ (if segment_moves movers.now «record».now.contents then Some (data_segment «record».now.contents last) else None) }
+fn record_moves(movers: &Movers, last: Option<u16>, rec: &Undecoded<'_>) -> Option<Option<u16>>
+    ensures { result ≡ (if segment_moves movers.now rec.now.contents then Some (data_segment rec.now.contents last) else None) }
 {
-    match undecoded_segment(record, None) {
+    match data_segment(rec, None) {
         Some(segment) => {
             if movers.segment_moves(usize::from(segment)) {
                 Some(Some(segment))
@@ -174,7 +151,7 @@ fn moved_past(movers: &Movers, last: Option<u16>, piece: &Piece<'_>) -> Option<O
     ensures { result ≡ (if moves_after movers.now last (piece_seen piece.now) then Some (segment_after (piece_seen piece.now) last) else None) }
 {
     match piece {
-        Piece::Kept(record) => record_moves(movers, last, record),
+        Piece::Kept(rec) => record_moves(movers, last, rec),
         Piece::Fixed { width, fixup } => {
             if fixup_moves(movers, last, *width, fixup) {
                 Some(last)

@@ -1,7 +1,6 @@
 //! The memory that the segments of a program take, and its stack.
 
 ghost use Rattle.std.specs.Prelude.{◌≡◌, true, ◌∷◌, ◌++◌, ◌<◌, ◌≤◌, ◌^◌, ◌+◌, List, ℕ, [], None, filter_map, fold, max, min, option_to_list, zip};
-ghost use Rattle.omf_records.specs.Inner.Seen.{contents_seen, kind_seen, odd_if};
 ghost use Rattle.omf_records.specs.Values.{SegmentItem};
 ghost use Rattle.omf_check.specs.Module.{recs_of};
 ghost use Rattle.omf_check.specs.Tables.{segment_length};
@@ -13,7 +12,7 @@ use crate::exe::member::Member;
 use omf_check::{Checked, Undecoded};
 use omf_frame::Width;
 use omf_placement::{Frame, Placed};
-use omf_records::{Acbp, Combination, Rec, Segment};
+use omf_records::{Acbp, Combination, Segment};
 use std::marker::Model;
 
 /// A stack: the frame of its first segment, and the first address after all of its segments.
@@ -46,15 +45,15 @@ impl Model for Room {
     ghost view = { λ r. record { end = r.end; own_end = r.own_end; stack = r.stack; stack_len = r.stack_len } };
 }
 
-/// The length of a segment in bytes, in a SEGDEF of this width (TIS OMF 1.1, "SEGDEF", B bit).
-fn segment_length(width: Width, segment: &Segment) -> u64
-    ensures value { result ≡ segment_length (odd_if width 0x98) segment.now }
+/// The length of a segment in bytes, in a SEGDEF of this type (TIS OMF 1.1, "SEGDEF", B bit).
+fn segment_length(kind: u8, segment: &Segment) -> u64
+    ensures value { result ≡ segment_length kind segment.now }
     ensures low { result ≤ 2 ^ 32 }
 {
     if !segment.attribute.is_big() {
         return u64::from(segment.size);
     }
-    match width {
+    match Width::of(kind) {
         Width::Bits16 => 1 << 16,
         Width::Bits32 => 1 << 32,
     }
@@ -109,14 +108,15 @@ impl Room {
         }
     }
 
-    /// The memory with that of one more segment, which is at a place. An absolute segment takes none of the program's.
-    fn with_segment(self, place: Placed, width: Width, segment: &Segment) -> Room
-        ensures { result ≡ fold with_portion self (option_to_list (portion (place, (odd_if width 0x98, segment.now)))) }
+    /// The memory with that of one more segment, which is at a place, of a SEGDEF of this type. An absolute segment takes none of the
+    /// program's.
+    fn with_segment(self, place: Placed, kind: u8, segment: &Segment) -> Room
+        ensures { result ≡ fold with_portion self (option_to_list (portion (place, (kind, segment.now)))) }
     {
         if segment.absolute.is_some() {
             return self;
         }
-        let length = segment_length(width, segment);
+        let length = segment_length(kind, segment);
         let end = u64::from(place.address) + length;
         let is_stack = is_stack(segment.attribute);
         let stack = if is_stack {
@@ -144,29 +144,15 @@ impl Room {
 }
 
 /// The memory with that of a record's segment, which is at the first of the places left; and the places left for the segments after it. A
-/// record that is no SEGDEF changes nothing.
-fn take<'a>(room: Room, left: &'a [Placed], rec: &Rec<'_>) -> (Room, &'a [Placed])
-    ensures { (rest : List (ℕ × SegmentItem)) → fold with_portion result.0 (filter_map portion (zip result.1.now rest)) ≡ fold with_portion room (filter_map portion (zip left.now (segdefs_in (kind_seen rec.now) (contents_seen rec.now) ++ rest))) }
+/// record that is no SEGDEF changes nothing, and is not decoded.
+fn take<'a>(room: Room, left: &'a [Placed], rec: &Undecoded<'_>) -> (Room, &'a [Placed])
+    ensures { (rest : List (ℕ × SegmentItem)) → fold with_portion result.0 (filter_map portion (zip result.1.now rest)) ≡ fold with_portion room (filter_map portion (zip left.entry.now (segdefs_in rec.now.kind rec.now.contents ++ rest))) }
 {
-    let Rec::Segment { width, segment } = rec else {
+    let Some(segment) = rec.as_segment() else {
         return (room, left);
     };
     match left.split_first() {
-        Some((place, rest)) => (room.with_segment(*place, *width, segment), rest),
-        None => (room, left),
-    }
-}
-
-/// The same for a record that is not decoded yet. It is decoded only if it is a SEGDEF.
-fn take_undecoded<'a>(
-    room: Room,
-    left: &'a [Placed],
-    record: &Undecoded<'_>,
-) -> (Room, &'a [Placed])
-    ensures { (rest : List (ℕ × SegmentItem)) → fold with_portion result.0 (filter_map portion (zip result.1.now rest)) ≡ fold with_portion room (filter_map portion (zip left.entry.now (segdefs_in «record».now.kind «record».now.contents ++ rest))) }
-{
-    match record.segment() {
-        Some(rec) => take(room, left, &rec),
+        Some((place, rest)) => (room.with_segment(*place, rec.kind(), &segment), rest),
         None => (room, left),
     }
 }
@@ -177,8 +163,8 @@ fn with_module(before: Room, module: &Checked, places: &[Placed]) -> Room
 {
     let mut room = before;
     let mut left = places;
-    for (_place, record) in module.undecoded() {
-        let (next, rest) = take_undecoded(room, left, &record);
+    for (_place, rec) in module.undecoded() {
+        let (next, rest) = take(room, left, &rec);
         room = next;
         left = rest;
     }

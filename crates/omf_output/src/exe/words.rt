@@ -4,7 +4,6 @@ ghost use Rattle.std.specs.Prelude.{All, ◌≡◌, ◌++◌, ◌+◌, ◌<◌, 
 ghost use Rattle.omf_check.specs.Listed.{placed_from};
 ghost use Rattle.omf_check.specs.Module.{recs_of, records_in};
 ghost use Rattle.omf_image.specs.Painting.{Fits};
-ghost use Rattle.omf_records.specs.Inner.Seen.{contents_seen, kind_seen, rec_seen};
 ghost use Rattle.omf_reloc.specs.Inner.Names.{location_start};
 ghost use Rattle.omf_reloc.specs.Inner.Measuring.{CanMeasure, measured};
 ghost use Rattle.omf_reloc.specs.Inner.PieceSeen.{piece_seen};
@@ -13,15 +12,14 @@ ghost use Rattle.omf_reloc.specs.Laws.{location_end};
 ghost use Rattle.omf_output.specs.Inner.Taking.{CanTake};
 ghost use Rattle.omf_output.specs.Exe.Overlaps.{AddsWords, IsLow, IsWordsFault, all_words, are_clear, opened, opened_after, with_contents, with_fixups, with_piece, word_of};
 
-use crate::exe::laying::segment_address;
+use crate::exe::laying::{extent_of, segment_address};
 use crate::exe::member::Member;
 use crate::exe::movers::Movers;
 use crate::exe::moving::site;
-use omf_check::{Checked, Undecoded};
+use omf_check::{Checked, Data, Undecoded};
 use omf_frame::Place;
 use omf_placement::Placement;
-use omf_records::Rec;
-use omf_reloc::{Piece, PlainFixup, measure, pieces_of};
+use omf_reloc::{Piece, PlainFixup, pieces_of};
 use std::alloc::{AllocError, Global};
 use std::marker::Model;
 use thiserror::Error;
@@ -126,13 +124,13 @@ impl Words {
     }
 }
 
-/// Whether a data record overlaps no word; any other record overlaps none.
-fn is_record_clear(words: &Words, placement: &Placement, rec: &Rec<'_>) -> bool
-    requires measured { CanMeasure (rec_seen rec.now) }
-    requires fits { All Fits (measured (rec_seen rec.now)) }
-    ensures { with_contents placement.now (kind_seen rec.now) (contents_seen rec.now) words.now ≡ (if result then Some words.now else None) }
+/// Whether the data of a record overlap no word; a record without data overlaps none, and is not decoded.
+fn is_record_clear(words: &Words, placement: &Placement, rec: &Undecoded<'_>) -> bool
+    requires measured { CanMeasure rec.now }
+    requires fits { All Fits (measured rec.now) }
+    ensures { with_contents placement.now rec.now.kind rec.now.contents words.now ≡ (if result then Some words.now else None) }
 {
-    match measure(rec) {
+    match extent_of(rec) {
         Some(extent) => {
             let from = segment_address(placement, extent.segment) + extent.first as usize;
             words.are_clear(from, from + extent.len as usize)
@@ -141,26 +139,21 @@ fn is_record_clear(words: &Words, placement: &Placement, rec: &Rec<'_>) -> bool
     }
 }
 
-/// The same for a record that is not decoded yet. It is decoded only if it has data.
-fn is_undecoded_clear(words: &Words, placement: &Placement, record: &Undecoded<'_>) -> bool
-    requires measured { CanMeasure «record».now }
-    requires fits { All Fits (measured «record».now) }
-    ensures { with_contents placement.now «record».now.kind «record».now.contents words.now ≡ (if result then Some words.now else None) }
-{
-    match record.data() {
-        Some(rec) => is_record_clear(words, placement, &rec),
-        None => true,
-    }
-}
-
-/// The segment of an LEDATA and the address of its first byte, up to and including this record.
-fn opened(placement: &Placement, rec: &Rec<'_>, last: Option<(u16, usize)>) -> Option<(u16, usize)>
+/// The segment of an LEDATA and the address of its first byte, up to and including this record. No record without data is decoded.
+fn opened(
+    placement: &Placement,
+    rec: &Undecoded<'_>,
+    last: Option<(u16, usize)>,
+) -> Option<(u16, usize)>
     requires { IfSome last IsLow }
-    ensures value { result ≡ opened placement.now (contents_seen rec.now) last }
+    ensures value { result ≡ opened placement.now rec.now.contents last }
     ensures low { IfSome result IsLow }
 {
-    match rec {
-        Rec::Plain {
+    let Some(data) = rec.as_data() else {
+        return last;
+    };
+    match &data {
+        Data::Plain {
             segment,
             offset,
             ..
@@ -168,38 +161,7 @@ fn opened(placement: &Placement, rec: &Rec<'_>, last: Option<(u16, usize)>) -> O
             let address = segment_address(placement, segment.item.0) + offset.item as usize;
             Some((segment.item.0, address))
         }
-        Rec::Iterated { .. } => None,
-        Rec::Header { .. }
-        | Rec::Comment { .. }
-        | Rec::Names(_)
-        | Rec::Segment { .. }
-        | Rec::Group { .. }
-        | Rec::Externs(_)
-        | Rec::Publics { .. }
-        | Rec::Communals(_)
-        | Rec::Fixups { .. }
-        | Rec::ModEnd { .. }
-        | Rec::LocalNames(_)
-        | Rec::LocalExterns { .. }
-        | Rec::LocalPublics { .. }
-        | Rec::LocalCommunals(_)
-        | Rec::Carried { .. } => last,
-    }
-}
-
-/// The same for a record that is not decoded yet. It is decoded only if it has data.
-fn undecoded_opened(
-    placement: &Placement,
-    record: &Undecoded<'_>,
-    last: Option<(u16, usize)>,
-) -> Option<(u16, usize)>
-    requires { IfSome last IsLow }
-    ensures value { result ≡ opened placement.now «record».now.contents last }
-    ensures low { IfSome result IsLow }
-{
-    match record.data() {
-        Some(rec) => opened(placement, &rec, last),
-        None => last,
+        Data::Iterated { .. } => None,
     }
 }
 
@@ -214,7 +176,7 @@ fn opened_after(
     ensures low { IfSome result IsLow }
 {
     match piece {
-        Piece::Kept(record) => undecoded_opened(placement, record, last),
+        Piece::Kept(rec) => opened(placement, rec, last),
         Piece::Fixed { .. } | Piece::End { .. } => last,
     }
 }
@@ -275,7 +237,7 @@ fn take(
     ensures { IfOk result (λ clear. with_piece movers.now placement.now last (piece_seen piece.now) words.old ≡ (if clear then Some words.new else None)) }
 {
     match piece {
-        Piece::Kept(record) => Ok(is_undecoded_clear(words, placement, record)),
+        Piece::Kept(rec) => Ok(is_record_clear(words, placement, rec)),
         Piece::Fixed { fixup, .. } => match last {
             Some(source) => take_fixup(words, movers, source, fixup),
             None => Ok(true),

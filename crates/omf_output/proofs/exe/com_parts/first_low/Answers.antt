@@ -23,22 +23,22 @@ loop-place-init c =
       same = ap (first_low pl) given;
     }
 
-pub has_low_undecoded-requires : goal.has_low_undecoded-requires
-has_low_undecoded-requires c =
-    All-head CanEnd c.in-Some.record (without_places_of c.next.new.self) (subst (λ xs. All CanEnd (without_places_of xs)) c.in-Some.ensures.steps c.loop-place.invariant.can)
+pub has_low_data-requires : goal.has_low_data-requires
+has_low_data-requires c =
+    All-head CanEnd c.in-Some.rec (without_places_of c.next.new.self) (subst (λ xs. All CanEnd (without_places_of xs)) c.in-Some.ensures.steps c.loop-place.invariant.can)
 
-pub returns-then-has_low_undecoded : goal.returns-then-has_low_undecoded
-returns-then-has_low_undecoded c =
-    low-found c.args.placement.now (c.in-Some.place, c.in-Some.record) c.loop-place.place-iterator c.next.new.self c.has_low_undecoded.result _ c.in-Some.ensures.steps c.has_low_undecoded.ensures
-    c.if-has_low_undecoded.true c.loop-place.invariant.same
+pub returns-then-has_low_data : goal.returns-then-has_low_data
+returns-then-has_low_data c =
+    low-found c.args.placement.now (c.in-Some.place, c.in-Some.rec) c.loop-place.place-iterator c.next.new.self c.has_low_data.result _ c.in-Some.ensures.steps c.has_low_data.ensures
+    c.if-has_low_data.true c.loop-place.invariant.same
 
 pub loop-place-preserved : goal.loop-place-preserved
 loop-place-preserved c =
-    let r = c.in-Some.record in
+    let r = c.in-Some.rec in
     let rest = c.next.new.self in
     record {
       can = All-tail CanEnd r (without_places_of rest) (subst (λ xs. All CanEnd (without_places_of xs)) c.in-Some.ensures.steps c.loop-place.invariant.can);
-      same = not-low c.args.placement.now (c.in-Some.place, r) c.loop-place.place-iterator rest c.has_low_undecoded.result _ c.in-Some.ensures.steps c.has_low_undecoded.ensures c.if-has_low_undecoded.false
+      same = not-low c.args.placement.now (c.in-Some.place, r) c.loop-place.place-iterator rest c.has_low_data.result _ c.in-Some.ensures.steps c.has_low_data.ensures c.if-has_low_data.false
           c.loop-place.invariant.same;
     }
 

@@ -7,6 +7,6 @@ use Rattle.omf_output.proofs.exe.com_parts.has_low_data.Goals as goal
 pub overflow_add-first : goal.overflow_add-first
 overflow_add-first c =
     let e = c.in-Some.extent in
-    let fits = All-head Fits e [] (subst (All Fits) (sym c.measure.ensures ∙ ap option_to_list c.in-Some.is) c.requires.1) in
+    let fits = All-head Fits e [] (subst (All Fits) (sym c.extent_of.ensures ∙ ap option_to_list c.in-Some.is) c.requires.1) in
     let low = c.segment_address.ensures.low in
     omega (arith, fits, low)

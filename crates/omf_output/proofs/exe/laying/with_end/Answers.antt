@@ -20,17 +20,17 @@ loop-place-init c =
       same = ap (λ l. fold max c.args.before (flat_map (record_ends pl) l)) e;
     }
 
-pub undecoded_end-requires : goal.undecoded_end-requires
-undecoded_end-requires c =
-    All-head CanEnd c.in-Some.record (without_places_of c.next.new.self) (subst (λ xs. All CanEnd (without_places_of xs)) c.in-Some.ensures.steps c.loop-place.invariant.can)
+pub record_end-requires : goal.record_end-requires
+record_end-requires c =
+    All-head CanEnd c.in-Some.rec (without_places_of c.next.new.self) (subst (λ xs. All CanEnd (without_places_of xs)) c.in-Some.ensures.steps c.loop-place.invariant.can)
 
 pub loop-place-preserved : goal.loop-place-preserved
 loop-place-preserved c =
     let pl = c.args.placement.now in
-    let r = c.in-Some.record in
+    let r = c.in-Some.rec in
     let rest = without_places_of c.next.new.self in
     let e = ap without_places_of c.in-Some.ensures.steps in
     record {
       can = All-tail CanEnd r rest (subst (All CanEnd) e c.loop-place.invariant.can);
-      same = max-record pl r rest c.loop-place.end _ _ c.undecoded_end.ensures c.max-end.ensures ∙ ap (λ l. fold max c.loop-place.end (flat_map (record_ends pl) l)) (sym e) ∙ c.loop-place.invariant.same;
+      same = max-record pl r rest c.loop-place.end _ _ c.record_end.ensures c.max-end.ensures ∙ ap (λ l. fold max c.loop-place.end (flat_map (record_ends pl) l)) (sym e) ∙ c.loop-place.invariant.same;
     }

@@ -16,7 +16,7 @@ loop-place-init c =
 
 pub loop-place-preserved : goal.loop-place-preserved
 loop-place-preserved c =
-    c.take_undecoded-next.ensures (segdefs (without_places_of c.next.new.self))
+    c.take-next.ensures (segdefs (without_places_of c.next.new.self))
     ∙ sym (ap (λ l. fold with_portion c.loop-place.room (filter_map portion (zip c.loop-place.left.now (segdefs (without_places_of l))))) c.in-Some.ensures.steps) ∙ c.loop-place.invariant
 
 pub returns : goal.returns

@@ -7,6 +7,6 @@ use Rattle.omf_output.proofs.exe.words.is_record_clear.Goals as goal
 pub overflow_add-from-in-Some : goal.overflow_add-from-in-Some
 overflow_add-from-in-Some c =
     let e = c.in-Some.extent in
-    let fits = All-head Fits e [] (subst (All Fits) (sym c.measure.ensures ∙ ap option_to_list c.in-Some.is) c.requires.fits) in
+    let fits = All-head Fits e [] (subst (All Fits) (sym c.extent_of.ensures ∙ ap option_to_list c.in-Some.is) c.requires.fits) in
     let low = c.segment_address.ensures.low in
     omega (arith, fits, low)
