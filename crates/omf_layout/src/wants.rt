@@ -9,7 +9,7 @@ ghost use Rattle.omf_check.specs.Tables.{segments};
 ghost use Rattle.omf_layout.specs.Wants.{alignment_named, alignments, attributes, attributes_in, rooms, rooms_in, room_of};
 
 use crate::alignment::Alignment;
-use omf_check::{Checked, Undecoded};
+use omf_check::{Checked, Externals, Undecoded};
 use omf_records::{Acbp, Communal, CommunalSize, Extern, Items, Rec};
 use std::alloc::{AllocError, Global};
 
@@ -94,28 +94,16 @@ fn add_communals(rooms: &mut Vec<Option<u64>>, items: Items<Communal<'_>>) -> Re
     Ok(())
 }
 
-/// Adds the lengths of a record's externals.
-fn add_rooms(rooms: &mut Vec<Option<u64>>, rec: &Rec<'_>) -> Result<(), AllocError>
-    ensures { OnOk result (rooms.new.items ≡ rooms.old.items ++ rooms_in (contents_seen rec.now)) }
+/// Adds the lengths of a record's externals. No record but one of externals is decoded.
+fn add_rooms(rooms: &mut Vec<Option<u64>>, rec: &Undecoded<'_>) -> Result<(), AllocError>
+    ensures { OnOk result (rooms.new.items ≡ rooms.old.items ++ rooms_in rec.now.contents) }
 {
-    match rec {
-        Rec::Externs(items) => add_externs(rooms, items.iter()),
-        Rec::LocalExterns { externs, .. } => add_externs(rooms, externs.iter()),
-        Rec::Communals(items) => add_communals(rooms, items.iter()),
-        Rec::LocalCommunals(items) => add_communals(rooms, items.iter()),
-        Rec::Header { .. }
-        | Rec::Comment { .. }
-        | Rec::Names(_)
-        | Rec::Segment { .. }
-        | Rec::Group { .. }
-        | Rec::Publics { .. }
-        | Rec::Plain { .. }
-        | Rec::Iterated { .. }
-        | Rec::Fixups { .. }
-        | Rec::ModEnd { .. }
-        | Rec::LocalNames(_)
-        | Rec::LocalPublics { .. }
-        | Rec::Carried { .. } => Ok(()),
+    let Some(externals) = rec.as_externals() else {
+        return Ok(());
+    };
+    match &externals {
+        Externals::Externs { items, .. } => add_externs(rooms, items.iter()),
+        Externals::Communals { items, .. } => add_communals(rooms, items.iter()),
     }
 }
 
@@ -124,7 +112,7 @@ pub fn rooms_of(alloc: Global, module: &Checked) -> Result<Vec<Option<u64>>, All
     ensures { IfOk result (λ v. v.items ≡ rooms (recs_of «module».now.bytes)) }
 {
     let mut rooms = Vec::new(alloc);
-    for (_, rec) in module.records() {
+    for (_, rec) in module.undecoded() {
         add_rooms(&mut rooms, &rec)?;
     }
     Ok(rooms)

@@ -2,15 +2,14 @@
 
 ghost use Rattle.std.specs.Prelude.{◌≡◌, ◌++◌, OnOk, IfOk, map};
 ghost use Rattle.omf_check.specs.Module.{recs_of, typed_modules};
-ghost use Rattle.omf_records.specs.Inner.Seen.{contents_seen, kind_seen};
 ghost use Rattle.omf_records.specs.Inner.Sizes.{size_seen};
 ghost use Rattle.omf_layout.specs.Own.Claims.{all_claims, claimed, communal_claim, has_comdef, have_comdefs, is_comdef, kind_of, module_claims, public_claim, record_claims};
 ghost use Rattle.omf_layout.specs.Several.Gathered.{named};
 
 use crate::wants::room_of;
-use omf_check::{Checked, Undecoded};
+use omf_check::{Checked, Externals, Undecoded};
 use omf_frame::Name;
-use omf_records::{Communal, CommunalSize, Items, Public, Rec};
+use omf_records::{Communal, CommunalSize, Items, Public};
 use std::alloc::{AllocError, Global};
 use std::marker::Model;
 
@@ -92,44 +91,22 @@ fn add_communals<'a>(
     Ok(())
 }
 
-/// Adds the names that a record defines for other modules.
-fn add_record<'a>(claims: &mut Vec<NamedClaim<'a>>, rec: &Rec<'a>) -> Result<(), AllocError>
-    ensures { OnOk result (map named claims.new.items ≡ map named claims.old.items ++ record_claims (kind_seen rec.now) (contents_seen rec.now)) }
+/// Adds the names that a record defines for other modules. It is decoded only if it is a PUBDEF, or has externals or communals.
+fn add_record<'a>(claims: &mut Vec<NamedClaim<'a>>, rec: &Undecoded<'a>) -> Result<(), AllocError>
+    ensures { OnOk result (map named claims.new.items ≡ map named claims.old.items ++ record_claims rec.now.kind rec.now.contents) }
 {
-    match rec {
-        Rec::Publics { publics, .. } => add_publics(claims, publics.iter()),
-        Rec::Communals(communals) => add_communals(claims, communals.iter()),
-        Rec::Header { .. }
-        | Rec::Comment { .. }
-        | Rec::Names(_)
-        | Rec::Segment { .. }
-        | Rec::Group { .. }
-        | Rec::Externs(_)
-        | Rec::Plain { .. }
-        | Rec::Iterated { .. }
-        | Rec::Fixups { .. }
-        | Rec::ModEnd { .. }
-        | Rec::LocalNames(_)
-        | Rec::LocalExterns { .. }
-        | Rec::LocalPublics { .. }
-        | Rec::LocalCommunals(_)
-        | Rec::Carried { .. } => Ok(()),
+    if let Some(publics) = rec.as_publics(false) {
+        return add_publics(claims, publics.items);
     }
-}
-
-/// The same for a record that is not decoded yet. It is decoded only if it is a PUBDEF, or has externals or communals.
-fn add_undecoded<'a>(
-    claims: &mut Vec<NamedClaim<'a>>,
-    record: &Undecoded<'a>,
-) -> Result<(), AllocError>
-    ensures { OnOk result (map named claims.new.items ≡ map named claims.old.items ++ record_claims «record».now.kind «record».now.contents) }
-{
-    if let Some(rec) = record.publics(false) {
-        return add_record(claims, &rec);
-    }
-    match record.externals() {
-        Some(rec) => add_record(claims, &rec),
-        None => Ok(()),
+    let Some(externals) = rec.as_externals() else {
+        return Ok(());
+    };
+    match &externals {
+        Externals::Communals {
+            local: false,
+            items,
+        } => add_communals(claims, items.iter()),
+        _ => Ok(()),
     }
 }
 
@@ -137,8 +114,8 @@ fn add_undecoded<'a>(
 fn add_module<'a>(claims: &mut Vec<NamedClaim<'a>>, module: &'a Checked) -> Result<(), AllocError>
     ensures { OnOk result (map named claims.new.items ≡ map named claims.old.items ++ module_claims (recs_of «module».entry.now.bytes)) }
 {
-    for (_, record) in module.undecoded() {
-        add_undecoded(claims, &record)?;
+    for (_, rec) in module.undecoded() {
+        add_record(claims, &rec)?;
     }
     Ok(())
 }
@@ -157,21 +134,14 @@ pub fn claims_of<'a>(
     Ok(claims)
 }
 
-/// Returns whether a record is a COMDEF.
-fn is_comdef(rec: &Rec<'_>) -> bool
-    ensures { result ≡ is_comdef (kind_seen rec.now) (contents_seen rec.now) }
+/// Returns whether a record is a COMDEF. It is decoded only if it has externals or communals.
+fn is_comdef(rec: &Undecoded<'_>) -> bool
+    ensures { result ≡ is_comdef rec.now.kind rec.now.contents }
 {
-    matches!(rec, Rec::Communals(_))
-}
-
-/// The same for a record that is not decoded yet. It is decoded only if it has externals or communals.
-fn is_undecoded_comdef(record: &Undecoded<'_>) -> bool
-    ensures { result ≡ is_comdef «record».now.kind «record».now.contents }
-{
-    match record.externals() {
-        Some(rec) => is_comdef(&rec),
-        None => false,
-    }
+    matches!(
+        rec.as_externals(),
+        Some(Externals::Communals { local: false, .. })
+    )
 }
 
 /// Returns whether a module has a COMDEF.
@@ -179,8 +149,8 @@ fn has_comdef(module: &Checked) -> bool
     ensures { result ≡ has_comdef (recs_of «module».now.bytes) }
 {
     let mut found = false;
-    for (_, record) in module.undecoded() {
-        found = found || is_undecoded_comdef(&record);
+    for (_, rec) in module.undecoded() {
+        found = found || is_comdef(&rec);
     }
     found
 }

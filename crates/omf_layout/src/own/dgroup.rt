@@ -52,30 +52,13 @@ fn add_record<'a>(
 ) -> Result<(), AllocError>
     ensures { OnOk result (map (λ c. c.now) classes.new.items ≡ map (λ c. c.now) classes.old.items ++ classes_in (recs_of «module».entry.now.bytes) (contents_seen rec.now)) }
 {
-    match rec {
-        Rec::Group { name, members } => {
-            if name_at(module, name.item.0) == b"DGROUP".as_slice() {
-                return add_members(classes, module, members.iter());
-            }
-            Ok(())
-        }
-        Rec::Header { .. }
-        | Rec::Comment { .. }
-        | Rec::Names(_)
-        | Rec::Segment { .. }
-        | Rec::Externs(_)
-        | Rec::Publics { .. }
-        | Rec::Communals(_)
-        | Rec::Plain { .. }
-        | Rec::Iterated { .. }
-        | Rec::Fixups { .. }
-        | Rec::ModEnd { .. }
-        | Rec::LocalNames(_)
-        | Rec::LocalExterns { .. }
-        | Rec::LocalPublics { .. }
-        | Rec::LocalCommunals(_)
-        | Rec::Carried { .. } => Ok(()),
+    let Rec::Group { name, members } = rec else {
+        return Ok(());
+    };
+    if name_at(module, name.item.0) == b"DGROUP".as_slice() {
+        return add_members(classes, module, members.iter());
     }
+    Ok(())
 }
 
 /// Adds the classes that a module has in DGROUP.

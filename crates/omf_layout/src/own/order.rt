@@ -2,7 +2,6 @@
 
 ghost use Rattle.std.specs.Prelude.{◌≡◌, ◌≤◌, ◌<◌, ◌+◌, ◌^◌, ◌++◌, ◌∷◌, [], IfErr, IfOk, OnOk, codes, length};
 ghost use Rattle.omf_check.specs.Module.{recs_of, typed_modules};
-ghost use Rattle.omf_records.specs.Inner.Seen.{contents_seen};
 ghost use Rattle.omf_layout.specs.Own.Communals.{are_grouped};
 ghost use Rattle.omf_layout.specs.Own.OrderFault.{IsOrderFault};
 ghost use Rattle.omf_layout.specs.Own.Order.{ask_dos_order, asks_dos_order, bss_names, data_names, dgroup_records, end_publics, is_dosseg, missing, order_group, order_records, slot_names, slot_records, slots, slots_records};
@@ -17,7 +16,6 @@ use crate::own::records::{
 use crate::own::slots::{Ordered, Slot, in_dos_order, slots_of};
 use omf_check::{Checked, Undecoded};
 use omf_frame::{Index, Name};
-use omf_records::Rec;
 use std::alloc::{AllocError, AllocFailed, Global};
 
 /// The most segments: each has two names, the group has one, and a module has at most 32,767 names.
@@ -57,37 +55,12 @@ impl<T: Drop> From<AllocFailed<T>> for OrderFault {
     }
 }
 
-/// Returns whether a record is a comment that asks for DOS order.
-fn is_dosseg(rec: &Rec<'_>) -> bool
-    ensures { result ≡ is_dosseg (contents_seen rec.now) }
+/// Returns whether a record is a comment that asks for DOS order. No other record is decoded.
+fn is_dosseg(rec: &Undecoded<'_>) -> bool
+    ensures { result ≡ is_dosseg rec.now.contents }
 {
-    match rec {
-        Rec::Comment { class, .. } => *class == DOSSEG,
-        Rec::Header { .. }
-        | Rec::Names(_)
-        | Rec::Segment { .. }
-        | Rec::Group { .. }
-        | Rec::Externs(_)
-        | Rec::Publics { .. }
-        | Rec::Communals(_)
-        | Rec::Plain { .. }
-        | Rec::Iterated { .. }
-        | Rec::Fixups { .. }
-        | Rec::ModEnd { .. }
-        | Rec::LocalNames(_)
-        | Rec::LocalExterns { .. }
-        | Rec::LocalPublics { .. }
-        | Rec::LocalCommunals(_)
-        | Rec::Carried { .. } => false,
-    }
-}
-
-/// The same for a record that is not decoded yet. It is decoded only if it is a comment.
-fn is_undecoded_dosseg(record: &Undecoded<'_>) -> bool
-    ensures { result ≡ is_dosseg «record».now.contents }
-{
-    match record.comment() {
-        Some(rec) => is_dosseg(&rec),
+    match rec.as_comment() {
+        Some(comment) => comment.class == DOSSEG,
         None => false,
     }
 }
@@ -97,8 +70,8 @@ fn asks_dos_order(module: &Checked) -> bool
     ensures { result ≡ asks_dos_order (recs_of «module».now.bytes) }
 {
     let mut found = false;
-    for (_, record) in module.undecoded() {
-        found = found || is_undecoded_dosseg(&record);
+    for (_, rec) in module.undecoded() {
+        found = found || is_dosseg(&rec);
     }
     found
 }

@@ -7,14 +7,14 @@ use Rattle.omf_layout.proofs.Gathered.{more-given, all-given}
 use Rattle.omf_layout.proofs.OwnLaws.{claims-by, claims-all}
 use Rattle.omf_layout.proofs.own.claims.add_module.Goals as goal
 
-pub loop-record-init : goal.loop-record-init
-loop-record-init c =
-    let listed = c.into_iter-record-iterator.ensures.into_iter_gives ∙ c.undecoded-record-items.ensures.listed in
+pub loop-rec-init : goal.loop-rec-init
+loop-rec-init c =
+    let listed = c.into_iter-rec-iterator.ensures.into_iter_gives ∙ c.undecoded-rec-items.ensures.listed in
     ap (λ xs. map named c.args.claims.now.items ++ xs) (ap claims-by listed ∙ claims-all 0 0 (records_in c.args.«module».now.bytes))
 
-pub loop-record-preserved : goal.loop-record-preserved
-loop-record-preserved c =
-    more-given (map named c.loop-record.claims.items) (map named c.add_undecoded.new.claims.items) (record_claims c.in-Some.record.kind c.in-Some.record.contents) _ _ _ (c.in_ok-add_undecoded.ensures) (ap claims-by c.in-Some.ensures.steps) c.loop-record.invariant
+pub loop-rec-preserved : goal.loop-rec-preserved
+loop-rec-preserved c =
+    more-given (map named c.loop-rec.claims.items) (map named c.add_record.new.claims.items) (record_claims c.in-Some.rec.kind c.in-Some.rec.contents) _ _ _ (c.in_ok-add_record.ensures) (ap claims-by c.in-Some.ensures.steps) c.loop-rec.invariant
 
 pub returns : goal.returns
-returns c = all-given (map named c.loop-record.claims.items) _ _ (ap claims-by c.in-None.ensures.steps.0) c.loop-record.invariant
+returns c = all-given (map named c.loop-rec.claims.items) _ _ (ap claims-by c.in-None.ensures.steps.0) c.loop-rec.invariant

@@ -8,5 +8,5 @@ use Rattle.omf_layout.proofs.OwnLaws.{claims-by}
 use Rattle.omf_layout.proofs.own.claims.add_module.Given as goal
 
 -- the claims so far, and those of the records that are left
-abbrev pub invariant-loop-record : goal.invariant-loop-record
-invariant-loop-record l = map named l.claims.items ++ claims-by l.record-iterator ≡ map named l.fn.claims.items ++ module_claims (recs (records_in l.«module».bytes))
+abbrev pub invariant-loop-rec : goal.invariant-loop-rec
+invariant-loop-rec l = map named l.claims.items ++ claims-by l.rec-iterator ≡ map named l.fn.claims.items ++ module_claims (recs (records_in l.«module».bytes))

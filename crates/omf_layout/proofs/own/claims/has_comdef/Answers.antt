@@ -3,5 +3,5 @@ use Rattle.omf_check.specs.Module.{records_in}
 use Rattle.omf_layout.proofs.ComdefLaws.{comdefs-by, comdefs-all}
 use Rattle.omf_layout.proofs.own.claims.has_comdef.Goals as goal
 
-pub loop-record-init : goal.loop-record-init
-loop-record-init c = ap comdefs-by (c.into_iter-record-iterator.ensures.into_iter_gives ∙ c.undecoded-record-items.ensures.listed) ∙ comdefs-all 0 0 (records_in c.args.«module».now.bytes)
+pub loop-rec-init : goal.loop-rec-init
+loop-rec-init c = ap comdefs-by (c.into_iter-rec-iterator.ensures.into_iter_gives ∙ c.undecoded-rec-items.ensures.listed) ∙ comdefs-all 0 0 (records_in c.args.«module».now.bytes)

@@ -7,5 +7,5 @@ use Rattle.omf_layout.proofs.ComdefLaws.{comdefs-by}
 use Rattle.omf_layout.proofs.own.claims.has_comdef.Given as goal
 
 -- one so far, or one of those that are left
-abbrev pub invariant-loop-record : goal.invariant-loop-record
-invariant-loop-record l = (l.found || comdefs-by l.record-iterator) ≡ has_comdef (recs (records_in l.«module».bytes))
+abbrev pub invariant-loop-rec : goal.invariant-loop-rec
+invariant-loop-rec l = (l.found || comdefs-by l.rec-iterator) ≡ has_comdef (recs (records_in l.«module».bytes))

@@ -7,5 +7,5 @@ use Rattle.omf_layout.proofs.OrderModule.{asks-by}
 use Rattle.omf_layout.proofs.own.order.asks_dos_order.Given as goal
 
 -- one so far, or one of those that are left
-abbrev pub invariant-loop-record : goal.invariant-loop-record
-invariant-loop-record l = (l.found || asks-by l.record-iterator) ≡ asks_dos_order (recs (records_in l.«module».bytes))
+abbrev pub invariant-loop-rec : goal.invariant-loop-rec
+invariant-loop-rec l = (l.found || asks-by l.rec-iterator) ≡ asks_dos_order (recs (records_in l.«module».bytes))
