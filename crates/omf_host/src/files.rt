@@ -1,4 +1,4 @@
-//! Files by name: reading, and writing of whole files.
+//! Files by name: reading, and writing of new files.
 
 use std::alloc::AllocError;
 use std::fs::{File, Metadata};
@@ -56,27 +56,6 @@ pub(crate) fn fill_new(
             Err(error)
         }
     }
-}
-
-/// Writes a file: beside it, as `PATH.tmp`, which is then renamed. So the file has all of the bytes, or is as it was before.
-///
-/// # Errors
-///
-/// `AllocError` if there is no memory for the name. Nothing is written then.
-pub fn write_whole(
-    rt: &HostRuntime,
-    path: &str,
-    bytes: &[u8],
-) -> Result<io::Result<()>, AllocError> {
-    let beside = format!(in rt.alloc(); "{path}.tmp")?;
-    if let Err(error) = fill_new(rt, beside.as_str(), bytes, None) {
-        return Ok(Err(error));
-    }
-    let renamed = fs::rename(rt, beside.as_str(), path);
-    if renamed.is_err() {
-        let _ = fs::remove_file(rt, beside.as_str());
-    }
-    Ok(renamed)
 }
 
 /// Whether a path has a file, a folder or a link.

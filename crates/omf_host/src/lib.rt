@@ -31,7 +31,7 @@ mod writing;
 
 pub use clash::{RunFiles, refuse_clash};
 pub use ending::Status;
-pub use files::{Written, read_input, write_new, write_whole};
+pub use files::{Written, read_input, write_new};
 pub use lines::{put_failure, put_title, put_unread, put_unwritten};
 pub use misuse::{About, explain, misuse_line, misused_by};
 pub use output::{end, misused, out_of_memory, put};

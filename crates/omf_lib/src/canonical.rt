@@ -8,6 +8,7 @@ use crate::members::{Member, Verdict, judge};
 use crate::shown::{Shown, Stop};
 use omf_canon::canon;
 use omf_check::{Checked, Profile};
+use omf_frame::Sink;
 use omf_host::{Status, read_input};
 use omf_library::Part;
 use std::alloc::{AllocError, Global};
@@ -63,9 +64,10 @@ fn push_name(alloc: Global, names: &mut Vec<String>, number: usize) -> Result<()
 }
 
 /// Makes a library of the canonical bytes of the members.
-fn write_canonical(
+fn write_canonical<K: Sink>(
     rt: &HostRuntime,
     shown: &mut Shown,
+    writer: &mut K,
     asked: &Make,
     library: &Library<'_>,
 ) -> Result<(), Stop> {
@@ -84,12 +86,17 @@ fn write_canonical(
         parts: parts.as_slice(),
         is_case_sensitive: library.header.flags % 2 == 1,
     };
-    write_members(rt, shown, asked, members)
+    write_members(rt, shown, writer, asked, members)
 }
 
 /// Makes a library of the canonical bytes of another one's members, in order. Nothing is written if that is no library,
 /// or if a member is refused.
-pub fn canon_library(rt: &HostRuntime, shown: &mut Shown, asked: &Make) -> Result<(), Stop> {
+pub fn canon_library<K: Sink>(
+    rt: &HostRuntime,
+    shown: &mut Shown,
+    writer: &mut K,
+    asked: &Make,
+) -> Result<(), Stop> {
     let Some(name) = asked.files.get(0) else {
         return Ok(());
     };
@@ -103,6 +110,6 @@ pub fn canon_library(rt: &HostRuntime, shown: &mut Shown, asked: &Make) -> Resul
     };
     match library.spans.end {
         Err(fault) => Ok(shown.fault(Fault::from(fault))?),
-        Ok(_) => write_canonical(rt, shown, asked, &library),
+        Ok(_) => write_canonical(rt, shown, writer, asked, &library),
     }
 }

@@ -11,8 +11,8 @@ use crate::taking::get;
 use omf_check::Profile;
 use omf_frame::{Sink, Writing};
 use omf_host::{
-    About, Status, arguments, end, explain, misused_by, out_of_memory, put, put_title, put_unread,
-    question_in, read_input,
+    About, RunFiles, Status, arguments, end, explain, misused_by, out_of_memory, put, put_title,
+    put_unread, question_in, read_input, refuse_clash,
 };
 use std::alloc::{AllocError, Global};
 use std::process::ExitCode;
@@ -34,7 +34,8 @@ const ABOUT: About = About {
   make    a new library of object modules (.OBJ)
   canon   a new library of the canonical bytes of a library's members
 
-  -o LIB                    the library to make, which must not exist
+  -o LIB                    the library to make, which must not exist; - is the
+                            standard output
   -d DIR                    the folder for the files, which must exist
   --numbered                name the files by the members' numbers
   --ignore-case             take names that differ in case as one
@@ -145,18 +146,36 @@ fn act_on<K: Sink>(
     }
 }
 
+/// Refuses a library that is one of the files that it is made of. Returns the status then.
+fn refuse_output(rt: &HostRuntime, asked: &Make) -> Result<Option<Status>, AllocError> {
+    let files = RunFiles {
+        inputs: &asked.files,
+        text: None,
+        output: asked.output.as_str(),
+        second: None,
+    };
+    let about = &ABOUT;
+    refuse_clash(rt, about.name, files)
+}
+
 /// Makes a library. Returns the status.
 fn act_make<K: Sink>(rt: &HostRuntime, writer: &mut K, asked: &Make) -> Result<Status, Stop> {
+    if let Some(status) = refuse_output(rt, asked)? {
+        return Ok(status);
+    }
     let mut shown = Shown::new(rt.alloc());
-    make_library(rt, &mut shown, asked)?;
+    make_library(rt, &mut shown, writer, asked)?;
     shown.flush(writer)?;
     Ok(shown.status)
 }
 
 /// Makes a library of the canonical bytes of another one's members. Returns the status.
 fn act_canon<K: Sink>(rt: &HostRuntime, writer: &mut K, asked: &Make) -> Result<Status, Stop> {
+    if let Some(status) = refuse_output(rt, asked)? {
+        return Ok(status);
+    }
     let mut shown = Shown::new(rt.alloc());
-    canon_library(rt, &mut shown, asked)?;
+    canon_library(rt, &mut shown, writer, asked)?;
     shown.flush(writer)?;
     Ok(shown.status)
 }

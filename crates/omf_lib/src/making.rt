@@ -3,8 +3,9 @@
 use crate::asked::Make;
 use crate::members::{Verdict, judge};
 use crate::names::is_same_name;
-use crate::shown::{Shown, Stop};
+use crate::shown::{Shown, Stop, send_bytes};
 use crate::text::put_reason;
+use omf_frame::Sink;
 use omf_host::{Status, Written, put_name, put_quoted, read_input, write_new};
 use omf_library::{Defined, Kind, MakeFault, Part, make};
 use std::alloc::AllocError;
@@ -160,10 +161,11 @@ pub struct Members<'a> {
     pub is_case_sensitive: bool,
 }
 
-/// Makes a library of modules, and writes it.
-pub fn write_members(
+/// Makes a library of modules, and writes it; on the standard output if its name is `-`.
+pub fn write_members<K: Sink>(
     rt: &HostRuntime,
     shown: &mut Shown,
+    writer: &mut K,
     asked: &Make,
     members: Members<'_>,
 ) -> Result<(), Stop> {
@@ -173,13 +175,19 @@ pub fn write_members(
         is_case_sensitive,
     } = members;
     match make(rt.alloc(), asked.profile, is_case_sensitive, parts) {
+        Ok(bytes) if asked.output.as_str() == "-" => send_bytes(writer, &bytes),
         Ok(bytes) => Ok(write_library(rt, shown, asked, parts.len(), &bytes)?),
         Err(fault) => put_fault(shown, asked, names, parts, fault),
     }
 }
 
 /// Makes a library of the files, in order. Nothing is written if a file is refused or could not be read.
-pub fn make_library(rt: &HostRuntime, shown: &mut Shown, asked: &Make) -> Result<(), Stop> {
+pub fn make_library<K: Sink>(
+    rt: &HostRuntime,
+    shown: &mut Shown,
+    writer: &mut K,
+    asked: &Make,
+) -> Result<(), Stop> {
     let mut parts = Vec::new(rt.alloc());
     for name in asked.files.iter() {
         push_part(rt, shown, &mut parts, asked, name.as_str())?;
@@ -192,5 +200,5 @@ pub fn make_library(rt: &HostRuntime, shown: &mut Shown, asked: &Make) -> Result
         parts: parts.as_slice(),
         is_case_sensitive: !asked.ignores_case,
     };
-    write_members(rt, shown, asked, members)
+    write_members(rt, shown, writer, asked, members)
 }

@@ -25,14 +25,21 @@ impl From<AllocError> for Stop {
     }
 }
 
+/// Writes bytes.
+pub fn send_bytes<K: Sink>(writer: &mut K, bytes: &[u8]) -> Result<(), Stop>
+    ensures { IfOk result (λ _. Appends (K.seen writer.old).bytes (K.seen writer.new).bytes bytes.now) }
+{
+    match put(writer, bytes) {
+        Status::Done => Ok(()),
+        Status::Refused | Status::Misused | Status::Failed => Err(Stop::Write),
+    }
+}
+
 /// Writes a text.
 pub fn send<K: Sink>(writer: &mut K, text: &str) -> Result<(), Stop>
     ensures { IfOk result (λ _. Appends (K.seen writer.old).bytes (K.seen writer.new).bytes text.now) }
 {
-    match put(writer, text.as_bytes()) {
-        Status::Done => Ok(()),
-        Status::Refused | Status::Misused | Status::Failed => Err(Stop::Write),
-    }
+    send_bytes(writer, text.as_bytes())
 }
 
 /// The status of what is refused or not.

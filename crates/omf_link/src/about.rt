@@ -25,7 +25,8 @@ pub(crate) const ABOUT: About = About {
           gives them
   draft   a text with addresses, to begin with
 
-  -o FILE                  the output; without it the standard output
+  -o FILE                  the output; without it, or where FILE is -, the standard
+                           output
   -t TEXT                  the text with the addresses
   --map FILE               exe, com: the map of the program
   --stack SIZE             exe, com: a stack of SIZE bytes more, decimal

@@ -3,7 +3,7 @@
 use crate::about::ABOUT;
 use crate::libraries::Sources;
 use omf_frame::Sink;
-use omf_host::{Status, misused_by};
+use omf_host::{OutputFile, RunFiles, Status, misused_by, refuse_clash};
 use omf_linker::asked::{Asked, sorted};
 use omf_linker::exe::{
     Call, ExeOptions, LinkedModules, ProgramModules, Refusal, call_of, missing_lines,
@@ -44,19 +44,6 @@ fn map_of(
     Ok(Some(modules.map(alloc, files)?))
 }
 
-/// Writes the map of a program to a file, if there is one. Returns the status.
-fn write_map<K: Sink>(
-    rt: &HostRuntime,
-    name: Option<&str>,
-    map: Option<&Vec<u8>>,
-    writer: &mut K,
-) -> Result<Status, AllocError> {
-    match (name, map) {
-        (Some(name), Some(map)) => write_or_tell(rt, name, map, writer),
-        _ => Ok(Status::Done),
-    }
-}
-
 /// A program, its map if that is asked for, and the warnings about it.
 #[derive(Drop)]
 struct MadeProgram {
@@ -66,6 +53,24 @@ struct MadeProgram {
     long: String,
     near: String,
     lacks_stack: bool,
+}
+
+impl MadeProgram {
+    /// The program as an output.
+    fn file<'a>(&'a self, output: Output<'a>) -> OutputFile<'a> {
+        OutputFile {
+            name: output.name,
+            bytes: &self.bytes,
+        }
+    }
+
+    /// The map as an output, if it is asked for.
+    fn map_file<'a>(&'a self, output: Output<'a>) -> Option<OutputFile<'a>> {
+        Some(OutputFile {
+            name: output.map?,
+            bytes: self.map.as_ref()?,
+        })
+    }
 }
 
 /// What is written: the program, as a .COM file or not, and its map; and whether more than one public may have a name, segments and groups may be longer
@@ -153,14 +158,27 @@ fn write_program<K: Sink>(
         Ok(made) => made,
         Err(refusal) => return refuse(rt, &refusal, &sources.missing, writer),
     };
-    let mut status = write_or_tell(rt, output.name, &made.bytes, writer)?;
-    if status == Status::Done {
-        status = write_map(rt, output.map, made.map.as_ref(), writer)?;
-    }
+    let status = write_or_tell(rt, made.file(output), made.map_file(output), writer)?;
     if status == Status::Done {
         warn(rt, &made);
     }
     Ok(status)
+}
+
+/// Refuses outputs that are one of these inputs, or one another. Returns the status then.
+fn refuse_outputs<'a>(
+    rt: &HostRuntime,
+    inputs: &'a [String],
+    output: Output<'a>,
+) -> Result<Option<Status>, AllocError> {
+    let files = RunFiles {
+        inputs,
+        text: None,
+        output: output.name,
+        second: output.map,
+    };
+    let about = &ABOUT;
+    refuse_clash(rt, about.name, files)
 }
 
 /// Makes a program of files with these options, and writes it. The memory of the modules is not freed: the run ends. Returns the status.
@@ -171,10 +189,17 @@ fn with_options<K: Sink>(
     output: Output<'_>,
     writer: &mut K,
 ) -> Result<Status, AllocError> {
+    if let Some(status) = refuse_outputs(rt, &asked.files, output)? {
+        return Ok(status);
+    }
     let Some(mut sources) = Sources::read(rt, asked.files.as_slice(), writer)? else {
         return Ok(Status::Failed);
     };
-    match sources.modules(rt, options)? {
+    let modules = sources.modules(rt, options)?;
+    if let Some(status) = refuse_outputs(rt, &sources.libraries, output)? {
+        return Ok(status);
+    }
+    match modules {
         Ok(modules) => {
             let status = write_program(rt, &modules, &sources, output, writer);
             forget(modules);

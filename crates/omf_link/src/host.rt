@@ -5,7 +5,8 @@ use crate::exe;
 use omf_cmd::Fault;
 use omf_frame::{Sink, Writing};
 use omf_host::{
-    Status, end, explain, misused_by, out_of_memory, program_and_arguments, put, question_in,
+    RunFiles, Status, end, explain, misused_by, out_of_memory, program_and_arguments, put,
+    question_in, refuse_clash,
 };
 use omf_linker::asked::{Asked, sorted};
 use omf_linker::host::{read_or_tell, run_on_input, write_output_or_tell};
@@ -156,6 +157,26 @@ fn written_or_told<K: Sink>(
     written(rt, name, &seen.shown, writer)
 }
 
+/// Refuses an output that is an input or the text of the same run. Returns the status then.
+fn refuse_output(rt: &HostRuntime, asked: &Asked) -> Result<Option<Status>, AllocError> {
+    let Some(output) = &asked.output else {
+        return Ok(None);
+    };
+    let text = if is_on_input(asked) {
+        Some("-")
+    } else {
+        asked.text.as_ref().map(|name| name.as_str())
+    };
+    let files = RunFiles {
+        inputs: &asked.files,
+        text,
+        output: output.as_str(),
+        second: None,
+    };
+    let about = &ABOUT;
+    refuse_clash(rt, about.name, files)
+}
+
 /// Does a task, and writes its output, or the line of its fault. Returns the status.
 fn on_files<K: Sink>(
     rt: &HostRuntime,
@@ -163,6 +184,9 @@ fn on_files<K: Sink>(
     asked: &Asked,
     writer: &mut K,
 ) -> Result<Status, AllocError> {
+    if let Some(status) = refuse_output(rt, asked)? {
+        return Ok(status);
+    }
     let found = if is_on_input(asked) {
         of_input(rt, manner, writer)?
     } else {

@@ -16,6 +16,8 @@ const ROUNDS: usize = 1000;
 pub(crate) struct Sources {
     /// The files of the arguments, and after them the libraries that were found.
     pub(crate) files: Vec<InputFile>,
+    /// The names of these libraries.
+    pub(crate) libraries: Vec<String>,
     /// The names that were looked for.
     known: Vec<Vec<u8>>,
     /// Those that were not found.
@@ -32,10 +34,12 @@ impl Sources {
         let Some(files) = read_files(rt, names, writer)? else {
             return Ok(None);
         };
+        let libraries = Vec::new(rt.alloc());
         let known = Vec::new(rt.alloc());
         let missing = Vec::new(rt.alloc());
         Ok(Some(Sources {
             files,
+            libraries,
             known,
             missing,
         }))
@@ -58,6 +62,7 @@ impl Sources {
         }
         match read_library(rt, name.as_str()) {
             Some(bytes) => {
+                self.libraries.push(name.clone()?)?;
                 self.files.push(InputFile::new(name, bytes))?;
                 Ok(true)
             }

@@ -4,24 +4,24 @@ use crate::exe::is_library;
 use crate::link::{Output, file_front};
 use omf_cmd::{Program, run_with};
 use omf_frame::{Buffered, Sink};
-use omf_host::{Status, put, read_input, write_whole};
+use omf_host::{OutputFile, Status, Unwritten, put, put_quoted, read_input, write_outputs};
 use std::alloc::{AllocError, Global};
+use std::fmt::Write;
 use std::io::BufReader;
 use std::{fs, io};
 
 /// The number of bytes read from the standard input at once.
 const PIECE: usize = 65_536;
 
-/// Writes the line of a file that could not be read or written: its name, what failed, and the system's reason.
-fn tell_failed<K: Sink>(
+/// Writes the line of a file that could not be read: its name, and the system's reason.
+fn tell_unread<K: Sink>(
     alloc: Global,
     writer: &mut K,
     name: &str,
-    what: &str,
     error: &io::Error,
 ) -> Result<(), AllocError> {
     let front = file_front(alloc, name.as_bytes())?;
-    let line = format!(in alloc; "{front}{what}: {error}\n")?;
+    let line = format!(in alloc; "{front}read: {error}\n")?;
     let _ = put(writer, line.as_bytes());
     Ok(())
 }
@@ -35,7 +35,7 @@ pub fn read_or_tell<K: Sink>(
     match read_input(rt, name) {
         Ok(bytes) => Ok(Some(bytes)),
         Err(error) => {
-            tell_failed(rt.alloc(), writer, name, "read", &error)?;
+            tell_unread(rt.alloc(), writer, name, &error)?;
             Ok(None)
         }
     }
@@ -49,23 +49,42 @@ pub fn read_library(rt: &HostRuntime, name: &str) -> Option<Vec<u8>> {
     }
 }
 
-/// Writes a file, which is never half written. Returns `Done`; or `Failed`, after a line on why, if it could not be written.
+/// Writes the line of an output that could not be written: its name, the system's reason, and the output that is written nevertheless.
+fn tell_unwritten<K: Sink>(
+    alloc: Global,
+    writer: &mut K,
+    unwritten: &Unwritten<'_>,
+) -> Result<(), AllocError> {
+    let mut line = file_front(alloc, unwritten.name.as_bytes())?;
+    let error = &unwritten.error;
+    write!(&mut line, "write: {error}")?;
+    if let Some(name) = unwritten.written {
+        line.push_str("; ")?;
+        put_quoted(&mut line, name.as_bytes())?;
+        line.push_str(" is written")?;
+    }
+    line.push('\n')?;
+    let _ = put(writer, line.as_bytes());
+    Ok(())
+}
+
+/// Writes one or two outputs (`omf_host::write_outputs`). Returns `Done`; or `Failed`, after a line on why, if one could not be written.
 pub fn write_or_tell<K: Sink>(
     rt: &HostRuntime,
-    name: &str,
-    bytes: &[u8],
+    first: OutputFile<'_>,
+    second: Option<OutputFile<'_>>,
     writer: &mut K,
 ) -> Result<Status, AllocError> {
-    match write_whole(rt, name, bytes)? {
-        Ok(()) => Ok(Status::Done),
-        Err(error) => {
-            tell_failed(rt.alloc(), writer, name, "write", &error)?;
+    match write_outputs(rt, writer, first, second)? {
+        None => Ok(Status::Done),
+        Some(unwritten) => {
+            tell_unwritten(rt.alloc(), writer, &unwritten)?;
             Ok(Status::Failed)
         }
     }
 }
 
-/// Writes an output to a file, which is never half written. Returns `Done`; or `Failed`, after a line on why, if it could not be written.
+/// Writes an output to a file. Returns `Done`; or `Failed`, after a line on why, if it could not be written.
 pub fn write_output_or_tell<K: Sink>(
     rt: &HostRuntime,
     name: &str,
@@ -73,7 +92,11 @@ pub fn write_output_or_tell<K: Sink>(
     writer: &mut K,
 ) -> Result<Status, AllocError> {
     let bytes = output.bytes(rt.alloc())?;
-    write_or_tell(rt, name, &bytes, writer)
+    let file = OutputFile {
+        name,
+        bytes: &bytes,
+    };
+    write_or_tell(rt, file, None, writer)
 }
 
 /// Does what arguments ask of a program, on the standard input. Returns the status.
