@@ -154,7 +154,7 @@ def replaced(folder):
 
 
 def all_or_none(folder):
-    """Where the map cannot be written the program is not, or the line says that it is."""
+    """Where the map cannot be written the program is not, or the line names it."""
     for name in ("folder", "no/such", "round"):
         folder.fails([LINK, *EXE, "-o", "a.exe", "--map", name], 3, name.encode())
         folder.fails([LINK, *EXE, "-o", "target", "--map", name], 3, name.encode())

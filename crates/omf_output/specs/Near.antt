@@ -11,6 +11,7 @@ use Rattle.omf_check.specs.Module.{Module, recs_of, records_in}
 use Rattle.omf_check.specs.Tables.{entry, groups, segments}
 use Rattle.omf_placement.specs.Derive.{PlacedModule}
 use Rattle.omf_placement.specs.Placement.{Places, place_of}
+-- computed: threads_give_references and faults_are_walked of omf_reloc.
 use Rattle.omf_reloc.specs.Inner.Pieces.{placed_pieces}
 use Rattle.omf_reloc.specs.Offsets.{offsets}
 use Rattle.omf_reloc.specs.Plain.{Piece, Kept, Fixed, End, PlainFixup}
