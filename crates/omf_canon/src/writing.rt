@@ -323,29 +323,15 @@ impl Walk {
         ensures put { OnOk result (ArePut (contents_pieces self.old.threads (kind_seen rec.now) (contents_seen rec.now)) self.old.out.items self.old.group self.new.out.items self.new.group) }
         ensures threads { self.new.threads ≡ self.old.threads }
     {
-        match rec {
-            Rec::Fixups { .. } => unreachable!(),
-            Rec::ModEnd {
-                type_byte,
-                start,
-                ..
-            } => self.end(alloc, rec.kind(), *type_byte, start),
-            Rec::Header { .. }
-            | Rec::Comment { .. }
-            | Rec::Names(_)
-            | Rec::Segment { .. }
-            | Rec::Group { .. }
-            | Rec::Externs(_)
-            | Rec::Publics { .. }
-            | Rec::Communals(_)
-            | Rec::Plain { .. }
-            | Rec::Iterated { .. }
-            | Rec::LocalNames(_)
-            | Rec::LocalExterns { .. }
-            | Rec::LocalPublics { .. }
-            | Rec::LocalCommunals(_)
-            | Rec::Carried { .. } => self.keep(rec),
-        }
+        let Rec::ModEnd {
+            type_byte,
+            start,
+            ..
+        } = rec
+        else {
+            return self.keep(rec);
+        };
+        self.end(alloc, rec.kind(), *type_byte, start)
     }
 
     /// Copies the contents of an LEDATA or an LIDATA whose index is in its shortest encoding.
