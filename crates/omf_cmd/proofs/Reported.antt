@@ -1,5 +1,5 @@
 -- The texts of a module, line by line: what is written, what is kept, and the lines of what is left, are the whole text.
-use Rattle.std.proofs.Common.{◌≡◌, ℕ, suc, ◌+◌, ◌-◌, ◌<◌, ◌≤◌, List, [], ◌∷◌, ◌++◌, Bool, true, false, refl, sym, ap, subst, ◌∙◌, arith, length, length-append, append_assoc, drop, inl, inr}
+use Rattle.std.proofs.Common.{◌≡◌, ℕ, suc, ◌+◌, ◌-◌, ◌<◌, ◌≤◌, List, [], ◌∷◌, ◌++◌, Bool, true, false, refl, sym, ap, subst, ◌∙◌, arith, length, length-append, append_assoc, drop}
 use Rattle.std.proofs.lemmas.Grind.{flat_map-append}
 use Rattle.std.proofs.lemmas.List.{append-nil, drop_all, nil_from_length}
 use Rattle.std.proofs.lemmas.Bool.{le-leb}
@@ -11,9 +11,9 @@ use Rattle.std.specs.Prelude.{flat_map, Result, Option, Some, None, option_map, 
 use Rattle.omf_frame.specs.Bytes.{with_before}
 use Rattle.omf_frame.specs.Framing.{Raw, raw_bytes, front_record, present, after_front}
 use Rattle.omf_records.specs.Inner.Reading.{typed}
-use Rattle.omf_records.specs.Records.{contents}
-use Rattle.omf_records.specs.Values.{Rec, Contents, Names, Group, GroupItem, Publics}
+use Rattle.omf_records.specs.Values.{Rec, Contents, Group, GroupItem}
 use Rattle.omf_check.specs.Tables.{entry}
+use Rattle.omf_check.specs.Listed.{placed_from}
 use Rattle.omf_check.specs.WellFormed.{recs}
 use Rattle.omf_frame.specs.Types.{type_name}
 use Rattle.omf_cmd.specs.Inner.Names.{record_line}
@@ -21,11 +21,8 @@ use Rattle.omf_cmd.specs.Printed.{line}
 use Rattle.omf_placement.specs.Quoted.{hex}
 use Rattle.omf_cmd.specs.Runs.{IsPart}
 use Rattle.omf_cmd.specs.Inner.Printing.{IsWrittenUpTo, Passes}
-use Rattle.omf_cmd.specs.Inner.Types.{has_publics}
 use Rattle.omf_cmd.specs.Listing.{public_lines}
-use Rattle.omf_reloc.proofs.LeftLaws.{AreLeft, none-left, parts, left-kind, left-body, left-next, left-spelled}
-use Rattle.omf_check.proofs.TypeLaws.{has-type, never-one}
-use Rattle.omf_check.specs.Inner.Known.{HasType}
+use Rattle.omf_reloc.proofs.LeftLaws.{AreLeft, parts, left-kind, left-body, left-next}
 use Rattle.omf_cmd.specs.declared.fault.RunFault.{RunFault}
 use Rattle.omf_cmd.proofs.Pieces.{none_written, stopped_by, went_on}
 
@@ -185,54 +182,10 @@ module _ (records : List Raw) (number count : ℕ) (left : List ℕ) (held held'
 
 -- ---- publics, one record after another
 
--- a record of another type has no publics
-pub no-publics : (kind : ℕ) (body : List ℕ) (c : Contents) → has_publics kind ≡ false → (contents kind).Spells 3 body c → public_lines c ≡ []
-no-publics kind body c other s = by c (has-type kind 3 body c s)
-  where
-    by : (c : Contents) → HasType kind c → public_lines c ≡ []
-    by (Publics p) is = elim is [ inl x ↦ absurd (never-one 0x90 0x91 kind has_publics refl refl other x) | inr x ↦ absurd (never-one 0xB6 0xB7 kind has_publics refl refl other x) ]
-    by (Names ns) is = refl
-    by _ is = refl
-
 abbrev pub rec_lines : Rec → List ℕ
 rec_lines r = public_lines r.contents
 
--- the records that are left, and their publics, which are still to be written
-pub record ArePrinted (m : List Rec) (left : List ℕ) (held held' : Option (List ℕ)) (old now : List ℕ) : Type 0 where
-  pub records : List Raw
-  pub are_left : AreLeft left records
-  pub written : IsWrittenUpTo held held' (old ++ flat_map rec_lines m) (now ++ flat_map rec_lines (recs records))
-
-pub none_printed : (records : List Raw) (left : List ℕ) (held : Option (List ℕ)) (old : List ℕ) → AreLeft left records → ArePrinted (recs records) left held held old old
-none_printed records left held old h = record { records = records; are_left = h; written = none_written held (old ++ flat_map rec_lines (recs records)) }
-
-pub all_printed : (m : List Rec) (left : List ℕ) (held held' : Option (List ℕ)) (old now : List ℕ) → ArePrinted m left held held' old now → left ≡ [] → IsWrittenUpTo held held' (old ++ flat_map rec_lines m) now
-all_printed m left held held' old now h e =
-    subst (IsWrittenUpTo held held' (old ++ flat_map rec_lines m)) (ap (λ (rs : List Raw). now ++ flat_map rec_lines (recs rs)) (none-left h.records (sym e ∙ h.are_left.spelled)) ∙ append-nil now) h.written
-
-module _ (m : List Rec) (left : List ℕ) (held held' : Option (List ℕ)) (old now : List ℕ) (h : ArePrinted m left held held' old now) (low : 0 < length left) where
-  abbrev next : Raw
-  next = (parts left h.records h.are_left low).0
-
-  abbrev others : List Raw
-  others = (parts left h.records h.are_left low).1
-
-  printed_here : IsWrittenUpTo held held' (old ++ flat_map rec_lines m) (now ++ (rec_lines (typed next) ++ flat_map rec_lines (recs others)))
-  printed_here = subst (λ (rs : List Raw). IsWrittenUpTo held held' (old ++ flat_map rec_lines m) (now ++ flat_map rec_lines (recs rs))) (parts left h.records h.are_left low).2 h.written
-
-  module _ (kind : ℕ) (body : List ℕ) (k : kind ≡ (front_record (present left)).kind) (b : body ≡ (front_record (present left)).body) where
-    pub publics_printed : (rest : List ℕ) → rest ≡ after_front left → (held'' : Option (List ℕ)) (kept : List ℕ) → ((c : Contents) → (contents kind).Spells 3 body c → IsWrittenUpTo held' held'' (now ++ public_lines c) kept)
-        → ArePrinted m rest held held'' old kept
-    publics_printed rest r held'' kept w = record {
-      records = others;
-      are_left = left-next left h.records h.are_left low rest r;
-      written =
-          went_on held held' held'' (old ++ flat_map rec_lines m) (now ++ (rec_lines (typed next) ++ flat_map rec_lines (recs others))) (now ++ rec_lines (typed next)) (flat_map rec_lines (recs others)) kept printed_here
-          (append_assoc now (rec_lines (typed next)) (flat_map rec_lines (recs others))) (w (typed next).contents (left-spelled left h.records h.are_left low kind body k b));
-    }
-
-    pub publics_stopped : (held'' : Option (List ℕ)) (kept : List ℕ) (r : Result (Unit {0}) RunFault) → IsErr r → ((c : Contents) → (contents kind).Spells 3 body c → IsPart held' held'' (now ++ public_lines c))
-        → Passes held held'' r (old ++ flat_map rec_lines m) kept
-    publics_stopped held'' kept r err part =
-        stopped_by held held' held'' (old ++ flat_map rec_lines m) (now ++ (rec_lines (typed next) ++ flat_map rec_lines (recs others))) (now ++ rec_lines (typed next)) (flat_map rec_lines (recs others)) kept r err printed_here
-        (append_assoc now (rec_lines (typed next)) (flat_map rec_lines (recs others))) (part (typed next).contents (left-spelled left h.records h.are_left low kind body k b))
+-- the lines of numbered records
+pub lines-listed : (number start : ℕ) (rs : List Raw) → flat_map (λ x. rec_lines x.1) (placed_from number start rs) ≡ flat_map rec_lines (recs rs)
+lines-listed number start [] = refl
+lines-listed number start (r ∷ rs) = ap (λ t. rec_lines (typed r) ++ t) (lines-listed (number + 1) (start + length (raw_bytes r)) rs)

@@ -1,5 +1,4 @@
 pub mod FaultWords
 pub mod Printing
 pub mod RunLines
-pub mod Types
 pub mod Names

@@ -1,12 +1,11 @@
 //! The texts of `check` and `list`. The latter is written in pieces.
 
-ghost use Rattle.std.specs.Prelude.{◌≡◌, ◌≤◌, ◌++◌, ◌∷◌, [], IfOk, IsTrue, List, string_bytes, codes, decimal, flat_map, is_ok, length, true};
+ghost use Rattle.std.specs.Prelude.{◌≡◌, ◌++◌, ◌∷◌, [], Bool, IfNone, IfOk, IfSome, List, string_bytes, codes, decimal, flat_map, length};
 ghost use Rattle.omf_frame.specs.Bytes.{with_before, AddsText};
-ghost use Rattle.omf_frame.specs.Framing.{Raw, is_taken, raw_bytes};
-ghost use Rattle.omf_records.specs.Inner.Reading.{read_body};
+ghost use Rattle.omf_frame.specs.Framing.{Raw, raw_bytes};
 ghost use Rattle.omf_records.specs.Inner.Seen.{contents_seen};
-ghost use Rattle.omf_records.specs.Records.{contents};
-ghost use Rattle.omf_records.specs.Values.{Contents, Group, GroupItem};
+ghost use Rattle.omf_records.specs.Values.{Group, GroupItem};
+ghost use Rattle.omf_check.specs.Inner.Contents.{publics_seen};
 ghost use Rattle.omf_check.specs.Module.{recs_of, records_in};
 ghost use Rattle.omf_check.specs.Tables.{names};
 ghost use Rattle.omf_cmd.specs.Inner.Names.{external_lines, group_lines, segment_lines, record_line};
@@ -15,16 +14,15 @@ ghost use Rattle.omf_cmd.specs.Printed.{line, index_or_dash};
 ghost use Rattle.omf_placement.specs.Quoted.{hex, quoted, named};
 ghost use Rattle.omf_cmd.specs.Runs.{PrintsInPieces, IsPrintCause};
 ghost use Rattle.omf_cmd.specs.Inner.Printing.{Passes};
-ghost use Rattle.omf_cmd.specs.Inner.Types.{has_publics};
 
 use crate::fault::RunFault;
 use crate::output::{write_all, write_piece};
 use crate::printing::{
     print_external, print_group, print_public, print_record, print_segment, print_totals,
 };
-use omf_check::{Checked, Judged, split_record};
-use omf_frame::{RawRecord, Sink};
-use omf_records::{At, Items, Public, Rec, view_known};
+use omf_check::{Checked, Judged, Publics, Undecoded, split_record};
+use omf_frame::Sink;
+use omf_records::{At, Items, Public, Rec};
 use std::alloc::{AllocError, Global};
 
 /// Prints a line for each record, by its type byte and its length.
@@ -155,69 +153,32 @@ fn print_items<K: Sink>(
     Ok(())
 }
 
+/// The publics of a record, local or not. No record without publics is decoded.
+fn publics_of<'a>(rec: &Undecoded<'a>) -> Option<Publics<'a>>
+    ensures some { IfSome result (λ p. (local : Bool) × (publics_seen local p ≡ rec.now)) }
+    ensures none { IfNone result (public_lines rec.now.contents ≡ []) }
+{
+    match rec.as_publics(false) {
+        Some(publics) => Some(publics),
+        None => rec.as_publics(true),
+    }
+}
+
 /// Prints a line for each public name of a record.
 fn print_publics_of<K: Sink>(
     writer: &mut K,
     text: &mut Vec<u8>,
-    rec: &Rec<'_>,
+    rec: &Undecoded<'_>,
 ) -> Result<(), RunFault>
-    ensures passes { Passes (K.seen writer.old).bytes (K.seen writer.new).bytes result (text.old.items ++ public_lines (contents_seen rec.now)) (text.new.items) }
+    ensures passes { Passes (K.seen writer.old).bytes (K.seen writer.new).bytes result (text.old.items ++ public_lines rec.now.contents) (text.new.items) }
     ensures cause { IsPrintCause (K.seen writer.old) (K.seen writer.new) result }
 {
-    match rec {
-        Rec::Publics {
-            group,
-            segment,
-            publics,
-            ..
-        } => print_items(writer, text, group.item.0, segment.item.0, publics),
-        Rec::LocalPublics {
-            group,
-            segment,
-            publics,
-            ..
-        } => print_items(writer, text, group.item.0, segment.item.0, publics),
-        Rec::Header { .. }
-        | Rec::Comment { .. }
-        | Rec::Names(_)
-        | Rec::Segment { .. }
-        | Rec::Group { .. }
-        | Rec::Externs(_)
-        | Rec::Communals(_)
-        | Rec::Plain { .. }
-        | Rec::Iterated { .. }
-        | Rec::Fixups { .. }
-        | Rec::ModEnd { .. }
-        | Rec::LocalNames(_)
-        | Rec::LocalExterns { .. }
-        | Rec::LocalCommunals(_)
-        | Rec::Carried { .. } => Ok(()),
-    }
-}
-
-/// Whether this is the type of a PUBDEF or an LPUBDEF.
-fn has_publics(kind: u8) -> bool
-    ensures { result ≡ has_publics kind }
-{
-    kind == 0x90 || kind == 0x91 || kind == 0xB6 || kind == 0xB7
-}
-
-/// Prints a line for each public name of a PUBDEF or an LPUBDEF. A record of another type is not read.
-fn print_publics_in<K: Sink>(
-    writer: &mut K,
-    text: &mut Vec<u8>,
-    raw: RawRecord<'_>,
-) -> Result<(), RunFault>
-    requires taken { IsTrue (is_taken raw.kind) }
-    requires short { length raw.body.now ≤ 65534 }
-    requires spelled { is_ok (read_body raw.kind raw.body.now) ≡ true }
-    ensures passes { (c : Contents) → (contents raw.entry.kind).Spells 3 raw.entry.body.now c → Passes (K.seen writer.old).bytes (K.seen writer.new).bytes result (text.old.items ++ public_lines c) (text.new.items) }
-    ensures cause { IsPrintCause (K.seen writer.old) (K.seen writer.new) result }
-{
-    if has_publics(raw.kind) {
-        print_publics_of(writer, text, &view_known(raw))
-    } else {
-        Ok(())
+    match publics_of(rec) {
+        Some(publics) => {
+            let group = publics.group.item.0;
+            print_items(writer, text, group, publics.segment.item.0, &publics.items)
+        }
+        None => Ok(()),
     }
 }
 
@@ -230,11 +191,8 @@ fn print_publics<K: Sink>(
     ensures passes { Passes (K.seen writer.old).bytes (K.seen writer.new).bytes result (text.old.items ++ flat_map (λ r. public_lines r.contents) (recs_of checked.now.bytes)) (text.new.items) }
     ensures cause { IsPrintCause (K.seen writer.old) (K.seen writer.new) result }
 {
-    let mut left = checked.bytes();
-    'records: while !left.is_empty() {
-        let (raw, rest) = split_record(left);
-        print_publics_in(writer, text, raw)?;
-        left = rest;
+    for (_place, rec) in checked.undecoded() {
+        print_publics_of(writer, text, &rec)?;
     }
     Ok(())
 }
