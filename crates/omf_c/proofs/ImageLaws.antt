@@ -5,10 +5,9 @@ use Rattle.std.specs.Option.{option_to_list}
 use Rattle.std.specs.List.{range_with_len}
 use Rattle.std.proofs.Math.Path.{fun_ext}
 use Rattle.omf_image.specs.Inner.Joined.{runs_of}
-use Rattle.omf_image.specs.Overlay.{Laid, byte_at, AreBytesOver, AreLaidOver, AreRuns}
+use Rattle.omf_image.specs.Overlay.{Laid, byte_at, AreBytesOver, AreRuns}
 use Rattle.omf_image.specs.declared.run.Run.{Run}
 use Rattle.omf_image.proofs.RunLaws.{joined_are_runs, runs_unique}
-use Rattle.omf_image.proofs.TurnLaws.{images_are}
 use Rattle.omf_c.specs.Runs.{Shown, bytes_over, shown_of}
 
 -- the bytes over an interval, from each of them
@@ -35,10 +34,10 @@ next_segment before count low =
     let left : count - before ≡ suc (count - (before + 1)) = omega arith in
     ap (range_with_len (before + 1)) left
 
--- what is shown of pieces laid in turn is what is shown of the image that they make
-pub overlay_shown : (pieces laid : List Laid) (segments : ℕ) → AreLaidOver [] pieces laid → shown_of segments (byte_at laid) (runs_of laid) ≡ shown_of segments (byte_at pieces) (runs_of pieces)
-overlay_shown pieces laid segments over =
-    let bytes : (s : ℕ) → byte_at laid s ≡ byte_at pieces s = λ s. fun_ext (λ x. (images_are pieces laid over).0 s x) in
+-- what is shown of an image is what is shown of other pieces that lay the same bytes
+pub overlay_shown : (pieces laid : List Laid) (segments : ℕ) → ((s x : ℕ) → byte_at laid s x ≡ byte_at pieces s x) → shown_of segments (byte_at laid) (runs_of laid) ≡ shown_of segments (byte_at pieces) (runs_of pieces)
+overlay_shown pieces laid segments same =
+    let bytes : (s : ℕ) → byte_at laid s ≡ byte_at pieces s = λ s. fun_ext (λ x. same s x) in
     let runs : (s : ℕ) → runs_of laid s ≡ runs_of pieces s = λ s. runs_unique (byte_at pieces s) (runs_of laid s) (runs_of pieces s)
     (subst (λ (byte : ℕ → Option ℕ). AreRuns byte (runs_of laid s)) (bytes s) (joined_are_runs laid s)) (joined_are_runs pieces s) in
     ap₂ (λ (byte : ℕ → ℕ → Option ℕ) (of : ℕ → List Run). shown_of segments byte of) (fun_ext bytes) (fun_ext runs)

@@ -1,5 +1,5 @@
 -- The image of a module at a placement as runs and their bytes (this profile's rule).
-use Rattle.std.specs.Prelude.{◌≡◌, ◌⊎◌, ◌≤◌, ◌<◌, ⊤, ℕ, List, [], ◌∷◌, ◌++◌, drop, length, Option, None, Some, Result, Ok, Err, IsOk}
+use Rattle.std.specs.Prelude.{◌≡◌, ◌⊎◌, ◌≤◌, ◌<◌, ⊤, ℕ, List, [], ◌∷◌, ◌++◌, drop, length, Option, None, Some, Result, Ok, Err}
 use Rattle.omf_frame.specs.Framing.{Raw}
 use Rattle.omf_records.specs.Values.{Rec}
 -- computed: runs_are_maximal of omf_image.
@@ -10,8 +10,6 @@ use Rattle.omf_check.specs.WellFormed.{IsAccepted, recs}
 use Rattle.omf_check.specs.declared.profile.Profile.{Profile}
 use Rattle.omf_placement.specs.Placement.{Places}
 use Rattle.omf_placement.specs.PlacementText.{parsed}
-use Rattle.omf_placement.specs.declared.fault.TextFault.{TextFault}
-use Rattle.omf_placement.specs.declared.fault.TextFault.TheVariants as text
 use Rattle.omf_reloc.specs.Image.{image, laid, start}
 use Rattle.omf_reloc.specs.Plain.{pieces}
 use Rattle.omf_reloc.specs.Reach.{reach_fault}
@@ -30,26 +28,15 @@ use Rattle.omf_c.specs.declared.rows.StartRow.{StartRow}
 abbrev pub image_shown : Places → List Rec → Shown
 image_shown pl m = shown_of (length (segments m)) (image profile_limits pl m) (runs_of (laid profile_limits pl (pieces m)))
 
+-- The same with its start.
+abbrev pub relocated : Places → List Rec → Shown × Option (ℕ × ℕ)
+relocated pl m = (image_shown pl m, start pl m)
+
 -- A text gives a module this placement, which has this fault of reach, if any.
 pub record IsPlacedBy (m : List Rec) (given : List ℕ) (pl : Places) (far : Option ReachFault) : Type 0 where
   pub short : length given ≤ text_limit
   pub placement : placement_of m (parsed given) ≡ Ok pl
   pub reach : reach_fault pl m ≡ far
-
--- The placement that the lines of a text give a module, or the number of the line at fault. Memory runs out only if each line is empty or an
--- entry.
-abbrev pub IsPlaced : List Rec → List ℕ → Result Places TextFault → Type 0
-IsPlaced m given (Ok pl) = placement_of m (parsed given) ≡ Ok pl
-IsPlaced m given (Err (text.Line n)) = placement_of m (parsed given) ≡ Err n
-IsPlaced m given (Err text.Memory) = IsOk (parsed given)
-
--- The placement that a text gives a module, or the fault of the text. Memory may run out at any time.
-abbrev pub IsPlacing : List Rec → List ℕ → Result Places RunFault → Type 0
-IsPlacing m given (Ok pl) = (length given ≤ text_limit) × (placement_of m (parsed given) ≡ Ok pl)
-IsPlacing m given (Err fault.Memory) = ⊤
-IsPlacing m given (Err (fault.Line n)) = (length given ≤ text_limit) × (placement_of m (parsed given) ≡ Err n)
-IsPlacing m given (Err fault.TooLong) = text_limit < length given
-IsPlacing m given (Err _) = ⊥
 
 -- What is made of a module at the placement that a text gives, or the first fault of the text or the placement. Memory may run out at any
 -- time.

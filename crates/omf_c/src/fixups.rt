@@ -3,7 +3,6 @@
 ghost use Rattle.std.specs.Prelude.{◌≡◌, ◌++◌, IfOk, OnOk};
 ghost use Rattle.omf_check.specs.Module.{records_in};
 ghost use Rattle.omf_records.specs.Inner.Names.{width_bits};
-ghost use Rattle.omf_records.specs.Inner.Seen.{contents_seen};
 ghost use Rattle.omf_records.specs.Methods.{kind_number};
 ghost use Rattle.omf_records.specs.Values.{location_type};
 ghost use Rattle.omf_reloc.specs.Inner.PieceSeen.{piece_seen};
@@ -13,9 +12,9 @@ ghost use Rattle.omf_c.specs.Fixups.{fixup_row, fixup_rows, frame_index, frame_n
 
 use crate::rows::FixupRow;
 use crate::tables::flag;
-use omf_check::{Checked, Undecoded};
+use omf_check::{Checked, Data, Undecoded};
 use omf_frame::{Place, Width};
-use omf_records::{Kind, Locat, Rec};
+use omf_records::{Kind, Locat};
 use omf_reloc::{FrameMethod, Piece, PlainFixup, pieces_of};
 use std::alloc::{AllocError, Global};
 
@@ -32,12 +31,15 @@ const NOWHERE: DataPlace = DataPlace {
     offset: 0,
 };
 
-/// The place of a data record's data; of any other record, that of the last data record before it.
-fn place_after(before: DataPlace, rec: &Rec<'_>) -> DataPlace
-    ensures { result ≡ place_or before (data_contents (contents_seen rec.now)) }
+/// The place of a record's data; of a record without data, which is not decoded, that of the last data record before it.
+fn place_after(before: DataPlace, rec: &Undecoded<'_>) -> DataPlace
+    ensures { result ≡ place_or before (data_contents rec.now.contents) }
 {
-    match rec {
-        Rec::Plain {
+    let Some(data) = rec.as_data() else {
+        return before;
+    };
+    match &data {
+        Data::Plain {
             segment,
             offset,
             ..
@@ -45,7 +47,7 @@ fn place_after(before: DataPlace, rec: &Rec<'_>) -> DataPlace
             segment: segment.item.0,
             offset: offset.item,
         },
-        Rec::Iterated {
+        Data::Iterated {
             segment,
             offset,
             ..
@@ -53,31 +55,6 @@ fn place_after(before: DataPlace, rec: &Rec<'_>) -> DataPlace
             segment: segment.item.0,
             offset: offset.item,
         },
-        Rec::Header { .. }
-        | Rec::Comment { .. }
-        | Rec::Names(_)
-        | Rec::Segment { .. }
-        | Rec::Group { .. }
-        | Rec::Externs(_)
-        | Rec::Publics { .. }
-        | Rec::Communals(_)
-        | Rec::Fixups { .. }
-        | Rec::ModEnd { .. }
-        | Rec::LocalNames(_)
-        | Rec::LocalExterns { .. }
-        | Rec::LocalPublics { .. }
-        | Rec::LocalCommunals(_)
-        | Rec::Carried { .. } => before,
-    }
-}
-
-/// The same for a record that is not decoded yet. It is decoded only if it has data.
-fn undecoded_place(before: DataPlace, record: &Undecoded<'_>) -> DataPlace
-    ensures { result ≡ place_or before (data_contents «record».now.contents) }
-{
-    match record.data() {
-        Some(rec) => place_after(before, &rec),
-        None => before,
     }
 }
 
@@ -156,7 +133,7 @@ fn add_piece(
     ensures last { IfOk result (λ next. next ≡ place_or last (data_of (piece_seen piece.now))) }
 {
     match piece {
-        Piece::Kept(record) => Ok(undecoded_place(last, record)),
+        Piece::Kept(rec) => Ok(place_after(last, rec)),
         Piece::Fixed { width, fixup } => {
             rows.push(fixup_row(last, place, *width, fixup))?;
             Ok(last)
