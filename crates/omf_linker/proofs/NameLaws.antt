@@ -13,11 +13,13 @@ use Rattle.omf_frame.specs.Types.{is_local}
 use Rattle.omf_frame.specs.declared.fault.Place.{Place}
 use Rattle.omf_records.specs.Inner.Reading.{typed}
 use Rattle.omf_records.specs.Values.{Rec, Contents, Publics}
+use Rattle.omf_check.specs.Inner.Contents.{publics_seen}
 use Rattle.omf_check.specs.Inner.Known.{holds_publics}
 use Rattle.omf_check.specs.Listed.{placed_from}
+use Rattle.omf_check.specs.declared.contents.Publics.{Publics as CodePublics}
 use Rattle.omf_check.specs.Module.{Module, records_in, typed_modules}
 use Rattle.omf_check.specs.WellFormed.{recs}
-use Rattle.omf_linker.specs.Drafting.Names.{AreApart, count_of, names_asked, names_of, public_names, has_name, IsNameTable, HasMore}
+use Rattle.omf_linker.specs.Drafting.Names.{AreApart, count_of, names_asked, names_in, names_of, public_names, has_name, IsNameTable, HasMore}
 use Rattle.omf_linker.specs.declared.drafting.names.NameTable.{NameTable}
 
 abbrev pub Map : Type 0
@@ -110,12 +112,9 @@ fill-empty t u all e g = g [] (record {
   apart = λ r name. omega arith;
 })
 
--- No further name; and the same names written in another way.
+-- No further name.
 pub none_more : (t : NameTable) (xs : List (List ℕ)) → xs ≡ [] → HasMore t t xs
 none_more t xs e = subst (HasMore t t) (sym e) (λ names h. subst (IsNameTable t) (sym (append-nil names)) h)
-
-pub same_more : (t u : NameTable) (xs ys : List (List ℕ)) → ys ≡ xs → HasMore t u xs → HasMore t u ys
-same_more t u xs ys e h = subst (HasMore t u) (sym e) h
 
 -- A record without such publics has no such names.
 neither : (b : Bool) (xs : List (List ℕ)) → cond b xs xs ≡ xs
@@ -130,6 +129,11 @@ none_asked false kind (Publics p) h = elim (cases_Bool (is_local kind)) [
   | inr f ↦ absurd (true≢false (sym (not_from_false (is_local kind) f) ∙ h))
 ]
 none_asked false kind _ h = neither (is_local kind) []
+
+-- The names of a record's publics, if it has them.
+pub asked-seen : (local : Bool) (p : CodePublics) (r : Rec) → publics_seen local p ≡ r → is_local r.kind ≡ local → names_asked local r.kind r.contents ≡ names_of p.items
+asked-seen true p r e l = cond-true (is_local r.kind) (names_in r.contents) [] l ∙ ap (λ (x : Rec). names_in x.contents) (sym e)
+asked-seen false p r e l = cond-false (is_local r.kind) [] (names_in r.contents) l ∙ ap (λ (x : Rec). names_in x.contents) (sym e)
 
 -- The names of the records with their places.
 abbrev pub listed_names : Bool → List (Place × Rec) → List (List ℕ)

@@ -54,12 +54,9 @@ table-more m n o x s v t u e rows h name = elim (cases_Bool (bytes_eq x name)) [
 pub fill-empty : (m n : Table) (all : List Row) → m.entries ≡ [] → HasMore m n all → IsByName n all
 fill-empty m n all e g = g [] (λ name. ap (λ xs. items_or (lookup (is_at (λ k. slice_cmp nat_cmp name k.now)) xs)) e)
 
--- No further row; and the same rows written in another way.
+-- No further row.
 pub none_more : (m : Table) (xs : List Row) → xs ≡ [] → HasMore m m xs
 none_more m xs e = subst (HasMore m m) (sym e) (λ rows h. subst (IsByName m) (sym (append-nil rows)) h)
-
-pub same_more : (m n : Table) (xs ys : List Row) → ys ≡ xs → HasMore m n xs → HasMore m n ys
-same_more m n xs ys e h = subst (HasMore m n) (sym e) h
 
 pub rows-more : (j : ℕ) (xs ys : List (List ℕ)) → rows_in j (xs ++ ys) ≡ rows_in j xs ++ rows_in j ys
 rows-more j [] ys = refl

@@ -8,4 +8,3 @@ mod part;
 pub mod rows;
 
 pub use draft::link_draft;
-pub(crate) use names::has_asked;

@@ -2,35 +2,13 @@
 
 ghost use Rattle.std.specs.Prelude.{◌≡◌, ◌<◌, [], ◌∷◌, OnOk, IfOk, List, ℕ, length, true, false};
 ghost use Rattle.omf_check.specs.Module.{recs_of, typed_modules};
-ghost use Rattle.omf_frame.specs.Types.{is_local};
-ghost use Rattle.omf_records.specs.Inner.Seen.{contents_seen, kind_seen};
-ghost use Rattle.omf_records.specs.Values.{Contents};
-ghost use Rattle.omf_linker.specs.Drafting.Names.{AreApart, HasMore, IsNameTable, all_names, has_name, names_asked, names_in, names_of, public_names};
+ghost use Rattle.omf_linker.specs.Drafting.Names.{AreApart, HasMore, IsNameTable, all_names, has_name, names_asked, names_of, public_names};
 
 use omf_check::{Checked, Undecoded};
 use omf_names::NameKey;
-use omf_records::{Items, Public, Rec};
+use omf_records::{Items, Public};
 use std::alloc::{AllocError, Global};
 use std::collections::BTreeMap;
-
-/// Returns whether records of this type are local: LEXTDEF, LPUBDEF, LCOMDEF and LLNAMES.
-fn is_local(kind: u8) -> bool
-    ensures { result ≡ is_local kind }
-{
-    matches!(kind, 0xB4..=0xB8 | 0xCA)
-}
-
-/// Returns whether a record of this type has publics of the kind asked for: local ones, or the others.
-pub(crate) fn has_asked(local: bool, kind: u8) -> bool
-    ensures some { result ≡ true → (c : Contents) → names_asked local kind c ≡ names_in c }
-    ensures none { result ≡ false → (c : Contents) → names_asked local kind c ≡ [] }
-{
-    if local {
-        is_local(kind)
-    } else {
-        !is_local(kind)
-    }
-}
 
 /// Names, each once, and whether one of them was added twice.
 #[derive(Drop)]
@@ -67,49 +45,13 @@ impl<'a> NameTable<'a> {
         Ok(())
     }
 
-    /// Adds the names of a record's publics.
-    fn add_record(&mut self, rec: &Rec<'a>) -> Result<(), AllocError>
-        ensures { OnOk result (HasMore self.old self.new (names_in (contents_seen rec.now))) }
-    {
-        match rec {
-            Rec::Publics { publics, .. } => self.add_items(publics.iter()),
-            Rec::LocalPublics { publics, .. } => self.add_items(publics.iter()),
-            Rec::Header { .. }
-            | Rec::Comment { .. }
-            | Rec::Names(_)
-            | Rec::Segment { .. }
-            | Rec::Group { .. }
-            | Rec::Externs(_)
-            | Rec::Communals(_)
-            | Rec::Plain { .. }
-            | Rec::Iterated { .. }
-            | Rec::Fixups { .. }
-            | Rec::ModEnd { .. }
-            | Rec::LocalNames(_)
-            | Rec::LocalExterns { .. }
-            | Rec::LocalCommunals(_)
-            | Rec::Carried { .. } => Ok(()),
-        }
-    }
-
-    /// Adds the names of a record's publics if they are of the kind asked for.
-    #[tactic(auto, using(crate::proofs::NameLaws::none_more, crate::proofs::NameLaws::same_more))]
-    fn add_asked(&mut self, local: bool, rec: &Rec<'a>) -> Result<(), AllocError>
-        ensures { OnOk result (HasMore self.old self.new (names_asked local (kind_seen rec.now) (contents_seen rec.now))) }
-    {
-        if !has_asked(local, rec.kind()) {
-            return Ok(());
-        }
-        self.add_record(rec)
-    }
-
-    /// The same for a record that is not decoded yet. It is decoded only if it has such publics.
+    /// Adds the names of a record's publics: of an LPUBDEF if `local` is set, of a PUBDEF if not. No other record is decoded.
     #[tactic(auto, using(crate::proofs::NameLaws::none_more, crate::proofs::NameLaws::none_asked))]
-    fn add_undecoded(&mut self, local: bool, record: &Undecoded<'a>) -> Result<(), AllocError>
-        ensures { OnOk result (HasMore self.old self.new (names_asked local «record».now.kind «record».now.contents)) }
+    fn add_record(&mut self, local: bool, rec: &Undecoded<'a>) -> Result<(), AllocError>
+        ensures { OnOk result (HasMore self.old self.new (names_asked local rec.now.kind rec.now.contents)) }
     {
-        match record.publics(local) {
-            Some(rec) => self.add_asked(local, &rec),
+        match rec.as_publics(local) {
+            Some(publics) => self.add_items(publics.items),
             None => Ok(()),
         }
     }
@@ -118,8 +60,8 @@ impl<'a> NameTable<'a> {
     fn add_module(&mut self, local: bool, module: &'a Checked) -> Result<(), AllocError>
         ensures { OnOk result (HasMore self.old self.new (public_names local (recs_of «module».entry.now.bytes))) }
     {
-        for (_, record) in module.undecoded() {
-            self.add_undecoded(local, &record)?;
+        for (_, rec) in module.undecoded() {
+            self.add_record(local, &rec)?;
         }
         Ok(())
     }

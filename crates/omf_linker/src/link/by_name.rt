@@ -3,17 +3,15 @@
 ghost use Rattle.std.specs.Prelude.{◌≡◌, ◌<◌, ◌≤◌, ◌^◌, [], ◌∷◌, OnOk, IfOk, Bool, List, Some, ℕ, length, true, false};
 ghost use Rattle.omf_check.specs.Module.{recs_of, typed_modules};
 ghost use Rattle.omf_check.specs.Tables.{entry, externals};
-ghost use Rattle.omf_records.specs.Inner.Seen.{contents_seen, kind_seen};
 ghost use Rattle.omf_placement.specs.Derive.{named_externals};
-ghost use Rattle.omf_linker.specs.Drafting.Names.{names_asked, names_in, names_of, public_names};
+ghost use Rattle.omf_linker.specs.Drafting.Names.{names_asked, names_of, public_names};
 ghost use Rattle.omf_linker.specs.Link.Unresolved.{HasMore, IsByName, Row, all_asked, all_rows, asked_row, asked_rows, has_place, is_given, items_or, rows_in, spots_of};
 
-use crate::drafting::has_asked;
 use crate::link::settled::{Settled, is_settled};
 use omf_check::{Checked, Undecoded, entry_of};
 use omf_linking::locator::Sparse;
 use omf_placement::Placed;
-use omf_records::{Items, Public, Rec};
+use omf_records::{Items, Public};
 use std::alloc::{AllocError, Global};
 use std::collections::BTreeMap;
 
@@ -134,61 +132,19 @@ impl<'a> ByName<'a> {
         Ok(())
     }
 
-    /// Adds a record's publics.
-    fn add_record(&mut self, alloc: Global, number: u32, rec: &Rec<'a>) -> Result<(), AllocError>
-        ensures { OnOk result (HasMore self.old.spots self.new.spots (rows_in number (names_in (contents_seen rec.now)))) }
-    {
-        match rec {
-            Rec::Publics { publics, .. } => self.add_items(alloc, number, publics.iter()),
-            Rec::LocalPublics { publics, .. } => self.add_items(alloc, number, publics.iter()),
-            Rec::Header { .. }
-            | Rec::Comment { .. }
-            | Rec::Names(_)
-            | Rec::Segment { .. }
-            | Rec::Group { .. }
-            | Rec::Externs(_)
-            | Rec::Communals(_)
-            | Rec::Plain { .. }
-            | Rec::Iterated { .. }
-            | Rec::Fixups { .. }
-            | Rec::ModEnd { .. }
-            | Rec::LocalNames(_)
-            | Rec::LocalExterns { .. }
-            | Rec::LocalCommunals(_)
-            | Rec::Carried { .. } => Ok(()),
-        }
-    }
-
-    /// Adds a record's publics if they are of the kind asked for.
-    #[tactic(auto, using(crate::proofs::UnresolvedLaws::none_more, crate::proofs::UnresolvedLaws::same_more))]
-    fn add_asked(
-        &mut self,
-        alloc: Global,
-        local: bool,
-        number: u32,
-        rec: &Rec<'a>,
-    ) -> Result<(), AllocError>
-        ensures { OnOk result (HasMore self.old.spots self.new.spots (rows_in number (names_asked local (kind_seen rec.now) (contents_seen rec.now)))) }
-    {
-        if !has_asked(local, rec.kind()) {
-            return Ok(());
-        }
-        self.add_record(alloc, number, rec)
-    }
-
-    /// The same for a record that is not decoded yet. It is decoded only if it has such publics.
+    /// Adds a record's publics: those of an LPUBDEF if `local` is set, of a PUBDEF if not. No other record is decoded.
     #[tactic(auto, using(crate::proofs::UnresolvedLaws::none_more, crate::proofs::NameLaws::none_asked))]
-    fn add_undecoded(
+    fn add_record(
         &mut self,
         alloc: Global,
         local: bool,
         number: u32,
-        record: &Undecoded<'a>,
+        rec: &Undecoded<'a>,
     ) -> Result<(), AllocError>
-        ensures { OnOk result (HasMore self.old.spots self.new.spots (rows_in number (names_asked local «record».now.kind «record».now.contents))) }
+        ensures { OnOk result (HasMore self.old.spots self.new.spots (rows_in number (names_asked local rec.now.kind rec.now.contents))) }
     {
-        match record.publics(local) {
-            Some(rec) => self.add_asked(alloc, local, number, &rec),
+        match rec.as_publics(local) {
+            Some(publics) => self.add_items(alloc, number, publics.items),
             None => Ok(()),
         }
     }
@@ -203,8 +159,8 @@ impl<'a> ByName<'a> {
     ) -> Result<(), AllocError>
         ensures { OnOk result (HasMore self.old.spots self.new.spots (rows_in number (public_names local (recs_of «module».entry.now.bytes)))) }
     {
-        for (_, record) in module.undecoded() {
-            self.add_undecoded(alloc, local, number, &record)?;
+        for (_, rec) in module.undecoded() {
+            self.add_record(alloc, local, number, &rec)?;
         }
         Ok(())
     }

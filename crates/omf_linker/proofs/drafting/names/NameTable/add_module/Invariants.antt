@@ -6,5 +6,5 @@ use Rattle.omf_linker.proofs.NameLaws.{listed_names}
 use Rattle.omf_linker.proofs.drafting.names.NameTable.add_module.Given as goal
 
 -- the names of the records so far are in the table
-abbrev pub invariant-loop-record : goal.invariant-loop-record
-invariant-loop-record l = IsFilled IsNameTable l.fn.self l.self (listed_names l.local l.record-iterator) (public_names l.local (recs (records_in l.«module».bytes)))
+abbrev pub invariant-loop-rec : goal.invariant-loop-rec
+invariant-loop-rec l = IsFilled IsNameTable l.fn.self l.self (listed_names l.local l.rec-iterator) (public_names l.local (recs (records_in l.«module».bytes)))

@@ -7,20 +7,20 @@ use Rattle.omf_linker.proofs.NameLaws.{listed_names, listed-names}
 use Rattle.omf_linker.proofs.UnresolvedLaws.{rows-more}
 use Rattle.omf_linker.proofs.link.by_name.ByName.add_module.Goals as goal
 
-pub loop-record-init : goal.loop-record-init
-loop-record-init c =
+pub loop-rec-init : goal.loop-rec-init
+loop-rec-init c =
     let local = c.args.local in
     fill-start IsByName c.args.self.now.spots _ _
-    (ap (rows_in c.args.number) (ap (listed_names local) (c.into_iter-record-iterator.ensures.into_iter_gives ∙ c.undecoded-record-items.ensures.listed) ∙ listed-names local 0 0 (records_in c.args.«module».now.bytes)))
+    (ap (rows_in c.args.number) (ap (listed_names local) (c.into_iter-rec-iterator.ensures.into_iter_gives ∙ c.undecoded-rec-items.ensures.listed) ∙ listed-names local 0 0 (records_in c.args.«module».now.bytes)))
 
-pub loop-record-preserved : goal.loop-record-preserved
-loop-record-preserved c =
+pub loop-rec-preserved : goal.loop-rec-preserved
+loop-rec-preserved c =
     let local = c.args.local in
     let j = c.args.number in
-    let here = names_asked local c.in-Some.record.kind c.in-Some.record.contents in
-    fill-more IsByName c.args.self.now.spots c.loop-record.self.spots c.add_undecoded.new.self.spots (rows_in j here) (rows_in j (listed_names local c.loop-record.record-iterator)) _ _
-    (ap (λ xs. rows_in j (listed_names local xs)) c.in-Some.ensures.steps ∙ rows-more j here _) c.in_ok-add_undecoded.ensures c.loop-record.invariant
+    let here = names_asked local c.in-Some.rec.kind c.in-Some.rec.contents in
+    fill-more IsByName c.args.self.now.spots c.loop-rec.self.spots c.add_record.new.self.spots (rows_in j here) (rows_in j (listed_names local c.loop-rec.rec-iterator)) _ _
+    (ap (λ xs. rows_in j (listed_names local xs)) c.in-Some.ensures.steps ∙ rows-more j here _) c.in_ok-add_record.ensures c.loop-rec.invariant
 
 pub returns : goal.returns
 returns c =
-    fill-end IsByName c.args.self.now.spots c.loop-record.self.spots _ _ (ap (λ xs. rows_in c.args.number (listed_names c.args.local xs)) c.in-None.ensures.steps.0) c.loop-record.invariant
+    fill-end IsByName c.args.self.now.spots c.loop-rec.self.spots _ _ (ap (λ xs. rows_in c.args.number (listed_names c.args.local xs)) c.in-None.ensures.steps.0) c.loop-rec.invariant

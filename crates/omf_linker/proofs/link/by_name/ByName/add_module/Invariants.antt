@@ -7,5 +7,5 @@ use Rattle.omf_linker.proofs.NameLaws.{listed_names}
 use Rattle.omf_linker.proofs.link.by_name.ByName.add_module.Given as goal
 
 -- the publics of the records so far are in the table
-abbrev pub invariant-loop-record : goal.invariant-loop-record
-invariant-loop-record l = IsFilled IsByName l.fn.self.spots l.self.spots (rows_in l.number (listed_names l.local l.record-iterator)) (rows_in l.number (public_names l.local (recs (records_in l.«module».bytes))))
+abbrev pub invariant-loop-rec : goal.invariant-loop-rec
+invariant-loop-rec l = IsFilled IsByName l.fn.self.spots l.self.spots (rows_in l.number (listed_names l.local l.rec-iterator)) (rows_in l.number (public_names l.local (recs (records_in l.«module».bytes))))

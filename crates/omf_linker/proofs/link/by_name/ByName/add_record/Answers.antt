@@ -1,16 +1,10 @@
-use Rattle.std.proofs.Common.{◌∙◌, ap, sym, subst}
+use Rattle.std.proofs.Common.{subst, sym}
 use Rattle.std.specs.Prelude.{OnOk}
-use Rattle.omf_records.specs.Inner.Seen.{contents_seen}
-use Rattle.omf_linker.specs.Drafting.Names.{names_in, names_of}
 use Rattle.omf_linker.specs.Link.Unresolved.{HasMore, rows_in}
+use Rattle.omf_linker.proofs.NameLaws.{asked-seen}
 use Rattle.omf_linker.proofs.link.by_name.ByName.add_record.Goals as goal
 
-pub returns-in-Publics : goal.returns-in-Publics
-returns-in-Publics c =
+pub returns-in-Some : goal.returns-in-Some
+returns-in-Some c =
     subst (λ xs. OnOk c.add_items.result (HasMore c.args.self.now.spots c.add_items.new.self.spots (rows_in c.args.number xs)))
-    (ap names_of c.iter.ensures ∙ ap (λ r. names_in (contents_seen r)) (sym c.in-Publics.is)) c.add_items.ensures
-
-pub returns-in-LocalPublics : goal.returns-in-LocalPublics
-returns-in-LocalPublics c =
-    subst (λ xs. OnOk c.add_items-in-LocalPublics.result (HasMore c.args.self.now.spots c.add_items-in-LocalPublics.new.self.spots (rows_in c.args.number xs)))
-    (ap names_of c.iter-in-LocalPublics.ensures ∙ ap (λ r. names_in (contents_seen r)) (sym c.in-LocalPublics.is)) c.add_items-in-LocalPublics.ensures
+    (sym (asked-seen c.args.local c.in-Some.publics c.args.rec.now c.in-Some.ensures.some c.in-Some.ensures.only)) c.add_items.ensures
