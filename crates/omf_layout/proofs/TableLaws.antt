@@ -1,14 +1,14 @@
 -- There are as many attributes and alignments as segments, and as many lengths as externals.
-use Rattle.std.proofs.Common.{◌≡◌, ℕ, zero, suc, ◌+◌, ◌<◌, List, [], ◌∷◌, ◌++◌, length, drop, refl, sym, ap, ap₂, ◌∙◌, arith, length-append, append_assoc, ◌≤◌, ◌-◌}
+use Rattle.std.proofs.Common.{◌≡◌, ℕ, zero, suc, ◌+◌, ◌<◌, List, [], ◌∷◌, ◌++◌, length, drop, refl, sym, ap, ap₂, ◌∙◌, arith, length-append, append_assoc, get_or, ◌≤◌, ◌-◌}
 use Rattle.std.proofs.Math.Seq.{drop-nil}
 use Rattle.std.specs.Prelude.{map, filter_map, Option, Some, None, slice_get, cond}
 use Rattle.std.specs.List.{cons_option, zip, range_with_len}
 use Rattle.std.proofs.lemmas.Bool.{le-leb}
 use Rattle.std.proofs.lemmas.List.{length-map}
-use Rattle.std.proofs.lemmas.Option.{none-some, same_Some}
+use Rattle.std.proofs.lemmas.Option.{none-some, same_Some, slice_get-get_or}
 use Rattle.omf_records.specs.Values.{Rec, Contents, Header, Comment, Names, Segment, Group, Externs, Publics, Communals, Plain, Iterated, Fixups, ModEnd, Carried, alignment}
-use Rattle.omf_check.specs.Tables.{segments, externals, entry, defined_segments, defined_externals}
-use Rattle.omf_layout.specs.Wants.{alignment_named, attributes, attributes_in, alignments, rooms, rooms_in, room_of}
+use Rattle.omf_check.specs.Tables.{attributes, attributes_in, segments, externals, entry, defined_segments, defined_externals}
+use Rattle.omf_layout.specs.Wants.{alignment_named, alignments, rooms, rooms_in, room_of}
 
 one-attribute : (kind : ℕ) (c : Contents) → length (attributes_in c) ≡ length (defined_segments kind c)
 one-attribute kind (Segment s) = refl
@@ -54,6 +54,12 @@ length-rooms (r ∷ m) = length-append (rooms_in r.contents) (rooms m) ∙ ap₂
 -- The entry of an index from 1, by its position.
 pub entry-at : {A : Type 0} (xs : List A) (j : ℕ) → entry xs (j + 1) ≡ slice_get xs j
 entry-at xs j = let back : j + 1 - 1 ≡ j = omega arith in ap₂ (λ b k. cond b (slice_get xs k) None) (le-leb 1 (j + 1) (omega arith)) back
+
+-- Each segment has an attribute, by its index.
+pub attribute-there : (m : List Rec) (i : ℕ) → 1 ≤ i → i ≤ length (segments m) → entry (attributes m) i ≡ None → ⊥
+attribute-there m i low high e =
+    let same : i ≡ i - 1 + 1 = omega (arith, low) in
+    none-some (get_or (attributes m) (i - 1) 0) (sym e ∙ ap (entry (attributes m)) same ∙ entry-at (attributes m) (i - 1) ∙ slice_get-get_or (attributes m) (i - 1) 0 (omega (arith, low, high, length-attributes m)))
 
 -- The next pair of two lists.
 pub next-pair : {A B : Type 0} (xs : List A) (ys : List B) (j : ℕ) (x : A) (y : B) → slice_get xs j ≡ Some x → slice_get ys j ≡ Some y → drop j (zip xs ys) ≡ (x, y) ∷ drop (j + 1) (zip xs ys)

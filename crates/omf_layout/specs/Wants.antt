@@ -1,6 +1,7 @@
 -- Alignments of a module's segments and lengths of its communals (TIS OMF 1.1, "SEGDEF", "EXTDEF", "COMDEF").
-use Rattle.std.specs.Prelude.{ℕ, ◌*◌, List, [], ◌∷◌, map, flat_map, Option, Some, None, ◌==◌, if◌then◌else◌}
-use Rattle.omf_records.specs.Values.{Rec, Contents, Segment, Externs, Communals, CommunalSize, Near, Far, alignment}
+use Rattle.std.specs.Prelude.{ℕ, ◌*◌, List, [], map, flat_map, Option, Some, None, ◌==◌, if◌then◌else◌}
+use Rattle.omf_records.specs.Values.{Rec, Contents, Externs, Communals, CommunalSize, Near, Far, alignment}
+use Rattle.omf_check.specs.Tables.{attributes}
 use Rattle.omf_layout.specs.declared.alignment.Alignment.{Alignment}
 use Rattle.omf_layout.specs.declared.alignment.Alignment.TheVariants.{Byte, Word, Paragraph, Page, Dword}
 
@@ -16,14 +17,7 @@ bytes_aligned Paragraph = 16
 bytes_aligned Page = 256
 bytes_aligned Dword = 4
 
--- The attributes of the segments, in order, and the alignments in them.
-abbrev pub attributes_in : Contents → List ℕ
-attributes_in (Segment s) = s.attribute ∷ []
-attributes_in _ = []
-
-abbrev pub attributes : List Rec → List ℕ
-attributes m = flat_map (λ r. attributes_in r.contents) m
-
+-- The alignments of the segments, in order: those in their attributes.
 abbrev pub alignments : List Rec → List Alignment
 alignments m = map (λ a. alignment_named (alignment a)) (attributes m)
 

@@ -4,8 +4,6 @@ ghost use Rattle.std.specs.Prelude.{◌≡◌, ◌≤◌};
 ghost use Rattle.omf_records.specs.Values.{alignment};
 ghost use Rattle.omf_layout.specs.Wants.{alignment_named, bytes_aligned};
 
-use omf_records::{Acbp, Alignment as Field};
-
 /// The alignment of a segment's address (TIS OMF 1.1, "SEGDEF", A field).
 #[derive(Clone, Copy)]
 pub enum Alignment {
@@ -23,15 +21,15 @@ pub enum Alignment {
 
 impl Alignment {
     /// Returns the alignment in a SEGDEF's attribute byte.
-    pub fn named_by(attribute: Acbp) -> Alignment
+    pub fn named_by(attribute: u8) -> Alignment
         ensures { result ≡ alignment_named (alignment attribute) }
     {
-        match attribute.alignment() {
-            Field::Absolute | Field::Byte => Alignment::Byte,
-            Field::Word => Alignment::Word,
-            Field::Paragraph => Alignment::Paragraph,
-            Field::Page => Alignment::Page,
-            Field::Dword => Alignment::Dword,
+        match attribute / 32 {
+            2 => Alignment::Word,
+            3 => Alignment::Paragraph,
+            4 => Alignment::Page,
+            5 => Alignment::Dword,
+            _ => Alignment::Byte,
         }
     }
 

@@ -1,67 +1,30 @@
 //! Alignments of a module's segments and lengths of its communals.
 
-ghost use Rattle.std.specs.Prelude.{◌≡◌, ◌++◌, OnOk, IfOk, length, map};
-ghost use Rattle.omf_records.specs.Inner.Seen.{contents_seen};
+ghost use Rattle.std.specs.Prelude.{◌≡◌, ◌++◌, OnOk, IfOk, length};
 ghost use Rattle.omf_records.specs.Inner.Sizes.{size_seen};
-ghost use Rattle.omf_records.specs.Values.{Externs, Communals, alignment};
+ghost use Rattle.omf_records.specs.Values.{Externs, Communals};
 ghost use Rattle.omf_check.specs.Module.{recs_of};
 ghost use Rattle.omf_check.specs.Tables.{segments};
-ghost use Rattle.omf_layout.specs.Wants.{alignment_named, alignments, attributes, attributes_in, rooms, rooms_in, room_of};
+ghost use Rattle.omf_layout.specs.Wants.{alignments, rooms, rooms_in, room_of};
 
 use crate::alignment::Alignment;
 use omf_check::{Checked, Externals, Undecoded};
-use omf_records::{Acbp, Communal, CommunalSize, Extern, Items, Rec};
+use omf_records::{Communal, CommunalSize, Extern, Items};
 use std::alloc::{AllocError, Global};
-
-/// Adds the attribute of a record's segment.
-fn add_attribute(attributes: &mut Vec<Acbp>, rec: &Rec<'_>) -> Result<(), AllocError>
-    ensures { OnOk result (attributes.new.items ≡ attributes.old.items ++ attributes_in (contents_seen rec.now)) }
-{
-    if let Rec::Segment { segment, .. } = rec {
-        attributes.push(segment.attribute)?;
-    }
-    Ok(())
-}
-
-/// The same for a record that is not decoded yet. It is decoded only if it is a SEGDEF.
-fn add_undecoded(attributes: &mut Vec<Acbp>, record: &Undecoded<'_>) -> Result<(), AllocError>
-    ensures { OnOk result (attributes.new.items ≡ attributes.old.items ++ attributes_in «record».now.contents) }
-{
-    match record.segment() {
-        Some(rec) => add_attribute(attributes, &rec),
-        None => Ok(()),
-    }
-}
-
-/// Returns the attributes of a module's segments, in order.
-pub fn attributes_of(alloc: Global, module: &Checked) -> Result<Vec<Acbp>, AllocError>
-    ensures all { IfOk result (λ v. v.items ≡ attributes (recs_of «module».now.bytes)) }
-    ensures each { IfOk result (λ v. length v.items ≡ length (segments (recs_of «module».now.bytes))) }
-{
-    let mut attributes = Vec::new(alloc);
-    for (_, record) in module.undecoded() {
-        add_undecoded(&mut attributes, &record)?;
-    }
-    Ok(attributes)
-}
-
-/// Returns the alignments in these attributes.
-fn named_by(alloc: Global, attributes: &[Acbp]) -> Result<Vec<Alignment>, AllocError>
-    ensures { IfOk result (λ v. v.items ≡ map (λ a. alignment_named (alignment a)) attributes.now) }
-{
-    let mut alignments = Vec::new(alloc);
-    for attribute in attributes {
-        alignments.push(Alignment::named_by(*attribute))?;
-    }
-    Ok(alignments)
-}
 
 /// Returns the alignments of a module's segments, in order.
 pub fn alignments_of(alloc: Global, module: &Checked) -> Result<Vec<Alignment>, AllocError>
     ensures all { IfOk result (λ v. v.items ≡ alignments (recs_of «module».now.bytes)) }
     ensures each { IfOk result (λ v. length v.items ≡ length (segments (recs_of «module».now.bytes))) }
 {
-    named_by(alloc, &attributes_of(alloc, module)?)
+    let mut alignments = Vec::new(alloc);
+    for before in 0..module.segments() {
+        let Some(attribute) = module.attribute(before + 1) else {
+            unreachable!()
+        };
+        alignments.push(Alignment::named_by(attribute))?;
+    }
+    Ok(alignments)
 }
 
 /// Returns the length of a communal in bytes.

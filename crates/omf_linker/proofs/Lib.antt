@@ -28,3 +28,4 @@ pub mod OverlapLaws
 pub mod WideLaws
 pub mod LabelLaws
 pub mod SettledLaws
+pub mod SuitingLaws

@@ -1,7 +1,7 @@
 -- The frames that suit modules, where a command line names none (a rule of this profile).
 use Rattle.std.specs.Prelude.{Bool, true, false, List, unwrap_or}
 use Rattle.std.specs.List.{list_any}
-use Rattle.omf_layout.specs.Wants.{attributes}
+use Rattle.omf_check.specs.Tables.{attributes}
 use Rattle.omf_layout.specs.declared.options.Frames.{Frames}
 use Rattle.omf_layout.specs.declared.options.Frames.TheVariants.{Real, Flat}
 use Rattle.omf_layout.specs.declared.options.Options.{Options}

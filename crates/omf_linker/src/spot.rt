@@ -1,8 +1,8 @@
 //! Parts of modules as a person finds them: a segment by its name, and an offset in it.
 
-use omf_check::{Checked, Undecoded};
+use omf_check::{Checked, Data, Undecoded};
 use omf_frame::{Name, Place};
-use omf_records::{Kind, Rec};
+use omf_records::Kind;
 use omf_reloc::{Piece, pieces_of};
 
 /// Where a part of a module is: the index of the segment of its data, and its offset there.
@@ -12,56 +12,34 @@ pub(crate) struct Spot {
     pub(crate) offset: u64,
 }
 
-/// The spot of a data record's first byte.
-fn data_spot(rec: &Rec<'_>) -> Option<Spot> {
-    match rec {
-        Rec::Plain {
+/// The spot of a data record's first byte. No other record is decoded.
+fn data_spot(rec: &Undecoded<'_>) -> Option<Spot> {
+    let Some(data) = rec.as_data() else {
+        return None;
+    };
+    let (segment, offset) = match &data {
+        Data::Plain {
             segment,
             offset,
             ..
-        } => Some(Spot {
-            segment: segment.item.0,
-            offset: u64::from(offset.item),
-        }),
-        Rec::Iterated {
+        } => (segment.item.0, offset.item),
+        Data::Iterated {
             segment,
             offset,
             ..
-        } => Some(Spot {
-            segment: segment.item.0,
-            offset: u64::from(offset.item),
-        }),
-        Rec::Header { .. }
-        | Rec::Comment { .. }
-        | Rec::Names(_)
-        | Rec::Segment { .. }
-        | Rec::Group { .. }
-        | Rec::Externs(_)
-        | Rec::Publics { .. }
-        | Rec::Communals(_)
-        | Rec::Fixups { .. }
-        | Rec::ModEnd { .. }
-        | Rec::LocalNames(_)
-        | Rec::LocalExterns { .. }
-        | Rec::LocalPublics { .. }
-        | Rec::LocalCommunals(_)
-        | Rec::Carried { .. } => None,
-    }
-}
-
-/// The same for a record that is not decoded yet. It is decoded only if it has data.
-fn undecoded_spot(record: &Undecoded<'_>) -> Option<Spot> {
-    match record.data() {
-        Some(rec) => data_spot(&rec),
-        None => None,
-    }
+        } => (segment.item.0, offset.item),
+    };
+    Some(Spot {
+        segment,
+        offset: u64::from(offset),
+    })
 }
 
 /// The spot of a piece, and the spot of the last data record up to and including it.
 fn spots(piece: &Piece<'_>, last: Option<Spot>) -> (Option<Spot>, Option<Spot>) {
     match piece {
         Piece::Kept(record) => {
-            let spot = undecoded_spot(record);
+            let spot = data_spot(record);
             (spot, spot.or(last))
         }
         Piece::Fixed { fixup, .. } => match last {

@@ -1,6 +1,6 @@
 //! The frames that suit modules: real mode for 16-bit code, a flat frame for 32-bit code.
 
-ghost use Rattle.std.specs.Prelude.{◌≡◌, IfOk};
+ghost use Rattle.std.specs.Prelude.{◌≡◌};
 ghost use Rattle.std.specs.List.{list_any};
 ghost use Rattle.omf_check.specs.Module.{recs_of, typed_modules};
 ghost use Rattle.omf_linker.specs.Suiting.{has_use32, module_options, options_by, options_for, suiting};
@@ -8,36 +8,40 @@ ghost use Rattle.omf_records.specs.Values.{is_use32};
 
 use crate::options::AskedOptions;
 use omf_check::Checked;
-use omf_layout::wants::attributes_of;
 use omf_layout::{Frames, Options};
-use omf_records::Acbp;
-use std::alloc::{AllocError, Global};
 
-/// Whether one of these attributes is that of a 32-bit segment.
-fn has_any(attributes: &[Acbp]) -> bool
-    ensures { result ≡ list_any is_use32 attributes.now }
+/// Whether an attribute byte is that of a 32-bit segment.
+pub(crate) fn is_use32(attribute: u8) -> bool
+    ensures { result ≡ is_use32 attribute }
 {
-    attributes.iter().any(|attribute| attribute.is_use32())
+    attribute % 2 == 1
 }
 
 /// Whether a module has a 32-bit segment.
-fn has_use32(alloc: Global, module: &Checked) -> Result<bool, AllocError>
-    ensures { IfOk result (λ b. b ≡ has_use32 (recs_of «module».now.bytes)) }
+fn has_use32(module: &Checked) -> bool
+    ensures { result ≡ has_use32 (recs_of «module».now.bytes) }
 {
-    let attributes = attributes_of(alloc, module)?;
-    Ok(has_any(&attributes))
+    for before in 0..module.segments() {
+        let Some(attribute) = module.attribute(before + 1) else {
+            unreachable!()
+        };
+        if is_use32(attribute) {
+            return true;
+        }
+    }
+    false
 }
 
 /// Whether one of several modules has a 32-bit segment.
-fn have_use32(alloc: Global, modules: &[Checked]) -> Result<bool, AllocError>
-    ensures { IfOk result (λ b. b ≡ list_any has_use32 (typed_modules modules.now)) }
+fn have_use32(modules: &[Checked]) -> bool
+    ensures { result ≡ list_any has_use32 (typed_modules modules.now) }
 {
     for module in modules {
-        if has_use32(alloc, module)? {
-            return Ok(true);
+        if has_use32(module) {
+            return true;
         }
     }
-    Ok(false)
+    false
 }
 
 /// The frames for modules with or without 32-bit segments.
@@ -62,31 +66,15 @@ fn options_by(use32: bool, asked: AskedOptions) -> Options
 }
 
 /// The options of a layout for a module. Where no frames are asked for, real mode if the module has no 32-bit segment, else one flat frame with selector 0.
-///
-/// # Errors
-///
-/// `AllocError` if memory runs out.
-pub fn module_options(
-    alloc: Global,
-    module: &Checked,
-    asked: AskedOptions,
-) -> Result<Options, AllocError>
-    ensures { IfOk result (λ o. o ≡ module_options (recs_of «module».now.bytes) asked) }
+pub fn module_options(module: &Checked, asked: AskedOptions) -> Options
+    ensures { result ≡ module_options (recs_of «module».now.bytes) asked }
 {
-    Ok(options_by(has_use32(alloc, module)?, asked))
+    options_by(has_use32(module), asked)
 }
 
 /// The options of a layout for several modules. Where no frames are asked for, real mode if no module has a 32-bit segment, else one flat frame with selector 0.
-///
-/// # Errors
-///
-/// `AllocError` if memory runs out.
-pub fn options_for(
-    alloc: Global,
-    modules: &[Checked],
-    asked: AskedOptions,
-) -> Result<Options, AllocError>
-    ensures { IfOk result (λ o. o ≡ options_for (typed_modules modules.now) asked) }
+pub fn options_for(modules: &[Checked], asked: AskedOptions) -> Options
+    ensures { result ≡ options_for (typed_modules modules.now) asked }
 {
-    Ok(options_by(have_use32(alloc, modules)?, asked))
+    options_by(have_use32(modules), asked)
 }

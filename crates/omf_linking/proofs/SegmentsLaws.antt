@@ -3,20 +3,17 @@ use Rattle.std.proofs.Common.{◌≡◌, inl, inr, ℕ, zero, suc, ◌+◌, ◌-
 use Rattle.std.proofs.Math.Path.{fun_ext}
 use Rattle.std.proofs.Math.Seq.{drop-nil}
 use Rattle.std.proofs.lemmas.List.{length-append}
-use Rattle.std.specs.Prelude.{flat_map, Option, Some, option_map, slice_get, Result, Err}
+use Rattle.std.specs.Prelude.{flat_map, Option, Some, None, option_map, slice_get, Result, Err, cond, nat_le, true, false}
 use Rattle.std.proofs.lemmas.List.{length-map}
 use Rattle.std.proofs.lemmas.List.FromFn.{length-enumerate_from}
 use Rattle.std.proofs.lemmas.Option.{slice_get_cases, slice_get_within, slice_get-map}
 use Rattle.std.specs.List.{AllZip, enumerate_from}
-use Rattle.omf_frame.specs.Framing.{Raw, raw_bytes}
-use Rattle.omf_frame.specs.declared.fault.Place.{Place}
-use Rattle.omf_records.specs.Inner.Reading.{typed}
-use Rattle.omf_records.specs.Values.{Rec, Contents, Header, Comment, Names, Segment, Group, Externs, Publics, Communals, Plain, Iterated, Fixups, ModEnd, Carried}
-use Rattle.omf_check.specs.Listed.{placed_from}
+use Rattle.omf_records.specs.Values.{Rec}
 use Rattle.omf_check.specs.Module.{Module, records_in}
-use Rattle.omf_check.specs.Tables.{segments, defined_segments}
+use Rattle.omf_check.specs.Tables.{attributes, entry, segments}
 use Rattle.omf_check.specs.WellFormed.{recs}
 use Rattle.omf_placement.specs.Derive.{PlacedModule, placed_modules}
+use Rattle.omf_layout.proofs.TableLaws.{length-attributes}
 use Rattle.omf_linking.specs.declared.space.segment.PlacedSegment.{PlacedSegment}
 use Rattle.omf_image.specs.Overlay.{Laid}
 use Rattle.omf_linking.specs.declared.space.fault.MemoryFault.{MemoryFault}
@@ -26,18 +23,11 @@ use Rattle.omf_placement.specs.Placement.{Places}
 use Rattle.omf_linking.specs.Faults.{of_memory}
 use Rattle.omf_linking.specs.LinkedMemory.{IsLinkedMemory}
 use Rattle.omf_linking.specs.Relocated.{IsRelocated}
-use Rattle.omf_linking.specs.Segments.{commons, commons_in, Bytes, ModuleBytes, module_segment, module_segments, all_segments, image_bytes, with_images, with_own_image, with_own_images}
+use Rattle.omf_linking.specs.Segments.{commons, is_common, Bytes, ModuleBytes, module_segment, module_segments, all_segments, image_bytes, with_images, with_own_image, with_own_images}
 use Rattle.omf_linking.specs.declared.fault.LinkFault.{LinkFault}
 use Rattle.omf_linking.specs.declared.relocated.Relocated.{Relocated}
 
--- ---- what the records of a module give
-
-abbrev pub given_by : {A : Type 0} → (Contents → List A) → List (Place × Rec) → List A
-given_by f xs = flat_map (λ x. f x.1.contents) xs
-
-pub given_all : {A : Type 0} (f : Contents → List A) (number start : ℕ) (rs : List Raw) → given_by f (placed_from number start rs) ≡ flat_map (λ r. f r.contents) (recs rs)
-given_all f number start [] = refl
-given_all f number start (r ∷ rs) = ap (λ xs. f (typed r).contents ++ xs) (given_all f (number + 1) (start + length (raw_bytes r)) rs)
+-- ---- parts of a list, one after another
 
 -- one more part at the end
 pub more_given : {A : Type 0} (old new part rest left all : List A) → new ≡ old ++ part → left ≡ part ++ rest → old ++ left ≡ all → new ++ rest ≡ all
@@ -46,28 +36,17 @@ more_given old new part rest left all e f h = ap (λ xs. xs ++ rest) e ∙ appen
 pub all_given : {A : Type 0} (old left all : List A) → left ≡ [] → old ++ left ≡ all → old ≡ all
 all_given old left all e h = sym (append-nil old) ∙ ap (λ xs. old ++ xs) (sym e) ∙ h
 
-one_common : (kind : ℕ) (c : Contents) → length (commons_in c) ≡ length (defined_segments kind c)
-one_common kind (Segment s) = refl
-one_common kind (Header n) = refl
-one_common kind (Comment a b t) = refl
-one_common kind (Names ns) = refl
-one_common kind (Group g) = refl
-one_common kind (Externs es) = refl
-one_common kind (Publics p) = refl
-one_common kind (Communals cs) = refl
-one_common kind (Plain d) = refl
-one_common kind (Iterated d) = refl
-one_common kind (Fixups ss) = refl
-one_common kind (ModEnd b s) = refl
-one_common kind (Carried bs) = refl
+-- ---- the segments of a module
+
+-- the entry of a mapped list
+pub entry_mapped : {A B : Type 0} (f : A → B) (xs : List A) (i : ℕ) → entry (map f xs) i ≡ option_map f (entry xs i)
+entry_mapped f xs i = by (nat_le 1 i) where
+  by : (b : Bool) → cond b (slice_get (map f xs) (i - 1)) None ≡ option_map f (cond b (slice_get xs (i - 1)) None)
+  by true = slice_get-map f xs (i - 1)
+  by false = refl
 
 pub length_commons : (m : List Rec) → length (commons m) ≡ length (segments m)
-length_commons [] = refl
-length_commons (r ∷ m) =
-    length-append (commons_in r.contents) (commons m) ∙ ap₂ (λ (a b : ℕ). a + b) (one_common r.kind r.contents) (length_commons m)
-    ∙ sym (length-append (defined_segments r.kind r.contents) (segments m))
-
--- ---- the segments of a module
+length_commons m = length-map (attributes m) is_common ∙ length-attributes m
 
 -- some segments, and those of a module from one on, are these
 abbrev pub AreFrom : (ℕ × Bool → SegmentAt) → List PlacedSegment → ℕ → List Bool → List SegmentAt → Type 0
@@ -151,18 +130,6 @@ numbered k [] i x e = absurd (none_there i e)
     none_there i e = let low = slice_get_within [] i _ e in omega (arith, low)
 numbered k (y ∷ xs) zero x e = let same : k ≡ k + 0 = omega arith in ap₂ (λ (n : ℕ) (o : Option _). option_map (λ z. (n, z)) o) same e
 numbered k (y ∷ xs) (suc i) x e = let same : k + 1 + i ≡ k + suc i = omega arith in numbered (k + 1) xs i x e ∙ ap (λ (n : ℕ). Some (n, x)) same
-
--- records with and without a segment
-pub rec_passed : {A : Type 0} (xs part ys : List A) (left : ℕ) (o : Option A) → xs ≡ part ++ ys → part ≡ [] → slice_get xs left ≡ o → slice_get ys left ≡ o
-rec_passed {A} xs part ys left o e none h = ap (λ (zs : List A). slice_get zs left) (sym (e ∙ ap (λ (zs : List A). zs ++ ys) none)) ∙ h
-
-pub rec_here : {A : Type 0} (xs part ys : List A) (x : A) (left : ℕ) (o : Option A) → xs ≡ part ++ ys → part ≡ x ∷ [] → left ≡ 0 → slice_get xs left ≡ o → o ≡ Some x
-rec_here {A} xs part ys x left o e one z h = sym h ∙ ap₂ (λ (zs : List A) (n : ℕ). slice_get zs n) (e ∙ ap (λ (zs : List A). zs ++ ys) one) z
-
-pub rec_later : {A : Type 0} (xs part ys : List A) (x : A) (left : ℕ) (o : Option A) → xs ≡ part ++ ys → part ≡ x ∷ [] → 0 < left → slice_get xs left ≡ o → slice_get ys (left - 1) ≡ o
-rec_later {A} xs part ys x left o e one low h =
-    let place : length (x ∷ []) + (left - 1) ≡ left = omega (arith, low) in
-    sym (slice_right (x ∷ []) ys (left - 1) left place) ∙ ap (λ (zs : List A). slice_get zs left) (sym (e ∙ ap (λ (zs : List A). zs ++ ys) one)) ∙ h
 
 pub some_left : {A : Type 0} (xs all : List A) (left n : ℕ) → slice_get xs left ≡ slice_get all n → n < length all → xs ≡ [] → ⊥
 some_left {A} [] all left n h low none = let c = (slice_get_cases all n).1 in elim c [ inl i ↦ gone (h ∙ i.2) | inr i ↦ omega (arith, i.0, low) ]

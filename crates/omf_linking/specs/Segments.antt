@@ -1,8 +1,8 @@
 -- The segments of modules at their placements (this profile's rule).
-use Rattle.std.specs.Prelude.{ℕ, List, [], ◌∷◌, map, flat_map, zip, Bool, ◌==◌, Option, option_map, unwrap_or}
+use Rattle.std.specs.Prelude.{ℕ, List, map, flat_map, zip, Bool, ◌==◌, Option, option_map, unwrap_or}
 use Rattle.std.specs.List.{enumerate_from}
-use Rattle.omf_records.specs.Values.{Rec, Contents, Segment, combination}
-use Rattle.omf_check.specs.Tables.{entry}
+use Rattle.omf_records.specs.Values.{Rec, combination}
+use Rattle.omf_check.specs.Tables.{attributes, entry}
 use Rattle.omf_placement.specs.Derive.{PlacedModule}
 use Rattle.omf_placement.specs.declared.frame.Placed.{Placed}
 use Rattle.omf_image.specs.Limits.{profile_limits}
@@ -17,12 +17,8 @@ abbrev pub is_common : ℕ → Bool
 is_common attribute = combination attribute == 6
 
 -- Whether each segment of a module is common, in index order.
-abbrev pub commons_in : Contents → List Bool
-commons_in (Segment s) = is_common s.attribute ∷ []
-commons_in _ = []
-
 abbrev pub commons : List Rec → List Bool
-commons m = flat_map (λ r. commons_in r.contents) m
+commons m = map is_common (attributes m)
 
 -- The bytes of an image, by segments and offsets.
 abbrev pub Bytes : Type 0

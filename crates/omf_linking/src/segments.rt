@@ -1,67 +1,36 @@
 //! The segments of modules at their placements.
 
-ghost use Rattle.std.specs.Prelude.{◌≡◌, ◌++◌, ◌<◌, ◌^◌, IfOk, OnOk, Some, length, option_to_list, slice_get};
-ghost use Rattle.omf_records.specs.Inner.Seen.{contents_seen};
+ghost use Rattle.std.specs.Prelude.{◌≡◌, ◌++◌, ◌<◌, ◌≤◌, ◌^◌, IfOk, OnOk, Some, length, slice_get};
 ghost use Rattle.omf_check.specs.Module.{recs_of};
-ghost use Rattle.omf_check.specs.Tables.{segments};
+ghost use Rattle.omf_check.specs.Tables.{entry, segments};
 ghost use Rattle.omf_placement.specs.Derive.{placed_modules};
 ghost use Rattle.omf_linking.specs.Inner.Searching.{AreMany, listed};
 ghost use Rattle.omf_linking.specs.Space.Segments.{segment_at, segments_at};
-ghost use Rattle.omf_linking.specs.Segments.{address_in, all_segments, commons, commons_in, image_bytes, is_common, module_segment, module_segments, with_images};
+ghost use Rattle.omf_linking.specs.Segments.{address_in, all_segments, commons, image_bytes, is_common, module_segment, module_segments, with_images};
 
 use crate::relocated::Relocated;
 use crate::space::{Owner, PlacedSegment};
 use omf_check::Checked;
 use omf_placement::Placement;
-use omf_records::{Acbp, Combination, Rec};
 use std::alloc::{AllocError, Global};
 
-/// Returns whether the combination in a SEGDEF's attribute byte is common.
-fn is_common(attribute: Acbp) -> bool
+/// Returns whether the combination in a SEGDEF's attribute byte is common: the value 6 of its bits 4 to 2.
+fn is_common(attribute: u8) -> bool
     ensures { result ≡ is_common attribute }
 {
-    match attribute.combination() {
-        Combination::Common => true,
-        Combination::Private
-        | Combination::Reserved1
-        | Combination::Public
-        | Combination::Reserved3
-        | Combination::Public4
-        | Combination::Stack
-        | Combination::Public7 => false,
-    }
+    attribute / 4 % 8 == 6
 }
 
-/// Returns whether a record's segment is common; none if it is no SEGDEF.
-fn common_in(rec: &Rec<'_>) -> Option<bool>
-    ensures { option_to_list result ≡ commons_in (contents_seen rec.now) }
+/// Returns whether a segment of a module is common, by its index.
+fn common_at(module: &Checked, index: u16) -> bool
+    requires low { 1 ≤ index }
+    requires within { index ≤ length (segments (recs_of «module».now.bytes)) }
+    ensures { entry (commons (recs_of «module».now.bytes)) index ≡ Some result }
 {
-    let Rec::Segment { segment, .. } = rec else {
-        return None;
+    let Some(attribute) = module.attribute(index) else {
+        unreachable!()
     };
-    Some(is_common(segment.attribute))
-}
-
-/// Adds whether a record's segment is common.
-fn add_common(commons: &mut Vec<bool>, rec: &Rec<'_>) -> Result<(), AllocError>
-    ensures { OnOk result (commons.new.items ≡ commons.old.items ++ commons_in (contents_seen rec.now)) }
-{
-    if let Some(common) = common_in(rec) {
-        commons.push(common)?;
-    }
-    Ok(())
-}
-
-/// Returns whether each of a module's segments is common, in order.
-fn commons_of(alloc: Global, module: &Checked) -> Result<Vec<bool>, AllocError>
-    ensures all { IfOk result (λ v. v.items ≡ commons (recs_of «module».now.bytes)) }
-    ensures each { IfOk result (λ v. length v.items ≡ length (segments (recs_of «module».now.bytes))) }
-{
-    let mut commons = Vec::new(alloc);
-    for (_, rec) in module.records() {
-        add_common(&mut commons, &rec)?;
-    }
-    Ok(commons)
+    is_common(attribute)
 }
 
 /// Returns the address of a segment, by its index; 0 if it has no place.
@@ -107,23 +76,16 @@ pub(crate) struct Member<'a> {
 
 /// Adds the segments of a module.
 pub(crate) fn add_module<'a>(
-    alloc: Global,
     segments: &mut Vec<PlacedSegment<'a>>,
     member: &Member<'_>,
     relocated: &'a Relocated,
 ) -> Result<(), AllocError>
     ensures { OnOk result (segments_at segments.new.items ≡ segments_at segments.old.items ++ module_segments (member.now.number, ((recs_of member.now.«module».now.bytes, member.now.placement.now), image_bytes relocated.now))) }
 {
-    let commons = commons_of(alloc, member.module)?;
     for before in 0..member.module.segments() {
-        let common = commons[usize::from(before)];
-        let segment = placed_segment(
-            member.number,
-            before + 1,
-            common,
-            member.placement,
-            relocated,
-        );
+        let index = before + 1;
+        let common = common_at(member.module, index);
+        let segment = placed_segment(member.number, index, common, member.placement, relocated);
         segments.push(segment)?;
     }
     Ok(())
@@ -152,27 +114,9 @@ pub fn segments_of<'a>(
             module,
             placement: &placements[j],
         };
-        add_module(alloc, &mut segments, &member, &relocated[j])?;
+        add_module(&mut segments, &member, &relocated[j])?;
     }
     Ok(segments)
-}
-
-/// Returns whether a segment of a module is common, by its number from 0.
-fn common_at(module: &Checked, n: u16) -> bool
-    requires { n < length (segments (recs_of «module».now.bytes)) }
-    ensures { slice_get (commons (recs_of «module».now.bytes)) n ≡ Some result }
-{
-    let mut left = n;
-    for (_, rec) in module.records() {
-        let Some(common) = common_in(&rec) else {
-            continue;
-        };
-        if left == 0 {
-            return common;
-        }
-        left -= 1;
-    }
-    unreachable!()
 }
 
 /// The segments of modules, each at its place in the placement of its module: a list that takes no memory.
@@ -209,8 +153,8 @@ impl<'a> ModuleSegments<'a> {
         for (j, module) in self.modules.iter().enumerate() {
             let count = usize::from(module.segments());
             if left < count {
-                let common = common_at(module, left as u16);
                 let index = left as u16 + 1;
+                let common = common_at(module, index);
                 let place = &self.placements[j];
                 return placed_segment(j as u32, index, common, place, &self.relocated[j]);
             }

@@ -69,7 +69,7 @@ fn stretched<'a>(
     ensures stretches { AreStretches (module_segments (member.now.number, ((recs_of member.now.«module».now.bytes, member.now.placement.now), image_bytes relocated.entry.now))) (map_ok (λ v. v.items) result) }
 {
     let mut segments = Vec::new(alloc);
-    add_module(alloc, &mut segments, member, relocated)?;
+    add_module(&mut segments, member, relocated)?;
     stretches_of(alloc, &segments)
 }
 

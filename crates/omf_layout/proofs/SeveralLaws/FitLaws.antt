@@ -5,7 +5,7 @@ use Rattle.std.specs.List.{enumerate_from}
 use Rattle.std.proofs.lemmas.Bool.{cases_lt}
 use Rattle.std.proofs.lemmas.Option.{none-some, same_Some, slice_get-get_or}
 use Rattle.omf_records.specs.Values.{Rec}
-use Rattle.omf_check.specs.Tables.{segments, entry}
+use Rattle.omf_check.specs.Tables.{attributes, segments, entry}
 use Rattle.omf_check.specs.declared.segment.SegInfo.{SegInfo}
 use Rattle.omf_placement.specs.declared.frame.Placed.{Placed}
 use Rattle.omf_placement.specs.Placement.{Places, absolute_place}
@@ -19,7 +19,6 @@ use Rattle.omf_layout.specs.Several.Laws.{ArrangedAsTold, IsPlaced, IsPlacedAt, 
 use Rattle.omf_layout.specs.Several.Laying.{Lying, laid, arranged}
 use Rattle.omf_layout.specs.Several.Order.{place_of, runs}
 use Rattle.omf_layout.specs.Several.Placing.{place_in, segments_in, all_segments_in, lows, with_frames, all_with_frames}
-use Rattle.omf_layout.specs.Wants.{attributes}
 use Rattle.omf_layout.specs.Several.Portions.{Named, portion}
 use Rattle.omf_layout.proofs.SeveralLaws.ApartLaws.{arranged-lie-apart}
 use Rattle.omf_layout.proofs.SeveralLaws.OrderedLaws.{those-in-runs}

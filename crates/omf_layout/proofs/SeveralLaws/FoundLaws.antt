@@ -5,7 +5,7 @@ use Rattle.std.specs.List.{filter, zip, enumerate_from, cons_option}
 use Rattle.std.proofs.lemmas.Bool.{cond-true, cond-false, cases_Bool, eq-eqb, eqb-true, and_parts, and_from}
 use Rattle.std.proofs.lemmas.Option.{none-some, same_Some, slice_get-get_or}
 use Rattle.omf_records.specs.Values.{Rec}
-use Rattle.omf_check.specs.Tables.{segments, entry}
+use Rattle.omf_check.specs.Tables.{attributes, segments, entry}
 use Rattle.omf_check.specs.declared.segment.SegInfo.{SegInfo}
 use Rattle.omf_layout.specs.Layout.{Laid}
 use Rattle.omf_layout.specs.declared.options.Options.{Options}
@@ -18,7 +18,6 @@ use Rattle.omf_layout.specs.Several.Laws.{count, IsLaidAt, IsToldBy, SegmentsAre
 use Rattle.omf_layout.specs.Several.Laying.{Lying, arranged}
 use Rattle.omf_layout.specs.Several.Order.{runs_in, runs, combined_by, in_order}
 use Rattle.omf_layout.specs.Several.Placing.{is_of}
-use Rattle.omf_layout.specs.Wants.{attributes}
 use Rattle.omf_layout.specs.Several.Portions.{Named, Classed, classed, portion, portions_in, portions}
 use Rattle.omf_layout.proofs.SeveralLaws.ApartLaws.{Each, each-at, each-both}
 use Rattle.omf_layout.proofs.SeveralLaws.OnceLaws.{count-both, count-seen, ordered-once}

@@ -6,14 +6,14 @@ use Rattle.omf_placement.specs.Placement.{Places, absolute_place}
 use Rattle.omf_layout.specs.Layout.{Laid}
 use Rattle.omf_layout.specs.Laws.{IsMultiple}
 use Rattle.omf_layout.specs.Room.{limit}
-use Rattle.omf_layout.specs.Wants.{bytes_aligned, attributes}
+use Rattle.omf_layout.specs.Wants.{bytes_aligned}
 use Rattle.omf_layout.specs.declared.options.Frames.{Frames}
 use Rattle.omf_layout.specs.declared.options.Options.{Options}
 use Rattle.omf_layout.specs.Several.Laying.{Lying, arranged}
 use Rattle.omf_layout.specs.Several.Order.{order, place_of, in_order, runs}
 use Rattle.omf_layout.specs.Several.Placing.{place_in, arranged_places}
 use Rattle.omf_layout.specs.Several.Portions.{portion, portions}
-use Rattle.omf_check.specs.Tables.{segments, entry}
+use Rattle.omf_check.specs.Tables.{attributes, segments, entry}
 use Rattle.omf_check.specs.declared.segment.SegInfo.{SegInfo}
 use Rattle.omf_layout.specs.declared.several.portion.Portion.{Portion}
 use Rattle.omf_layout.specs.declared.several.portion.Combination.TheVariants.{Common}

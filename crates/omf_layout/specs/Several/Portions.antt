@@ -3,9 +3,9 @@ use Rattle.std.specs.Prelude.{ℕ, List, [], map, flat_map, unwrap_or, ◌==◌,
 use Rattle.std.specs.List.{enumerate_from, zip}
 use denote.Ref.{Bor}
 use Rattle.omf_records.specs.Values.{Rec, alignment, combination}
-use Rattle.omf_check.specs.Tables.{names, segments, entry}
+use Rattle.omf_check.specs.Tables.{attributes, names, segments, entry}
 use Rattle.omf_check.specs.declared.segment.SegInfo.{SegInfo}
-use Rattle.omf_layout.specs.Wants.{alignment_named, attributes}
+use Rattle.omf_layout.specs.Wants.{alignment_named}
 use Rattle.omf_layout.specs.declared.several.portion.Combination.{Combination}
 use Rattle.omf_layout.specs.declared.several.portion.Combination.TheVariants.{Joined, Common, Alone}
 use Rattle.omf_layout.specs.declared.several.portion.Portion.{Portion}

@@ -1,15 +1,11 @@
 //! Segments of several modules.
 
-ghost use Rattle.std.specs.Prelude.{◌≡◌, ◌++◌, ◌<◌, ◌^◌, OnOk, IfOk, length, map, slice_get, Some};
+ghost use Rattle.std.specs.Prelude.{◌≡◌, ◌++◌, ◌<◌, ◌^◌, OnOk, IfOk, length, map};
 ghost use Rattle.omf_check.specs.Module.{recs_of, typed_modules};
-ghost use Rattle.omf_check.specs.Tables.{segments};
-ghost use Rattle.omf_layout.specs.Wants.{attributes};
 ghost use Rattle.omf_layout.specs.Several.Portions.{combination_named, name_at, portion, portions, portions_in, with_names};
 
 use crate::Alignment;
-use crate::wants::attributes_of;
 use omf_check::{Checked, SegInfo};
-use omf_records::{Acbp, Combination as Field};
 use std::alloc::{AllocError, Global};
 
 /// How a segment combines with others of its class and name (TIS OMF 1.1, "SEGDEF", C field).
@@ -25,13 +21,13 @@ pub enum Combination {
 
 impl Combination {
     /// Returns the combination in a SEGDEF's attribute byte.
-    fn named_by(attribute: Acbp) -> Combination
+    fn named_by(attribute: u8) -> Combination
         ensures { result ≡ combination_named attribute }
     {
-        match attribute.combination() {
-            Field::Public | Field::Public4 | Field::Stack | Field::Public7 => Combination::Joined,
-            Field::Common => Combination::Common,
-            Field::Private | Field::Reserved1 | Field::Reserved3 => Combination::Alone,
+        match attribute / 4 % 8 {
+            2 | 4 | 5 | 7 => Combination::Joined,
+            6 => Combination::Common,
+            _ => Combination::Alone,
         }
     }
 }
@@ -66,7 +62,7 @@ impl Portion {
 }
 
 /// Returns the portion of a segment with this attribute.
-fn portion_of(module: u32, index: u16, segment: SegInfo, attribute: Acbp) -> Portion
+fn portion_of(module: u32, index: u16, segment: SegInfo, attribute: u8) -> Portion
     ensures { result ≡ portion «module» index segment attribute }
 {
     Portion {
@@ -88,26 +84,15 @@ pub fn name_at(module: &Checked, index: u16) -> &[u8]
     }
 }
 
-/// Returns the attribute at a position.
-fn attribute_at(each: &[Acbp], before: u16) -> Acbp
-    requires { before < length each.now }
-    ensures { slice_get each.now before ≡ Some result }
-{
-    each[usize::from(before)]
-}
-
 /// A portion with the names of its class and its segment.
 pub type Classed<'a> = (&'a [u8], (&'a [u8], Portion));
 
-/// Adds the segments of a module with these attributes.
+/// Adds the segments of a module.
 fn add_portions<'a>(
     portions: &mut Vec<Classed<'a>>,
     module: &'a Checked,
     number: u32,
-    each: &[Acbp],
 ) -> Result<(), AllocError>
-    requires all { each.now ≡ attributes (recs_of «module».now.bytes) }
-    requires as_many { length each.now ≡ length (segments (recs_of «module».now.bytes)) }
     ensures { OnOk result (map with_names portions.new.items ≡ map with_names portions.old.items ++ portions_in (number, recs_of «module».entry.now.bytes)) }
 {
     for before in 0..module.segments() {
@@ -115,7 +100,10 @@ fn add_portions<'a>(
         let Some(segment) = module.segment(index) else {
             unreachable!()
         };
-        let portion = portion_of(number, index, segment, attribute_at(each, before));
+        let Some(attribute) = module.attribute(index) else {
+            unreachable!()
+        };
+        let portion = portion_of(number, index, segment, attribute);
         let class = name_at(module, segment.class);
         let name = name_at(module, segment.name);
         portions.push((class, (name, portion)))?;
@@ -133,8 +121,7 @@ pub fn portions_of<'a>(
 {
     let mut portions = Vec::with_capacity(alloc, modules.len())?;
     for (number, module) in modules.iter().enumerate() {
-        let each = attributes_of(alloc, module)?;
-        add_portions(&mut portions, module, number as u32, &each)?;
+        add_portions(&mut portions, module, number as u32)?;
     }
     Ok(portions)
 }

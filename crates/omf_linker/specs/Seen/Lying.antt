@@ -1,10 +1,10 @@
 -- The segments of modules at their placements (this profile's rule).
 use Rattle.std.specs.Prelude.{ℕ, ◌+◌, List, map, flat_map, Option, Some, None, if◌then◌else◌}
 use Rattle.std.specs.List.{enumerate_from, zip}
-use Rattle.omf_check.specs.Tables.{segments}
+use Rattle.omf_check.specs.Tables.{attributes, segments}
 use Rattle.omf_check.specs.declared.segment.SegInfo.{SegInfo}
 use Rattle.omf_layout.specs.Several.Portions.{name_at}
-use Rattle.omf_layout.specs.Wants.{alignment_named, attributes}
+use Rattle.omf_layout.specs.Wants.{alignment_named}
 use Rattle.omf_layout.specs.declared.alignment.Alignment.{Alignment}
 use Rattle.omf_linking.specs.Segments.{address_in, is_common}
 use Rattle.omf_linking.specs.declared.space.stretch.Owner.{Owner}

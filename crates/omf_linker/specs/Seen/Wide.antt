@@ -1,9 +1,8 @@
 -- Groups with a member too far from their frame (this profile's rule).
 use Rattle.std.specs.Prelude.{ℕ, ◌+◌, List, [], ◌∷◌, not, ◌&&◌, nat_lt, Option, Some, None, option_and_then, if◌then◌else◌}
 use Rattle.std.specs.List.{enumerate_from}
-use Rattle.omf_check.specs.Tables.{entry, groups, segments}
+use Rattle.omf_check.specs.Tables.{attributes, entry, groups, segments}
 use Rattle.omf_check.specs.declared.segment.SegInfo.{SegInfo}
-use Rattle.omf_layout.specs.Wants.{attributes}
 use Rattle.omf_placement.specs.Derive.{PlacedModule}
 use Rattle.omf_placement.specs.declared.frame.Frame.{Frame}
 use Rattle.omf_placement.specs.declared.frame.Placed.{Placed}

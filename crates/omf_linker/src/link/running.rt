@@ -106,10 +106,7 @@ fn draft_asked(
     requires { length modules.now < 2 ^ 32 }
     ensures { IsDrafted (options_for (typed_modules modules.now) asked) (typed_modules modules.now) (map_ok (λ shown. shown.items) result) }
 {
-    match options_for(alloc, modules, asked) {
-        Ok(options) => draft_shown(alloc, modules, options),
-        Err(AllocError) => Err(ImageFault::Link(LinkFault::Memory)),
-    }
+    draft_shown(alloc, modules, options_for(modules, asked))
 }
 
 /// A result whose text is made, by a task that puts no modules into memory.

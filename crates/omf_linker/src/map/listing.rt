@@ -3,7 +3,6 @@
 ghost use Rattle.std.specs.Prelude.{◌≡◌, ◌∷◌, IfOk, length, flat_map, map, string_bytes, false, zip};
 ghost use Rattle.std.specs.List.{enumerate_from};
 ghost use Rattle.omf_frame.specs.Bytes.{AddsText};
-ghost use Rattle.omf_records.specs.Inner.Seen.{contents_seen, kind_seen};
 ghost use Rattle.omf_check.specs.Module.{recs_of, typed_modules};
 ghost use Rattle.omf_linker.specs.Map.Addresses.{addressed, addresses_of, public_at, publics_asked, publics_at};
 ghost use Rattle.omf_linker.specs.Map.MapText.{external_lines, map_text, public_line, public_lines, segment_line, segment_lines};
@@ -12,9 +11,9 @@ ghost use Rattle.omf_linker.specs.Inner.Steps.{part_lines};
 use crate::map::addresses::Addresses;
 use crate::map::printing::{print_external, print_public, print_segment};
 use crate::map::publics::{offset_from, publics_in};
-use omf_check::{Checked, SegInfo};
+use omf_check::{Checked, SegInfo, Undecoded};
 use omf_placement::Placement;
-use omf_records::{At, Items, Public, Rec};
+use omf_records::{At, Items, Public};
 use std::alloc::{AllocError, Global};
 
 /// The parts of a map.
@@ -92,14 +91,14 @@ fn print_items(
     Ok(())
 }
 
-/// Prints a line for each public of a record that is not local.
+/// Prints a line for each public of a record that is not local. No other record is decoded.
 fn print_record(
     text: &mut String,
     number: usize,
     addresses: &Addresses,
-    rec: &Rec<'_>,
+    rec: &Undecoded<'_>,
 ) -> Result<(), AllocError>
-    ensures { AddsText result (string_bytes text.old) (string_bytes text.new) (flat_map (public_line number) (publics_asked false addresses.now.segments (kind_seen rec.now) (contents_seen rec.now))) }
+    ensures { AddsText result (string_bytes text.old) (string_bytes text.new) (flat_map (public_line number) (publics_asked false addresses.now.segments rec.now.kind rec.now.contents)) }
 {
     match publics_in(false, rec, addresses.segments()) {
         Some((base, publics)) => print_items(text, number, base, publics),
@@ -116,7 +115,7 @@ fn print_publics(
 ) -> Result<(), AllocError>
     ensures { AddsText result (string_bytes text.old) (string_bytes text.new) (public_lines (number, (recs_of «module».now.bytes, addresses.now))) }
 {
-    for (_, rec) in module.records() {
+    for (_, rec) in module.undecoded() {
         print_record(text, number, addresses, &rec)?;
     }
     Ok(())

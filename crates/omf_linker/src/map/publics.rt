@@ -2,15 +2,14 @@
 
 ghost use Rattle.std.specs.Prelude.{◌≡◌, ◌+◌, ◌∷◌, [], IfOk, List, OnOk, filter_map, length, option_map, true};
 ghost use Rattle.omf_check.specs.Module.{recs_of, typed_modules};
-ghost use Rattle.omf_records.specs.Inner.Seen.{contents_seen, kind_seen};
 ghost use Rattle.omf_linker.specs.Inner.PublicAddresses.{HasMore, IsTable, address_after, based};
 ghost use Rattle.omf_linker.specs.Map.Addresses.{NamedAddress, all_given, base_at, is_unnamed, named_address, of_name, public_at, publics_asked, publics_at, publics_of, segments_given};
 
 use crate::map::addresses::given_addresses;
-use omf_check::{Checked, entry_of};
+use omf_check::{Checked, Undecoded, entry_of};
 use omf_linking::locator::Sparse;
 use omf_names::NameKey;
-use omf_records::{Items, Public, Rec};
+use omf_records::{Items, Public};
 use std::alloc::{AllocError, Global};
 use std::collections::BTreeMap;
 
@@ -37,55 +36,18 @@ pub(crate) fn offset_from(base: Option<u32>, offset: u32) -> Option<u64>
     }
 }
 
-/// The publics of a record, with the address of their base: those of an LPUBDEF if `local` is set, of a PUBDEF if not. None for any other record.
+/// The publics of a record, with the address of their base: those of an LPUBDEF if `local` is set, of a PUBDEF if not. None for any other record,
+/// which is not decoded.
 pub(crate) fn publics_in<'a>(
     local: bool,
-    rec: &Rec<'a>,
+    rec: &Undecoded<'a>,
     segments: &[Option<u32>],
 ) -> Option<(Option<u32>, Items<Public<'a>>)>
-    ensures { based result ≡ publics_asked local segments.now (kind_seen rec.now) (contents_seen rec.now) }
+    ensures { based result ≡ publics_asked local segments.now rec.now.kind rec.now.contents }
 {
-    match rec {
-        Rec::Publics {
-            segment,
-            frame,
-            publics,
-            ..
-        } => {
-            if local {
-                return None;
-            }
-            let base = base_address(segments, segment.item.0, *frame);
-            Some((base, publics.iter()))
-        }
-        Rec::LocalPublics {
-            segment,
-            frame,
-            publics,
-            ..
-        } => {
-            if !local {
-                return None;
-            }
-            let base = base_address(segments, segment.item.0, *frame);
-            Some((base, publics.iter()))
-        }
-        Rec::Header { .. }
-        | Rec::Comment { .. }
-        | Rec::Names(_)
-        | Rec::Segment { .. }
-        | Rec::Group { .. }
-        | Rec::Externs(_)
-        | Rec::Communals(_)
-        | Rec::Plain { .. }
-        | Rec::Iterated { .. }
-        | Rec::Fixups { .. }
-        | Rec::ModEnd { .. }
-        | Rec::LocalNames(_)
-        | Rec::LocalExterns { .. }
-        | Rec::LocalCommunals(_)
-        | Rec::Carried { .. } => None,
-    }
+    let publics = rec.as_publics(local)?;
+    let base = base_address(segments, publics.segment.item.0, publics.frame);
+    Some((base, publics.items))
 }
 
 /// The address of a name after one more public has it: none if it is not the first.
@@ -135,10 +97,10 @@ impl<'a> PublicAddresses<'a> {
     fn add_record(
         &mut self,
         local: bool,
-        rec: &Rec<'a>,
+        rec: &Undecoded<'a>,
         segments: &[Option<u32>],
     ) -> Result<(), AllocError>
-        ensures { OnOk result (HasMore self.old.by_name self.new.by_name (publics_asked local segments.now (kind_seen rec.now) (contents_seen rec.now))) }
+        ensures { OnOk result (HasMore self.old.by_name self.new.by_name (publics_asked local segments.now rec.now.kind rec.now.contents)) }
     {
         match publics_in(local, rec, segments) {
             Some((base, items)) => self.add_items(base, items),
@@ -155,7 +117,7 @@ impl<'a> PublicAddresses<'a> {
     ) -> Result<(), AllocError>
         ensures { OnOk result (HasMore self.old.by_name self.new.by_name (publics_of local (recs_of «module».entry.now.bytes, segments.now))) }
     {
-        for (_, rec) in module.records() {
+        for (_, rec) in module.undecoded() {
             self.add_record(local, &rec, segments)?;
         }
         Ok(())

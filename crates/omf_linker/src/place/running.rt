@@ -28,7 +28,7 @@ pub fn placed_text(
 ) -> Result<String, PlaceFault>
     ensures { IsDrafted (module_options (recs_of «module».now.bytes) asked) (recs_of «module».now.bytes) (map_ok (λ text. string_bytes text) result) }
 {
-    let options = module_options(alloc, module, asked)?;
+    let options = module_options(module, asked);
     let layout = layout_of(alloc, module, options)?;
     let text = draft_text(alloc, module, options, &layout)?;
     Ok(text)

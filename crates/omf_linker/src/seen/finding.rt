@@ -137,7 +137,7 @@ pub fn unseen(
     ensures { IfOk result (λ v. AreUnseen (placed_modules modules.now placements.now) v.items) }
 {
     let spans = spans_of(alloc, modules, placements)?;
-    let wide = first_wide(alloc, modules, placements)?;
+    let wide = first_wide(modules, placements);
     let misaligned = first_misaligned(&spans);
     let overlap = first_overlap(spans);
     let mut found = Vec::new(alloc);

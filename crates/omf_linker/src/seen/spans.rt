@@ -1,10 +1,8 @@
 //! The segments of modules at their placements.
 
-ghost use Rattle.std.specs.Prelude.{◌≡◌, ◌++◌, ◌<◌, ◌^◌, IfOk, OnOk, Some, length, map, slice_get};
+ghost use Rattle.std.specs.Prelude.{◌≡◌, ◌++◌, ◌<◌, ◌^◌, IfOk, OnOk, length, map};
 ghost use Rattle.omf_check.specs.Module.{recs_of};
-ghost use Rattle.omf_check.specs.Tables.{segments};
 ghost use Rattle.omf_layout.specs.Several.Portions.{name_at};
-ghost use Rattle.omf_layout.specs.Wants.{attributes};
 ghost use Rattle.omf_linking.specs.Segments.{address_in};
 ghost use Rattle.omf_placement.specs.Derive.{placed_modules};
 ghost use Rattle.omf_linker.specs.Seen.Lying.{lying, lyings, lyings_in, seen, sharing_of};
@@ -12,28 +10,21 @@ ghost use Rattle.omf_linker.specs.Seen.Lying.{lying, lyings, lyings_in, seen, sh
 use crate::seen::span::{Sharing, Span};
 use omf_check::{Checked, SegInfo};
 use omf_layout::Alignment;
-use omf_layout::wants::attributes_of;
 use omf_linking::space::Owner;
 use omf_placement::Placement;
-use omf_records::{Acbp, Combination};
 use std::alloc::{AllocError, Global};
 
-/// Returns with which segments a segment may share addresses.
-fn sharing_of(segment: SegInfo, attribute: Acbp) -> Sharing
+/// Returns with which segments a segment may share addresses. It is common if the combination, bits 4 to 2 of the attribute byte, is 6.
+fn sharing_of(segment: SegInfo, attribute: u8) -> Sharing
     ensures { result ≡ sharing_of segment.absolute attribute }
 {
     if segment.absolute.is_some() {
         return Sharing::Absolute;
     }
-    match attribute.combination() {
-        Combination::Common => Sharing::Common,
-        Combination::Private
-        | Combination::Reserved1
-        | Combination::Public
-        | Combination::Reserved3
-        | Combination::Public4
-        | Combination::Stack
-        | Combination::Public7 => Sharing::Alone,
+    if attribute / 4 % 8 == 6 {
+        Sharing::Common
+    } else {
+        Sharing::Alone
     }
 }
 
@@ -57,21 +48,13 @@ fn address_of(placement: &Placement, index: u16) -> u32
     }
 }
 
-/// Returns the attribute at a position.
-fn attribute_at(each: &[Acbp], before: u16) -> Acbp
-    requires { before < length each.now }
-    ensures { slice_get each.now before ≡ Some result }
-{
-    each[usize::from(before)]
-}
-
 /// Returns a segment of a module at its place.
 fn span_of<'a>(
     module: &'a Checked,
     placement: &Placement,
     owner: Owner,
     segment: SegInfo,
-    attribute: Acbp,
+    attribute: u8,
 ) -> Span<'a>
     ensures { seen result ≡ lying owner.«module» (recs_of «module».entry.now.bytes, placement.now) (owner.segment, (segment, attribute)) }
 {
@@ -87,16 +70,13 @@ fn span_of<'a>(
     }
 }
 
-/// Adds the segments of a module with these attributes.
+/// Adds the segments of a module.
 fn add_spans<'a>(
     spans: &mut Vec<Span<'a>>,
     module: &'a Checked,
     placement: &Placement,
     number: u32,
-    each: &[Acbp],
 ) -> Result<(), AllocError>
-    requires all { each.now ≡ attributes (recs_of «module».now.bytes) }
-    requires as_many { length each.now ≡ length (segments (recs_of «module».now.bytes)) }
     ensures { OnOk result (map seen spans.new.items ≡ map seen spans.old.items ++ lyings_in (number, (recs_of «module».entry.now.bytes, placement.now))) }
 {
     for before in 0..module.segments() {
@@ -104,7 +84,9 @@ fn add_spans<'a>(
         let Some(segment) = module.segment(index) else {
             unreachable!()
         };
-        let attribute = attribute_at(each, before);
+        let Some(attribute) = module.attribute(index) else {
+            unreachable!()
+        };
         let owner = Owner {
             module: number,
             segment: index,
@@ -130,8 +112,7 @@ pub fn spans_of<'a>(
 {
     let mut spans = Vec::new(alloc);
     for (j, module) in modules.iter().enumerate() {
-        let each = attributes_of(alloc, module)?;
-        add_spans(&mut spans, module, &placements[j], j as u32, &each)?;
+        add_spans(&mut spans, module, &placements[j], j as u32)?;
     }
     Ok(spans)
 }

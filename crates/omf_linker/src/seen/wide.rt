@@ -1,18 +1,16 @@
 //! Groups with a member too far from their frame.
 
-ghost use Rattle.std.specs.Prelude.{◌≡◌, ◌<◌, ◌^◌, IfOk, length, option_and_then};
+ghost use Rattle.std.specs.Prelude.{◌≡◌, ◌<◌, ◌^◌, length, option_and_then};
 ghost use Rattle.omf_check.specs.Module.{recs_of};
 ghost use Rattle.omf_check.specs.Tables.{entry, groups};
 ghost use Rattle.omf_placement.specs.Derive.{placed_modules};
 ghost use Rattle.omf_records.specs.Inner.Seen.{contents_seen};
-ghost use Rattle.omf_layout.specs.Wants.{attributes};
 ghost use Rattle.omf_linker.specs.Seen.Wide.{first_wide, wide, wide_if, wide_in, wide_in_group, wide_in_members, wide_in_module};
 
-use omf_check::{Checked, SegInfo, entry_of};
-use omf_layout::wants::attributes_of;
+use crate::suiting::is_use32;
+use omf_check::{Checked, SegInfo};
 use omf_placement::{Frame, Placed, Placement};
-use omf_records::{Acbp, Items, Member, Rec};
-use std::alloc::{AllocError, Global};
+use omf_records::{Items, Member, Rec};
 
 /// The greatest length of a 16-bit segment, and the distance from a group's frame to the end of its addresses.
 const FRAME: u64 = 65_536;
@@ -41,8 +39,6 @@ struct Part<'a> {
     module: &'a Checked,
     /// Its placement.
     placement: &'a Placement,
-    /// The attributes of its segments.
-    attributes: &'a [Acbp],
 }
 
 /// Returns a member at its place, if it ends too far from the frame of its group.
@@ -51,13 +47,13 @@ pub(crate) fn wide_if(
     frame: Frame,
     place: Placed,
     segment: SegInfo,
-    attribute: Acbp,
+    attribute: u8,
 ) -> Option<FarMember>
     ensures { result ≡ wide_if found.«module» found.group found.segment frame place segment attribute }
 {
     let end = u128::from(place.address) + u128::from(segment.length);
     let is_long = segment.length > 0 && u128::from(frame.base) + u128::from(FRAME) < end;
-    if !is_long || attribute.is_use32() {
+    if !is_long || is_use32(attribute) {
         return None;
     }
     Some(FarMember {
@@ -69,13 +65,12 @@ pub(crate) fn wide_if(
 
 /// Returns a member of a group, if it ends too far from the group's frame.
 fn wide(part: &Part<'_>, group: u16, segment: u16) -> Option<FarMember>
-    requires { part.now.attributes.now ≡ attributes (recs_of part.now.«module».now.bytes) }
     ensures { result ≡ wide part.now.number (recs_of part.now.«module».now.bytes, part.now.placement.now) group segment }
 {
     let frame = part.placement.group(usize::from(group))?;
     let place = part.placement.segment(usize::from(segment))?;
     let info = part.module.segment(segment)?;
-    let attribute = entry_of(part.attributes, usize::from(segment))?;
+    let attribute = part.module.attribute(segment)?;
     let found = FarMember {
         module: part.number,
         group,
@@ -95,7 +90,6 @@ fn segment_of(member: &Member<'_>) -> u16
 
 /// Returns the first of some members of a group that ends too far from the group's frame.
 fn in_members(part: &Part<'_>, group: u16, members: Items<Member<'_>>) -> Option<FarMember>
-    requires { part.now.attributes.now ≡ attributes (recs_of part.now.«module».now.bytes) }
     ensures { result ≡ wide_in_members part.now.number (recs_of part.now.«module».now.bytes, part.now.placement.now) group members.entry }
 {
     for member in members {
@@ -108,33 +102,16 @@ fn in_members(part: &Part<'_>, group: u16, members: Items<Member<'_>>) -> Option
 
 /// Returns the first such member of a record, if that is a GRPDEF.
 fn in_record(part: &Part<'_>, group: u16, rec: &Rec<'_>) -> Option<FarMember>
-    requires { part.now.attributes.now ≡ attributes (recs_of part.now.«module».now.bytes) }
     ensures { result ≡ wide_in part.now.number (recs_of part.now.«module».now.bytes, part.now.placement.now) group (contents_seen rec.now) }
 {
-    match rec {
-        Rec::Group { members, .. } => in_members(part, group, members.iter()),
-        Rec::Header { .. }
-        | Rec::Comment { .. }
-        | Rec::Names(_)
-        | Rec::Segment { .. }
-        | Rec::Externs(_)
-        | Rec::Publics { .. }
-        | Rec::Communals(_)
-        | Rec::Plain { .. }
-        | Rec::Iterated { .. }
-        | Rec::Fixups { .. }
-        | Rec::ModEnd { .. }
-        | Rec::LocalNames(_)
-        | Rec::LocalExterns { .. }
-        | Rec::LocalPublics { .. }
-        | Rec::LocalCommunals(_)
-        | Rec::Carried { .. } => None,
-    }
+    let Rec::Group { members, .. } = rec else {
+        return None;
+    };
+    in_members(part, group, members.iter())
 }
 
 /// Returns the first such member of a group.
 fn in_group(part: &Part<'_>, group: u16) -> Option<FarMember>
-    requires { part.now.attributes.now ≡ attributes (recs_of part.now.«module».now.bytes) }
     ensures { result ≡ option_and_then (λ g. wide_in_group part.now.number (recs_of part.now.«module».now.bytes, part.now.placement.now) (group, g)) (entry (groups (recs_of part.now.«module».now.bytes)) group) }
 {
     let rec = part.module.group(group)?;
@@ -143,7 +120,6 @@ fn in_group(part: &Part<'_>, group: u16) -> Option<FarMember>
 
 /// Returns the first such member of the groups of a module.
 fn in_module(part: &Part<'_>) -> Option<FarMember>
-    requires { part.now.attributes.now ≡ attributes (recs_of part.now.«module».now.bytes) }
     ensures { result ≡ wide_in_module part.now.number (recs_of part.now.«module».now.bytes, part.now.placement.now) }
 {
     for before in 0..part.module.groups() {
@@ -156,30 +132,20 @@ fn in_module(part: &Part<'_>) -> Option<FarMember>
 
 /// Returns the first 16-bit member of a group that ends more than 65536 bytes after the base of the group's frame, in the order of the
 /// modules, of their groups, and of the members in the GRPDEF. No 16-bit offset reaches its end.
-///
-/// # Errors
-///
-/// `AllocError` if memory runs out.
-pub fn first_wide(
-    alloc: Global,
-    modules: &[Checked],
-    placements: &[Placement],
-) -> Result<Option<FarMember>, AllocError>
+pub fn first_wide(modules: &[Checked], placements: &[Placement]) -> Option<FarMember>
     requires few { length modules.now < 2 ^ 32 }
     requires placed { length placements.now ≡ length modules.now }
-    ensures { IfOk result (λ found. found ≡ first_wide (placed_modules modules.now placements.now)) }
+    ensures { result ≡ first_wide (placed_modules modules.now placements.now) }
 {
     for (j, module) in modules.iter().enumerate() {
-        let attributes = attributes_of(alloc, module)?;
         let part = Part {
             number: j as u32,
             module,
             placement: &placements[j],
-            attributes: &attributes,
         };
         if let Some(found) = in_module(&part) {
-            return Ok(Some(found));
+            return Some(found);
         }
     }
-    Ok(None)
+    None
 }

@@ -1,13 +1,16 @@
 use Rattle.std.proofs.Common.{◌≡◌, ◌+◌, ◌∙◌, ap, sym, arith}
-use Rattle.std.specs.Prelude.{slice_get}
 use Rattle.omf_check.specs.Module.{records_in}
-use Rattle.omf_check.specs.Tables.{segments}
+use Rattle.omf_check.specs.Tables.{attributes, segments}
 use Rattle.omf_check.specs.WellFormed.{recs}
-use Rattle.omf_layout.proofs.TableLaws.{entry-at}
-use Rattle.omf_layout.specs.Wants.{attributes}
+use Rattle.omf_layout.proofs.TableLaws.{attribute-there, entry-at}
 use Rattle.omf_layout.specs.Several.Portions.{classed, name_at, portion, with_names}
 use Rattle.omf_layout.proofs.SeveralLaws.PortionLaws.{next-numbered, none-numbered, more-mapped, all-mapped}
 use Rattle.omf_layout.proofs.several.portion.add_portions.Goals as goal
+
+pub unreachable-requires-in_default-attribute : goal.unreachable-requires-in_default-attribute
+unreachable-requires-in_default-attribute c =
+    let m = recs (records_in c.args.«module».now.bytes) in
+    attribute-there m (c.loop-before.before + 1) (omega arith) (omega (arith, c.loop-before-test.true, c.loop-before.invariant.end)) (sym c.attribute.ensures ∙ c.in_default-attribute.is)
 
 pub loop-before-preserved : goal.loop-before-preserved
 loop-before-preserved c =
@@ -15,8 +18,8 @@ loop-before-preserved c =
     let j = c.loop-before.before in
     let k = c.args.number in
     let s = c.in-Some.segment in
-    let a = c.attribute_at.result in
-    let next = next-numbered 1 (segments m) (attributes m) j s a (sym (entry-at (segments m) j) ∙ sym c.segment.ensures ∙ c.in-Some.is) (ap (λ xs. slice_get xs j) (sym c.requires.all) ∙ c.attribute_at.ensures) in
+    let a = c.in-Some-attribute.attribute in
+    let next = next-numbered 1 (segments m) (attributes m) j s a (sym (entry-at (segments m) j) ∙ sym c.segment.ensures ∙ c.in-Some.is) (sym (entry-at (attributes m) j) ∙ sym c.attribute.ensures ∙ c.in-Some-attribute.is) in
     let number : j + 1 ≡ 1 + j = omega arith in
     let same =
     ap (λ n. (n, (c.name_at-name.result.now, c.portion_of-portion.result))) c.name_at-class.ensures ∙ ap (λ n. (name_at m s.class, (n, c.portion_of-portion.result))) c.name_at-name.ensures

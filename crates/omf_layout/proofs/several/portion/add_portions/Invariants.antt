@@ -2,9 +2,8 @@ use Rattle.std.proofs.Common.{◌≡◌, ◌++◌, drop, length}
 use Rattle.std.specs.Prelude.{map}
 use Rattle.std.specs.List.{zip, enumerate_from}
 use Rattle.omf_check.specs.Module.{records_in}
-use Rattle.omf_check.specs.Tables.{segments}
+use Rattle.omf_check.specs.Tables.{attributes, segments}
 use Rattle.omf_check.specs.WellFormed.{recs}
-use Rattle.omf_layout.specs.Wants.{attributes}
 use Rattle.omf_layout.specs.Several.Portions.{classed, portions_in, with_names}
 use Rattle.omf_layout.proofs.several.portion.add_portions.Given as goal
 

@@ -1,7 +1,6 @@
 use Rattle.std.proofs.Common.{◌++◌, ap, ◌∙◌, string_bytes, false}
 use Rattle.std.specs.Prelude.{flat_map}
 use Rattle.omf_check.specs.Module.{records_in}
-use Rattle.omf_records.specs.Inner.Seen.{contents_seen, kind_seen}
 use Rattle.omf_linker.specs.Map.Addresses.{publics_asked}
 use Rattle.omf_linker.specs.Map.MapText.{public_line}
 use Rattle.omf_linker.proofs.MapLaws.{lines-more, listed_publics, listed-publics, part_more, no_part_left}
@@ -10,14 +9,14 @@ use Rattle.omf_linker.proofs.map.listing.print_publics.Goals as goal
 pub loop-rec-init : goal.loop-rec-init
 loop-rec-init c =
     let segments = c.args.addresses.now.segments in
-    let listed = c.into_iter-rec-iterator.ensures.into_iter_gives ∙ c.records-rec-items.ensures.listed in
+    let listed = c.into_iter-rec-iterator.ensures.into_iter_gives ∙ c.undecoded-rec-items.ensures.listed in
     ap (λ xs. string_bytes c.args.text.now ++ flat_map (public_line c.args.number) xs) (ap (listed_publics false segments) listed ∙ listed-publics false segments 0 0 (records_in c.args.«module».now.bytes))
 
 pub loop-rec-preserved : goal.loop-rec-preserved
 loop-rec-preserved c =
     let segments = c.args.addresses.now.segments in
     let line = public_line c.args.number in
-    let here = publics_asked false segments (kind_seen c.in-Some.rec) (contents_seen c.in-Some.rec) in
+    let here = publics_asked false segments c.in-Some.rec.kind c.in-Some.rec.contents in
     part_more _ _ (flat_map line here) _ _ _ c.in_ok-print_record.ensures
     (lines-more line false segments c.loop-rec.rec-iterator _ _ c.in-Some.ensures.steps) c.loop-rec.invariant
 

@@ -10,17 +10,12 @@ use Rattle.omf_linker.proofs.FitLaws.{layouts-fit}
 use Rattle.omf_linker.proofs.PlaceRuns.{not-laid}
 use Rattle.omf_linker.proofs.place.running.placed_text.Goals as goal
 
-pub returns-in_err-options : goal.returns-in_err-options
-returns-in_err-options c =
-    let e = err_from_is_err_and c.from_residual.result c.from_residual.ensures.1 in
-    rw (e.1, e.2) tt
-
 pub returns-in_err-layout : goal.returns-in_err-layout
 returns-in_err-layout c =
-    let e = err_from_is_err_and c.from_residual-in_err-layout.result c.from_residual-in_err-layout.ensures.1 in
+    let e = err_from_is_err_and c.from_residual.result c.from_residual.ensures.1 in
     let m = recs (records_in c.args.«module».now.bytes) in
     let f = c.in_err-layout.field-0.0 in
-    rw (e.1, e.2) (subst (λ (o : Options). IsDrafted o m (Err (of_layout f))) c.in_ok-options.ensures (not-laid c.in_ok-options.options m f c.in_err-layout.ensures))
+    rw (e.1, e.2) (subst (λ (o : Options). IsDrafted o m (Err (of_layout f))) c.module_options-options.ensures (not-laid c.module_options-options.result m f c.in_err-layout.ensures))
 
 pub returns-in_err-text : goal.returns-in_err-text
 returns-in_err-text c =
@@ -30,10 +25,10 @@ returns-in_err-text c =
 pub returns : goal.returns
 returns c =
     let m = recs (records_in c.args.«module».now.bytes) in
-    subst (λ (o : Options). IsDraft o m (string_bytes c.in_ok-text.text)) c.in_ok-options.ensures (record {
+    subst (λ (o : Options). IsDraft o m (string_bytes c.in_ok-text.text)) c.module_options-options.ensures (record {
       layout = c.in_ok-layout.layout;
       laid = c.in_ok-layout.ensures;
       text_is = c.in_ok-text.ensures.text;
       read = c.in_ok-text.ensures.read;
-      fits = layouts-fit c.in_ok-options.options m c.in_ok-layout.layout c.in_ok-layout.ensures;
+      fits = layouts-fit c.module_options-options.result m c.in_ok-layout.layout c.in_ok-layout.ensures;
     })

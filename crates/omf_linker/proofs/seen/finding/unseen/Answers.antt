@@ -17,5 +17,5 @@ returns c = record {
       ∙ ap₂ (λ (xs : List Finding) (g : Option Finding). xs ++ option_to_list g)
       (ap₂ (λ (a b : Option Finding). option_to_list a ++ option_to_list b) c.overlap_of.ensures
       (c.align_of.ensures ∙ ap (option_map align_of) (c.first_misaligned-misaligned.ensures ∙ ap (find is_misaligned) c.deref.ensures.value)))
-      (c.group_of.ensures ∙ ap (option_map Group) c.in_ok-wide.ensures);
+      (c.group_of.ensures ∙ ap (option_map Group) c.first_wide-wide.ensures);
 }

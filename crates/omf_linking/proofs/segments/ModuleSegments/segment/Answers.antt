@@ -6,8 +6,9 @@ use Rattle.omf_check.specs.Tables.{segments}
 use Rattle.omf_check.specs.WellFormed.{recs}
 use Rattle.omf_placement.specs.Derive.{placed_modules}
 use Rattle.omf_records.specs.Values.{Rec}
+use Rattle.omf_layout.proofs.TableLaws.{entry-at}
 use Rattle.omf_linking.specs.Space.Segments.{segment_at}
-use Rattle.omf_linking.specs.Segments.{ModuleBytes, all_segments, image_bytes, module_segment, module_segments, with_images}
+use Rattle.omf_linking.specs.Segments.{ModuleBytes, all_segments, commons, image_bytes, module_segment, module_segments, with_images}
 use Rattle.omf_linking.proofs.SegmentsLaws.{next_module, next_of, no_module, segment_here, segment_later, some_left, placed_same}
 use Rattle.omf_linking.proofs.segments.ModuleSegments.segment.Goals as goal
 
@@ -22,7 +23,7 @@ returns-then-left-count c =
     let next = next_module s.modules.now s.placements.now s.relocated.now j m pl r c.module-item.is c.index-self-j.is c.index-self-j-then-left-count.is c.loop-j-test.true c.requires.holds.1 c.requires.holds.2 in
     let here : slice_get (all_segments ms) c.args.n ≡ Some (module_segment j pl (image_bytes r) (c.loop-j.left + 1, c.common_at-common.result)) =
     segment_here ms j ((recs (records_in m.bytes), pl), image_bytes r) next c.loop-j.left c.from-count.result c.common_at-common.result (slice_get (all_segments ms) c.args.n)
-    (c.from-count.ensures ∙ c.segments.ensures.count) c.if-left-count.true c.common_at-common.ensures c.loop-j.invariant
+    (c.from-count.ensures ∙ c.segments.ensures.count) c.if-left-count.true (sym (entry-at (commons (recs (records_in m.bytes))) c.loop-j.left) ∙ c.common_at-common.ensures) c.loop-j.invariant
     in
     let placed : segment_at c.placed_segment.result ≡ module_segment j pl (image_bytes r) (c.loop-j.left + 1, c.common_at-common.result) = placed_same s.placements.now s.relocated.now j pl r _ _ c.index-self-j.is c.index-self-j-then-left-count.is c.placed_segment.ensures in
     here ∙ ap Some (sym placed)

@@ -1,6 +1,5 @@
 use Rattle.std.proofs.Common.{◌∙◌, ap}
 use Rattle.omf_check.specs.Module.{records_in}
-use Rattle.omf_records.specs.Inner.Seen.{contents_seen, kind_seen}
 use Rattle.omf_linker.specs.Inner.PublicAddresses.{IsTable}
 use Rattle.omf_linker.specs.Map.Addresses.{publics_asked}
 use Rattle.omf_placement.proofs.Filling.{fill-start, fill-more, fill-end}
@@ -12,13 +11,13 @@ loop-rec-init c =
     let segments = c.args.segments.now in
     let local = c.args.local in
     fill-start IsTable c.args.self.now.by_name _ _
-    (ap (listed_publics local segments) (c.into_iter-rec-iterator.ensures.into_iter_gives ∙ c.records-rec-items.ensures.listed) ∙ listed-publics local segments 0 0 (records_in c.args.«module».now.bytes))
+    (ap (listed_publics local segments) (c.into_iter-rec-iterator.ensures.into_iter_gives ∙ c.undecoded-rec-items.ensures.listed) ∙ listed-publics local segments 0 0 (records_in c.args.«module».now.bytes))
 
 pub loop-rec-preserved : goal.loop-rec-preserved
 loop-rec-preserved c =
     let segments = c.args.segments.now in
     let local = c.args.local in
-    fill-more IsTable c.args.self.now.by_name c.loop-rec.self.by_name c.add_record.new.self.by_name (publics_asked local segments (kind_seen c.in-Some.rec) (contents_seen c.in-Some.rec)) (listed_publics local segments c.loop-rec.rec-iterator) _ _
+    fill-more IsTable c.args.self.now.by_name c.loop-rec.self.by_name c.add_record.new.self.by_name (publics_asked local segments c.in-Some.rec.kind c.in-Some.rec.contents) (listed_publics local segments c.loop-rec.rec-iterator) _ _
     (ap (listed_publics local segments) c.in-Some.ensures.steps) c.in_ok-add_record.ensures c.loop-rec.invariant
 
 pub returns : goal.returns

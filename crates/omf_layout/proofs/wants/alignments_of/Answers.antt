@@ -1,0 +1,42 @@
+use Rattle.std.proofs.Common.{◌+◌, ◌++◌, ◌∷◌, [], ◌∙◌, ap, sym, arith, length, map}
+use Rattle.omf_check.specs.Module.{records_in}
+use Rattle.omf_check.specs.Tables.{attributes}
+use Rattle.omf_check.specs.WellFormed.{recs}
+use Rattle.omf_records.specs.Values.{alignment}
+use Rattle.omf_layout.specs.Wants.{alignment_named, alignments}
+use Rattle.omf_layout.proofs.Gathered.{more-given, all-given}
+use Rattle.std.proofs.lemmas.List.{drop_all}
+use Rattle.omf_layout.proofs.SeveralLaws.LowLaws.{next-at}
+use Rattle.omf_layout.proofs.TableLaws.{attribute-there, entry-at, length-alignments, length-attributes}
+use Rattle.omf_layout.proofs.wants.alignments_of.Goals as goal
+
+pub unreachable-requires : goal.unreachable-requires
+unreachable-requires c =
+    let m = recs (records_in c.args.«module».now.bytes) in
+    attribute-there m (c.loop-before.before + 1) (omega arith) (omega (arith, c.loop-before-test.true, c.loop-before.invariant.end)) (sym c.attribute.ensures ∙ c.in_default.is)
+
+pub loop-before-preserved : goal.loop-before-preserved
+loop-before-preserved c =
+    let m = recs (records_in c.args.«module».now.bytes) in
+    let j = c.loop-before.before in
+    let xs = c.loop-before.alignments.items in
+    let a = c.in-Some.attribute in
+    let next = next-at (attributes m) j a (sym (entry-at (attributes m) j) ∙ sym c.attribute.ensures ∙ c.in-Some.is) in
+    record {
+      added = more-given xs c.push.new.self.items (alignment_named (alignment a) ∷ []) _ _ _
+          (c.in_ok-push.ensures.items ∙ ap (λ x. xs ++ x ∷ []) c.named_by.ensures) (ap (map (λ a. alignment_named (alignment a))) next) c.loop-before.invariant.added;
+      end = c.loop-before.invariant.end;
+    }
+
+pub returns-clause-all : goal.returns-clause-all
+returns-clause-all c =
+    let m = recs (records_in c.args.«module».now.bytes) in
+    all-given _ _ _
+    (ap (map (λ a. alignment_named (alignment a))) (drop_all c.loop-before.before (attributes m) (omega (arith, c.loop-before-test.false, c.segments-before-end.ensures.count, length-attributes m)))) c.loop-before.invariant.added
+
+pub returns-clause-each : goal.returns-clause-each
+returns-clause-each c =
+    let m = recs (records_in c.args.«module».now.bytes) in
+    ap length (all-given c.loop-before.alignments.items _ (alignments m)
+    (ap (map (λ a. alignment_named (alignment a))) (drop_all c.loop-before.before (attributes m) (omega (arith, c.loop-before-test.false, c.segments-before-end.ensures.count, length-attributes m)))) c.loop-before.invariant.added)
+    ∙ length-alignments m
