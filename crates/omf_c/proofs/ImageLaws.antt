@@ -34,7 +34,7 @@ next_segment before count low =
     let left : count - before ≡ suc (count - (before + 1)) = omega arith in
     ap (range_with_len (before + 1)) left
 
--- what is shown of an image is what is shown of other pieces that lay the same bytes
+-- what is shown of an image is what is shown of other pieces that give the same bytes
 pub overlay_shown : (pieces laid : List Laid) (segments : ℕ) → ((s x : ℕ) → byte_at laid s x ≡ byte_at pieces s x) → shown_of segments (byte_at laid) (runs_of laid) ≡ shown_of segments (byte_at pieces) (runs_of pieces)
 overlay_shown pieces laid segments same =
     let bytes : (s : ℕ) → byte_at laid s ≡ byte_at pieces s = λ s. fun_ext (λ x. same s x) in
