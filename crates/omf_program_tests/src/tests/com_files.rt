@@ -34,7 +34,7 @@ const FULL_STACK: &str =
 const APART: &str =
     "80030001413B 960600000154015300 98070028050102010100 98070068010003010100 A00900010001BA0000CD2000 9C0500C401540200 A0050002000024008A0700C1000101000100";
 
-/// The same with a displacement of `mov dx, m - $`: self-relative, from any frame.
+/// The same with `call m`.
 const NEAR: &str =
     "80030001413B 960600000154015300 98070028050102010100 98070068010003010100 A00900010001E80000CD2000 9C05008401540200 A0050002000024008A0700C1000101000100";
 
@@ -102,11 +102,10 @@ static CASES: [Case; 13] = [
         program: "",
         line: "file \"apart.obj\" module 1 segment \"T\" offset 00000101: counts from another frame: a .COM file has one segment, put code and data in one group\n",
     },
-    // From 103H to 110H, where S is.
     Case {
         files: &[("near.obj", NEAR)],
-        program: "E80D00CD20000000000000000000000024",
-        line: "",
+        program: "",
+        line: "near: file \"near.obj\" module 1 segment \"T\" offset 00000101: its target is in another frame\n",
     },
     // Only the second member takes part: its byte is at 103H, right after the call.
     Case {
