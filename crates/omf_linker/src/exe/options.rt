@@ -64,6 +64,13 @@ fn put_once<T: Copy>(slot: &mut Option<T>, value: Option<T>) -> bool {
     slot.is_some()
 }
 
+/// Allows what is not allowed yet. Returns false if it is.
+fn allow_once(is_allowed: &mut bool) -> bool {
+    let is_new = !*is_allowed;
+    *is_allowed = true;
+    is_new
+}
+
 impl<'a> ExeOptions<'a> {
     /// The options of a call without any.
     pub fn new(alloc: Global) -> ExeOptions<'a> {
@@ -82,15 +89,12 @@ impl<'a> ExeOptions<'a> {
 
     /// Allows what a value names. Returns false if that is none of what a program may do, or if it is allowed already.
     fn allow(&mut self, kind: &str) -> bool {
-        let slot = match kind {
-            "twice" => &mut self.allows_twice,
-            "group" => &mut self.allows_long,
-            "near" => &mut self.allows_near,
-            _ => return false,
-        };
-        let is_new = !*slot;
-        *slot = true;
-        is_new
+        match kind {
+            "twice" => allow_once(&mut self.allows_twice),
+            "group" => allow_once(&mut self.allows_long),
+            "near" => allow_once(&mut self.allows_near),
+            _ => false,
+        }
     }
 
     /// Takes an option without a value. Returns false if it is none.
