@@ -1,5 +1,5 @@
 -- The modules that a linker adds to those of a program (this profile's rule).
-use Rattle.std.specs.Prelude.{◌≡◌, ⊤, ⊥, ℕ, List, Bool, true, false, Option, Some, None, Ok, if◌then◌else◌}
+use Rattle.std.specs.Prelude.{◌≡◌, ⊤, ℕ, List, Bool, true, false, Option, Some, None, Ok}
 use Rattle.omf_check.specs.Checking.{Decides}
 use Rattle.omf_check.specs.Module.{Module, typed_modules}
 use Rattle.omf_layout.specs.Own.Order.{ask_dos_order}
@@ -23,10 +23,15 @@ wants_dos (Some Dos) ms = true
 wants_dos (Some Input) ms = false
 wants_dos None ms = ask_dos_order (typed_modules ms)
 
+-- Modules, and if they are laid in DOS order, before them the module of that order.
+abbrev pub AreOrderedIf : Bool → List Module → List Module → Type 0
+AreOrderedIf true ms all = AreOrdered ms all
+AreOrderedIf false ms all = all ≡ ms
+
 -- Modules with those that are added: after them that of their communals and that of the stack; before all that of DOS order, if it is wanted.
 pub record AreAdded (stack : Option ℕ) (order : Option Order) (ms all : List Module) : Type 0 where
   pub shared : List Module
   pub communals : AreShared ms shared
   pub added : Option Module
   pub stacked : IsStackOf stack added
-  pub ordered : if wants_dos order (with_added shared added) then AreOrdered (with_added shared added) all else (all ≡ with_added shared added)
+  pub ordered : AreOrderedIf (wants_dos order (with_added shared added)) (with_added shared added) all

@@ -1,6 +1,6 @@
 //! The modules of a program, and what is made of them: its file and its map.
 
-ghost use Rattle.std.specs.Prelude.{⊥, ◌≡◌, ◌++◌, ℕ, IfOk, List, None, false, string_bytes};
+ghost use Rattle.std.specs.Prelude.{◌≡◌, ◌++◌, ℕ, IfOk, List, None, false, string_bytes};
 ghost use Rattle.omf_linking.specs.File.{InputFile as FileModel};
 ghost use Rattle.std.specs.List.{AllZip};
 ghost use Rattle.omf_check.specs.Module.{Module};

@@ -1,8 +1,9 @@
-use Rattle.std.proofs.Common.{◌≡◌, ◌∙◌, ap, subst}
+use Rattle.std.proofs.Common.{◌≡◌, ◌∙◌, ap, subst, sym}
 use Rattle.std.specs.Prelude.{Some, Ok}
 use Rattle.omf_check.specs.Checking.{Decides}
 use Rattle.omf_layout.specs.Own.Stack.{stack_records}
 use Rattle.omf_layout.specs.Own.Written.{written}
+use Rattle.omf_linker.specs.Exe.Adding.{IsStackOf}
 use Rattle.omf_linker.specs.Exe.Sharing.{any_profile}
 use Rattle.omf_linker.proofs.exe.added.stack_of.Goals as goal
 
@@ -10,5 +11,6 @@ pub returns-in-Ok : goal.returns-in-Ok
 returns-in-Ok c =
     let bytes = c.in_ok-bytes.bytes.items in
     let given = ap (λ d. d.bytes) c.new.ensures ∙ ap Some c.deref.ensures.value in
-    subst (λ bs. Decides any_profile bs (Ok c.in-Ok.module)) (c.in_ok-bytes.ensures ∙ ap (λ n. written (stack_records n)) c.from.ensures)
-    (subst (λ p. Decides p bytes (Ok c.in-Ok.module)) c.any_profile.ensures (c.in-Ok.ensures.verdict bytes given))
+    let checked = subst (λ p. Decides p bytes (Ok c.in-Ok.module)) c.any_profile.ensures (c.in-Ok.ensures.verdict bytes given) in
+    let own = subst (λ bs. Decides any_profile bs (Ok c.in-Ok.module)) (c.in_ok-bytes.ensures ∙ ap (λ n. written (stack_records n)) c.from.ensures) checked in
+    subst (λ o. IsStackOf o (Some c.in-Ok.module)) (sym c.in-Some.is) own

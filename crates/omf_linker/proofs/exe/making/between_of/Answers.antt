@@ -4,8 +4,8 @@ use Rattle.omf_output.specs.Stacks.{first_between}
 use Rattle.omf_linker.proofs.ExeLaws.{laid-many}
 use Rattle.omf_linker.proofs.exe.making.between_of.Goals as goal
 
-pub first_between-requires-placed : goal.first_between-requires-placed
-first_between-requires-placed c = ap length c.deref.ensures.value ∙ laid-many c.args.modules.now c.in_ok-places.places.items c.in_ok-places.ensures.laid
+pub first_between-requires-clause-placed : goal.first_between-requires-clause-placed
+first_between-requires-clause-placed c = ap length c.deref.ensures.value ∙ laid-many c.args.modules.now c.in_ok-places.places.items c.in_ok-places.ensures.laid
 
 pub returns-in-Ok-clause-found : goal.returns-in-Ok-clause-found
 returns-in-Ok-clause-found c = record {

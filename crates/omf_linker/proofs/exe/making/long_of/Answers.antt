@@ -4,8 +4,8 @@ use Rattle.omf_linker.specs.Seen.Long.{first_long}
 use Rattle.omf_linker.proofs.ExeLaws.{laid-many}
 use Rattle.omf_linker.proofs.exe.making.long_of.Goals as goal
 
-pub first_long-requires-placed : goal.first_long-requires-placed
-first_long-requires-placed c = ap length c.deref.ensures.value ∙ laid-many c.args.modules.now c.in_ok-places.places.items c.in_ok-places.ensures.laid
+pub first_long-requires-clause-placed : goal.first_long-requires-clause-placed
+first_long-requires-clause-placed c = ap length c.deref.ensures.value ∙ laid-many c.args.modules.now c.in_ok-places.places.items c.in_ok-places.ensures.laid
 
 pub returns-clause-found : goal.returns-clause-found
 returns-clause-found c = record {

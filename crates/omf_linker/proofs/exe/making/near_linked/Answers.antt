@@ -4,8 +4,8 @@ use Rattle.omf_linker.specs.Exe.Program.{weak_of}
 use Rattle.omf_linker.proofs.ExeLaws.{laid-many, placements-many}
 use Rattle.omf_linker.proofs.exe.making.near_linked.Goals as goal
 
-pub first_near-requires-placed : goal.first_near-requires-placed
-first_near-requires-placed c =
+pub first_near-requires-clause-placed : goal.first_near-requires-clause-placed
+first_near-requires-clause-placed c =
     let ms = c.args.modules.now in
     let pls = c.in_ok-places.places.items in
     ap length c.deref.ensures.value ∙ placements-many ms pls c.in-Ok.settled.placements.items (weak_of ms pls) (laid-many ms pls c.in_ok-places.ensures.laid) c.in-Ok.ensures.derived
