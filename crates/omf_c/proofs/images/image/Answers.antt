@@ -1,7 +1,8 @@
+use Rattle.std.proofs.Common.{◌∙◌, ap}
 use Rattle.omf_c.specs.Images.{relocated}
 use Rattle.omf_c.specs.Runs.{Shown}
 use Rattle.omf_c.proofs.PlacedLaws.{made_from}
 use Rattle.omf_c.proofs.images.image.Goals as goal
 
 pub returns : goal.returns
-returns c = made_from relocated (λ x. x.0) c.args.profile c.args.bytes.now c.args.text.now _ _ c.in_ok-relocated.ensures c.in_ok-shown_of.ensures
+returns c = made_from relocated (λ x. x.0) c.args.profile c.args.bytes.now c.args.text.now _ _ c.in_ok-relocated.ensures (c.in_ok-shown_of.ensures ∙ ap (λ x. x.0) c.relocated.view_is)
