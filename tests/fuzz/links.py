@@ -1,6 +1,7 @@
 """omf-link exe and com: the file as DOS loads it against the modules relocated one by one, and a library against the members that it must give."""
 import os
 import re
+import struct
 import subprocess
 
 import executables
@@ -99,7 +100,10 @@ class Exe:
         """Some modules in a library: the members that are needed, as a second reader finds them, linked by name give the same file."""
         count = self.random.randrange(1, len(inputs))
         (folder / "rt.lib").write_bytes(as_library(inputs[count:]))
-        needed = members_needed(inputs[:count], inputs[count:])
+        try:
+            needed = members_needed(inputs[:count], inputs[count:])
+        except (struct.error, IndexError):  # a changed member with a record that is too short
+            return
         if needed is None or any(libraries.module_length(it) != len(it) for it in inputs[count:]):
             return
         status, line = self.exe("l.exe", [*names[:count], "rt.lib"], folder)
