@@ -52,8 +52,8 @@ impl Model for Additions {
 fn distance(size: u8, offset: u32, location: u32) -> u32
     ensures { result ≡ distance size offset location }
 {
-    let behind = (u64::from(location) + u64::from(size)) % (1 << 32);
-    ((u64::from(offset) + (1 << 32) - behind) % (1 << 32)) as u32
+    let after = (u64::from(location) + u64::from(size)) % (1 << 32);
+    ((u64::from(offset) + (1 << 32) - after) % (1 << 32)) as u32
 }
 
 impl Additions {
