@@ -21,8 +21,8 @@ extern "C" {
 
 /* The version of this header. omf_version() returns that of the library. Calls and fields are only added: a program that was compiled with
  * an older header runs with a newer library. */
-#define OMF_VERSION "0.4.0"
-#define OMF_VERSION_NUMBER 400 /* 10,000 for the first number, 100 for the second, 1 for the third */
+#define OMF_VERSION "1.0.0"
+#define OMF_VERSION_NUMBER 10000 /* 10,000 for the first number, 100 for the second, 1 for the third */
 
 uint32_t omf_version(void);
 

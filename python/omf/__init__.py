@@ -23,7 +23,7 @@ from functools import cached_property
 from itertools import accumulate
 from typing import Any, Iterable, List, NamedTuple, Optional, Tuple, Type, Union
 
-__version__ = "0.4.0"
+__version__ = "1.0.0"
 __all__ = [
     "Module", "Segment", "Group", "External", "Communal", "Public", "Fixup", "Method", "LOCATIONS", "Run", "Image", "Library", "Member",
     "link", "link_exe", "Error", "Refused", "NoLibrary", "NotLinked", "PlacementLine", "PlacementTooLong", "Unreachable", "reason_name",

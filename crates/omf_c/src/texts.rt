@@ -12,9 +12,9 @@ use std::alloc::Global;
 /// The version: 10,000 for the first number, 100 for the second, 1 for the third.
 #[unsafe(no_mangle)]
 pub extern "C" fn omf_version() -> u32
-    ensures { result ≡ 400 }
+    ensures { result ≡ 10000 }
 {
-    400
+    10_000
 }
 
 /// Hands out the name of the reason with a number, as in printed texts; empty if there is no such reason.

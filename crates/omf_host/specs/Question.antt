@@ -5,7 +5,7 @@ use Rattle.omf_host.specs.declared.question.Question.TheVariants as question
 
 -- The question that an argument is.
 abbrev pub question_of : List ℕ → Option Question
-question_of argument = if bytes_eq argument (codes "--help") then Some question.Usage else if bytes_eq argument (codes "--version") then Some question.Version else None
+question_of argument = if bytes_eq argument (codes "--help") then Some question.Usage else if bytes_eq argument (codes "-h") then Some question.Usage else if bytes_eq argument (codes "--version") then Some question.Version else None
 
 -- The question that is the only argument, if it is one.
 abbrev pub question_in : List (List ℕ) → Option Question
@@ -14,7 +14,7 @@ question_in _ = None
 
 -- The line of a version: the program's name and the version.
 abbrev pub version_line : List ℕ → List ℕ
-version_line name = name ++ (codes " 0.4.0" ++ 10 ∷ [])
+version_line name = name ++ (codes " 1.0.0" ++ 10 ∷ [])
 
 -- The answer: the usage, or the line of the version.
 abbrev pub answer_text : Question → List ℕ → List ℕ → List ℕ

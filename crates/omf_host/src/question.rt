@@ -10,12 +10,12 @@ use omf_frame::Sink;
 use std::alloc::{AllocError, Global};
 
 /// The end of the line of a version, which is that of the file VERSION.
-const VERSION: &str = " 0.4.0\n";
+const VERSION: &str = " 1.0.0\n";
 
 /// What the arguments ask about the program itself.
 #[derive(Clone, Copy)]
 pub enum Question {
-    /// `--help`: how it is called.
+    /// `--help` or `-h`: how it is called.
     Usage,
     /// `--version`.
     Version,
@@ -27,6 +27,7 @@ fn question_of(argument: &str) -> Option<Question>
 {
     match argument {
         "--help" => Some(Question::Usage),
+        "-h" => Some(Question::Usage),
         "--version" => Some(Question::Version),
         _ => None,
     }
