@@ -21,6 +21,7 @@ struct Addition {
 
 impl Addition {
     /// Adds the number to the bytes of the location at `position`.
+    #[inline(always)]
     fn add_to(self, bytes: &mut [u8], position: usize)
         requires { position + self.offset + part_size self.part ≤ length bytes.old }
         ensures { bytes.new ≡ add_part bytes.old (position + self.offset) (part_size self.part) self.value }
@@ -49,6 +50,7 @@ impl Model for Additions {
 }
 
 /// The distance from the byte after a location to an offset in the same frame, modulo 2^32. `size` is the location's size in bytes.
+#[inline(always)]
 fn distance(size: u8, offset: u32, location: u32) -> u32
     ensures { result ≡ distance size offset location }
 {
@@ -58,6 +60,7 @@ fn distance(size: u8, offset: u32, location: u32) -> u32
 
 impl Additions {
     /// One number at the start of the location.
+    #[inline(always)]
     fn one(part: Part, value: u64) -> Additions
         ensures { result ≡ addition 0 (part_size part) value ∷ [] }
     {
@@ -73,6 +76,7 @@ impl Additions {
     }
 
     /// A pointer: an offset at the start of the location, followed by a selector.
+    #[inline(always)]
     fn pointer(part: Part, value: u64, offset: usize, selector: u16) -> Additions
         ensures { result ≡ addition 0 (part_size part) value ∷ addition offset 2 selector ∷ [] }
     {
@@ -91,6 +95,7 @@ impl Additions {
     }
 
     /// The additions of a segment-relative fixup at a location of this type.
+    #[inline(always)]
     pub(crate) fn in_frame(kind: LocationType, offset: u32, selector: u16) -> Additions
         ensures { result ≡ additions (location_number kind) offset selector }
     {
@@ -111,6 +116,7 @@ impl Additions {
     }
 
     /// The additions of a self-relative fixup at a location of this type, from the offsets of its target and of its location.
+    #[inline(always)]
     pub(crate) fn from_location(kind: LocationType, offset: u32, location: u32) -> Additions
         ensures { result ≡ self_relative_additions (location_number kind) offset location }
     {
@@ -118,6 +124,7 @@ impl Additions {
     }
 
     /// Adds the numbers at a position, in order. Each wraps at the size of its part and carries nothing into the next one.
+    #[inline(always)]
     pub fn add_to(&self, bytes: &mut [u8], position: usize)
         requires { All (λ a. position + a.offset + a.size ≤ length bytes.old) self.now }
         ensures { bytes.new ≡ add_parts position self.now bytes.old }

@@ -34,6 +34,7 @@ impl Model for Offsets {
 
 /// The frame that a reference names, and the place of its target. `segment` is the segment of the last data record, whose frame F4 is. `None`
 /// if the placement has no entry for one of them.
+#[inline(always)]
 fn named(placement: &Placement, segment: u16, reference: &PlainReference) -> Option<(Frame, Placed)>
     ensures { result ≡ named placement.now segment reference.now }
 {
@@ -43,6 +44,7 @@ fn named(placement: &Placement, segment: u16, reference: &PlainReference) -> Opt
 }
 
 /// The width of the offset at a location of this type.
+#[inline(always)]
 fn offset_width(kind: LocationType) -> Width
     ensures { number_bits result ≡ offset_bits (location_number kind) }
 {
@@ -60,6 +62,7 @@ fn offset_width(kind: LocationType) -> Width
 }
 
 /// The width of the offsets of a self-relative fixup at a location of this type. A short jump is computed in 32 bits.
+#[inline(always)]
 fn reach_width(kind: LocationType) -> Width
     ensures { number_bits result ≡ self_relative_bits (location_number kind) }
 {
@@ -77,6 +80,7 @@ fn reach_width(kind: LocationType) -> Width
 }
 
 /// The difference `to - from`, if it is not negative and fits in this width.
+#[inline(always)]
 fn offset_between(from: u64, to: u64, width: Width) -> Option<u32>
     ensures { result ≡ in_bits (number_bits width) (difference to from) }
 {
@@ -89,6 +93,7 @@ fn offset_between(from: u64, to: u64, width: Width) -> Option<u32>
 
 /// The offsets of a target at this address in a frame with this base, one for each reading of the displacement: unsigned, and, if its top bit
 /// is set, signed.
+#[inline(always)]
 fn offsets_of(
     address: u32,
     displacement: u32,
@@ -117,6 +122,7 @@ fn offsets_of(
 
 /// Whether an offset is near enough to a location. A short jump reaches from 128 bytes before the byte after its location to 127
 /// bytes after that byte; the other types reach any offset.
+#[inline(always)]
 fn is_near(kind: LocationType, location: u32, offset: u32) -> bool
     ensures { result ≡ is_near (location_number kind) location offset }
 {
@@ -137,6 +143,7 @@ fn is_near(kind: LocationType, location: u32, offset: u32) -> bool
 
 impl Offsets {
     /// The first offset, if there is one.
+    #[inline(always)]
     fn first(&self) -> Option<u32>
         ensures { result ≡ slice_get self.now 0 }
     {
@@ -144,6 +151,7 @@ impl Offsets {
     }
 
     /// The first offset that is near enough to a location of this type.
+    #[inline(always)]
     fn first_near(&self, kind: LocationType, location: u32) -> Option<u32>
         ensures { result ≡ slice_get (filter (is_near (location_number kind) location) self.now) 0 }
     {
@@ -156,6 +164,7 @@ impl Offsets {
     }
 
     /// The additions of a segment-relative fixup. A base reaches whatever its target's offset.
+    #[inline(always)]
     fn in_frame(&self, kind: LocationType, selector: u16) -> Result<Additions, Cause>
         ensures { result ≡ in_frame (location_number kind) selector self.now }
     {
@@ -174,6 +183,7 @@ impl Offsets {
     }
 
     /// The additions of a self-relative fixup. Its target is checked first, then its location, then their distance.
+    #[inline(always)]
     fn from_location(&self, kind: LocationType, location: Option<u32>) -> Result<Additions, Cause>
         ensures { result ≡ from_location (location_number kind) self.now location }
     {
@@ -188,6 +198,7 @@ impl Offsets {
 
 /// The offset of a fixup's location in a frame with this base, if it is in range. Its data record is at an offset of the segment at `here`;
 /// `None` if this has no place.
+#[inline(always)]
 fn location_in(
     base: u32,
     here: Option<Placed>,
@@ -203,6 +214,7 @@ fn location_in(
 
 /// The additions of a fixup with its target at this place, in this frame, or why it does not reach. Its data record is at an offset of the
 /// segment at `here`. The width is that of its FIXUPP.
+#[inline(always)]
 fn additions_in(
     here: Option<Placed>,
     offset: u32,
@@ -232,6 +244,7 @@ fn additions_in(
 /// # Errors
 ///
 /// The cause why the fixup does not reach at this placement.
+#[inline(always)]
 pub fn outcome(
     placement: &Placement,
     segment: u16,

@@ -232,6 +232,7 @@ impl<'a> Iterator for Pieces<'a> {
 
     ghost remaining = { item_count (λ s. s) };
 
+    #[inline(always)]
     fn next(&mut self) -> Option<(Place, Piece<'a>)> {
         loop {
             if let Some(step) = open_step(&mut self.threads, &mut self.fixups) {

@@ -65,6 +65,7 @@ impl Open {
     }
 
     /// Applies a fixup. Returns why it is out of range, if it is; the data are then unchanged.
+    #[inline(always)]
     fn add(&mut self, placement: &Placement, width: Width, fixup: &PlainFixup) -> Option<Cause>
         requires { CanAdd fixup.now self.old }
         ensures data { self.new ≡ with_fixup placement.now (fixupp_type width) fixup.now self.old }
@@ -147,6 +148,7 @@ impl Walk {
     }
 
     /// Applies a fixup to the last data record. Returns why it does not reach, if it does not.
+    #[inline(always)]
     fn fix(&mut self, placement: &Placement, width: Width, fixup: &PlainFixup) -> Option<Cause>
         requires { IfSome self.old.open_data (CanAdd fixup.now) }
         ensures image { self.new.image ≡ self.old.image }
@@ -203,6 +205,7 @@ impl Walk {
     }
 
     /// Takes the next piece. Returns why it does not reach, if it does not.
+    #[inline(always)]
     fn take(
         &mut self,
         alloc: Global,
