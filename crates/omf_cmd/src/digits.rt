@@ -66,9 +66,7 @@ pub fn write_bytes(text: &mut [u8], bytes: &[u8])
     ensures { text.new ≡ flat_map (λ b. 32 ∷ hex 2 b) bytes.now }
 {
     for i in 0..bytes.len() {
-        let [high, low] = two_digits(bytes[i]);
         text[3 * i] = b' ';
-        text[3 * i + 1] = high;
-        text[3 * i + 2] = low;
+        text[3 * i + 1..3 * i + 3].copy_from_slice(&two_digits(bytes[i]));
     }
 }
