@@ -1,5 +1,5 @@
 -- A FIXUP that uses no thread has the numbers that are read field by field.
-use Rattle.std.proofs.Common.{◌≡◌, ℕ, ◌+◌, ◌*◌, ◌<◌, ◌≤◌, Bool, true, false, List, [], ◌∷◌, length, Some, sym, ap, ◌∙◌, arith, Ok, is_ok}
+use Rattle.std.proofs.Common.{◌≡◌, ℕ, ◌+◌, ◌*◌, ◌<◌, ◌≤◌, Bool, true, false, List, [], ◌∷◌, length, sym, ap, ◌∙◌, Ok, is_ok}
 use Rattle.std.specs.Prelude.{not, nat_lt, ◌||◌, unwrap_or}
 use Rattle.std.proofs.lemmas.Bool.{ltb-true}
 use Rattle.omf_records.specs.Inner.Names.{has_frame_datum, has_no_displacement}

@@ -1,5 +1,5 @@
 //! Copying a FIXUP without decoding it, if it uses no thread and has no displacement of 0 (TIS OMF 1.1, "FIXUPP").
-ghost use Rattle.std.specs.Prelude.{◌≡◌, ◌+◌, ◌≤◌, ⊤, true, false, length, vec_len, vec_capacity, IfSome, IsOk};
+ghost use Rattle.std.specs.Prelude.{◌≡◌, ◌+◌, ◌≤◌, ◌++◌, ◌∷◌, [], ⊤, true, false, length, vec_len, vec_capacity, IfSome, IsOk};
 ghost use Rattle.byteorder.specs.Endian.{little_bytes};
 ghost use Rattle.omf_records.specs.Inner.Begins.{Begins};
 ghost use Rattle.omf_records.specs.Inner.Direct.{begins_direct, Copies, IsNonzero, IsDirect, PutsNext};
@@ -9,7 +9,7 @@ ghost use Rattle.omf_records.specs.Shortest.{option_bytes, datum_bytes, subrecor
 ghost use Rattle.omf_records.specs.Values.{is_wide, width};
 
 use crate::field::number;
-use crate::fixup::{FIXUP_LIMIT, push_bytes, push_displacement, push_index};
+use crate::fixup::{FIXUP_LIMIT, push_displacement, push_index};
 use crate::here::Here;
 use crate::subrecord::{Subrecord, datum, has_displacement, has_frame_datum};
 use crate::unread::Unread;
@@ -88,6 +88,19 @@ fn copy_displacement<'a>(
     }
 }
 
+/// Appends the first three bytes of a FIXUP. The room for them is reserved.
+#[inline(always)]
+fn push_head(out: &mut Vec<u8>, high: u8, low: u8, fix: u8)
+    requires { vec_len out.old + 3 ≤ vec_capacity out.old }
+    ensures items { out.new.items ≡ out.old.items ++ high ∷ low ∷ fix ∷ [] }
+    ensures len { vec_len out.new ≡ vec_len out.old + 3 }
+    ensures capacity { vec_capacity out.new ≡ vec_capacity out.old }
+{
+    out.push_reserved(high);
+    out.push_reserved(low);
+    out.push_reserved(fix);
+}
+
 /// Appends the FIXUP at `here`, which uses no thread. Returns `None` if its displacement is 0. The room for it is reserved.
 #[inline(always)]
 fn copy_direct<'a>(here: Here<'a>, kind: u8, out: &mut Vec<u8>) -> Option<Here<'a>>
@@ -101,7 +114,7 @@ fn copy_direct<'a>(here: Here<'a>, kind: u8, out: &mut Vec<u8>) -> Option<Here<'
 {
     match here.bytes() {
         [high, low, fix, ..] => {
-            push_bytes(out, &[*high, *low, *fix]);
+            push_head(out, *high, *low, *fix);
             let framed = copy_datum(here.pass(3), has_frame_datum(*fix), out);
             let aimed = copy_index(framed, out);
             copy_displacement(aimed, has_displacement(*fix), kind, out)
@@ -128,6 +141,22 @@ fn copy_fixup<'a>(here: Here<'a>, kind: u8, out: &mut Vec<u8>) -> Option<Here<'a
     }
 }
 
+/// `copy_fixup`, compiled twice: where the longest FIXUP fits, the tests whether a field is there are left out.
+#[inline(always)]
+fn copy_next<'a>(here: Here<'a>, kind: u8, out: &mut Vec<u8>) -> Option<Here<'a>>
+    requires room { vec_len out.old + 11 ≤ vec_capacity out.old }
+    requires width { here.wide ≡ is_wide kind }
+    requires read { IsOk (each (subrecord_reader here.wide).read here.within here.bytes.now) }
+    ensures copied { IfSome result (Copies IsDirect (subrecord_bytes kind) here.entry.wide ((subrecord_reader here.entry.wide).read here.entry.within here.entry.bytes.now) out.old.items out.new.items) }
+    ensures grows { Begins out.old.items out.new.items }
+    ensures len { vec_len out.new ≤ vec_len out.old + 11 }
+{
+    if here.bytes().len() < FIXUP_LIMIT {
+        return copy_fixup(here, kind, out);
+    }
+    copy_fixup(here, kind, out)
+}
+
 impl<'a> Unread<Subrecord<'a>> {
     /// Appends the next subrecord in its shortest encoding, in a FIXUPP of type `kind`, and goes on after it. Returns false, and
     /// changes nothing, unless it is a FIXUP that uses no thread and has no displacement of 0, and `out` has room for
@@ -146,7 +175,7 @@ impl<'a> Unread<Subrecord<'a>> {
         if out.capacity() - len < FIXUP_LIMIT || here.is_wide() != (kind % 2 == 1) {
             return false;
         }
-        match copy_fixup(here, kind, out) {
+        match copy_next(here, kind, out) {
             Some(after) => {
                 *self = Unread::new(after);
                 true

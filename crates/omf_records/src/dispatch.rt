@@ -130,6 +130,7 @@ fn is_ledata(kind: u8) -> bool
 }
 
 /// The contents of an LEDATA, or their first layout fault. `None` for a record of another type.
+#[inline(always)]
 pub fn plain_data<'a>(raw: &RawRecord<'a>) -> Option<Result<PlainData<'a>, LayoutFault>>
     requires { length raw.now.body.now ≤ 65534 }
     ensures read { IfSome result (λ r. map_ok Plain r ≡ read_body raw.now.kind raw.now.body.now) }

@@ -34,7 +34,7 @@ copy_index-aimed-requires-clause-read c =
     let p = c.pass.result in
     let f = c.copy_datum-framed.result in
     let begun = begins h.bytes.now b c.bytes.ensures c.requires.begins h.are_bytes in
-    let o0 = c.push_bytes.new.out.items in
+    let o0 = c.push_head.new.out.items in
     let o1 = c.copy_datum-framed.new.out.items in
     target-can h.wide h.within h.bytes.now (get_or b 0 0) (get_or b 1 0) (get_or b 2 0) begun c.requires.read c.args.kind p.within p.bytes.now c.pass.ensures.within c.pass.ensures.bytes
     p.wide c.pass.ensures.width c.args.out.now.items o0 o1 f (named p.wide _ _ p.within p.bytes.now o0 o1 f c.has_frame_datum.ensures c.copy_datum-framed.ensures.copied)
@@ -47,7 +47,7 @@ copy_displacement-requires-clause-read c =
     let f = c.copy_datum-framed.result in
     let t = c.copy_index-aimed.result in
     let begun = begins h.bytes.now b c.bytes.ensures c.requires.begins h.are_bytes in
-    let o0 = c.push_bytes.new.out.items in
+    let o0 = c.push_head.new.out.items in
     let o1 = c.copy_datum-framed.new.out.items in
     subst (λ b. IsOk ((displacement_reader t.wide b).read t.within t.bytes.now)) (sym c.has_displacement.ensures)
     (number-can h.wide h.within h.bytes.now (get_or b 0 0) (get_or b 1 0) (get_or b 2 0) begun c.requires.read c.args.kind p.within p.bytes.now c.pass.ensures.within c.pass.ensures.bytes
@@ -62,12 +62,12 @@ returns-in-len3-up-clause-copied c =
     let f = c.copy_datum-framed.result in
     let t = c.copy_index-aimed.result in
     let begun = begins h.bytes.now b c.bytes.ensures c.requires.begins h.are_bytes in
-    let o0 = c.push_bytes.new.out.items in
+    let o0 = c.push_head.new.out.items in
     let o1 = c.copy_datum-framed.new.out.items in
     let o2 = c.copy_index-aimed.new.out.items in
     let o3 = c.copy_displacement.new.out.items in
     if-some c.copy_displacement.result (λ d c3.
     copied h.wide h.within h.bytes.now (get_or b 0 0) (get_or b 1 0) (get_or b 2 0) begun c.requires.read c.args.kind p.within p.bytes.now c.pass.ensures.within c.pass.ensures.bytes
     p.wide c.pass.ensures.width c.args.out.now.items o0 o1 f (named p.wide _ _ p.within p.bytes.now o0 o1 f c.has_frame_datum.ensures c.copy_datum-framed.ensures.copied)
-    o2 t c.copy_index-aimed.ensures.copied c.push_bytes.ensures.items o3 d c3)
+    o2 t c.copy_index-aimed.ensures.copied c.push_head.ensures.items o3 d c3)
     (subst (λ b. IfSome c.copy_displacement.result (Copies IsNonzero (option_bytes (little_bytes (width c.args.kind))) t.wide ((displacement_reader t.wide b).read t.within t.bytes.now) o2 o3)) c.has_displacement.ensures c.copy_displacement.ensures.copied)
