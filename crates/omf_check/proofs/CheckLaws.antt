@@ -31,7 +31,7 @@ use Rattle.omf_check.proofs.Passing.{open_here}
 use Rattle.omf_check.proofs.SessionLaws.{records_of}
 use Rattle.omf_check.proofs.SoundBytes.{no_other}
 
-pub piece_low : (new buffer : List ℕ) (n m w k : ℕ) → length new ≡ length (take m buffer) → m ≡ min w 1024 → w ≡ k → length (take n new) ≤ k
+pub piece_low : (new buffer : List ℕ) (n m w k : ℕ) → length new ≡ length (take m buffer) → m ≡ min w 4096 → w ≡ k → length (take n new) ≤ k
 piece_low new buffer n m w k a e f = let x = length-take n new in let y = length-take m buffer in omega (arith, a, e, f, x, y)
 
 pub some_given : (n : ℕ) (bytes : List ℕ) → (n ≡ 0 → ⊥) → n ≤ length bytes → 0 < length (take n bytes)
@@ -387,7 +387,7 @@ module _ (profile : Profile) (s : Seen) (open_s : IsOpen s) (fault : s.fault ≡
       by true n k h z = absurd (omega (arith, h, z))
       by false n k h z = z
 
-  pub runs : (ahead : List ℕ) (m w : ℕ) → (m ≡ 0 → ⊥) → m ≡ min w 1024 → w ≡ want_with s ahead → s.ended ≡ false
+  pub runs : (ahead : List ℕ) (m w : ℕ) → (m ≡ 0 → ⊥) → m ≡ min w 4096 → w ≡ want_with s ahead → s.ended ≡ false
   runs ahead m w some e f = by s.ended refl
     where
       none_behind : s.ended ≡ true → want_with s ahead ≡ 0

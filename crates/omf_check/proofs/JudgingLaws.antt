@@ -125,7 +125,7 @@ module _ (profile : Profile) (held : Held) (taken : List ℕ) (kept : Kept) (p :
   judges size (Err (check.Refused why at)) input e st d = d
 
   -- where the end is at hand, by what is wanted
-  module _ (size : ℕ) (e : size ≡ length taken) (ahead : List ℕ) (m w : ℕ) (w_is : w ≡ cond (size == 0) (framer_want held) (framer_want_with held ahead)) (m_is : m ≡ min w 1024) where
+  module _ (size : ℕ) (e : size ≡ length taken) (ahead : List ℕ) (m w : ℕ) (w_is : w ≡ cond (size == 0) (framer_want held) (framer_want_with held ahead)) (m_is : m ≡ min w 4096) where
     pub wanted_now : w ≡ want_with s ahead
     wanted_now = w_is ∙ wants size ahead e
 

@@ -201,7 +201,7 @@ pub(crate) fn take_module<S: Source, K: Keeper>(
     framer.restart();
     let mut tables = Tables::new(alloc);
     let mut size: u64 = 0;
-    let mut buffer = [0; 1024];
+    let mut buffer = [0; 4096];
     loop {
         let want = wanted(framer, size, reader.ahead()).min(buffer.len());
         if want == 0 {
