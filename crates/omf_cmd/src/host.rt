@@ -12,9 +12,9 @@ use std::env;
 use std::io::{BufReader, ErrorKind, StdinLock, Write};
 use std::process::ExitCode;
 
-/// The number of bytes read from the standard input at once: 31 pages, so that most records of 65,000 bytes are in one piece, and glibc gives the
-/// memory without a mapping of its own.
-const PIECE: usize = 126_976;
+/// The number of bytes read from the standard input at once: 80 pages, so that at most a fifth of the records of 65,000 bytes cross the end of a
+/// piece, and the piece stays in the cache of a core.
+const PIECE: usize = 327_680;
 
 /// The arguments of the process, the program's own name first; empty if one of them is not UTF-8.
 fn arguments_of(rt: &HostRuntime) -> Result<Vec<String>, AllocError> {
