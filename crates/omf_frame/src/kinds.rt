@@ -212,9 +212,10 @@ pub fn type_name(kind: u8) -> &'static str
     }
 }
 
-/// The type bytes of the types that are read or carried: from 80H on, and from C0H on, bit by bit.
+/// The type bytes from 80H to BFH of the types that are read or carried, bit by bit.
 const TAKEN_LOW: u64 = 0x01F1_000F_3773_5D05;
 
+/// The type bytes from C0H to FFH of the types that are read or carried, bit by bit.
 const TAKEN_HIGH: u64 = 0x1470;
 
 /// Whether a module may have records of this type: those of the types that are read or carried.

@@ -1,4 +1,4 @@
-use Rattle.std.proofs.Common.{◌≡◌, ◌∙◌, ◌/◌, ◌%◌, ℕ, ap, arith}
+use Rattle.std.proofs.Common.{◌∙◌, ◌/◌, ◌%◌, ℕ, ap, arith}
 use Rattle.std.specs.Prelude.{◌^◌, ◌==◌}
 use Rattle.omf_frame.proofs.TypeLaws.{untaken, taken_by_low, taken_by_high}
 use Rattle.omf_frame.proofs.kinds.is_taken.Goals as goal
