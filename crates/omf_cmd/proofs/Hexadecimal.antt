@@ -1,6 +1,6 @@
 -- Hexadecimal digits of numbers, and the text of bytes as it is written over a slice.
-use Rattle.std.proofs.Common.{◌≡◌, ℕ, zero, suc, ◌+◌, ◌-◌, ◌*◌, ◌/◌, ◌%◌, ◌^◌, ◌<◌, ◌≤◌, Bool, true, false, cond, eqb, List, [], ◌∷◌, ◌++◌, length, take, drop, get_or, slice_index, slice_set, refl, sym, ap, ap₂, ◌∙◌, arith, inl, inr, eq-zero-or-pos, eq-eqb, ne_eqb, append_assoc}
-use Rattle.std.proofs.lemmas.List.{append-nil, drop_all, drop_more, take_all, take_more_set, length-set}
+use Rattle.std.proofs.Common.{◌≡◌, ℕ, zero, suc, ◌+◌, ◌-◌, ◌*◌, ◌/◌, ◌%◌, ◌^◌, ◌<◌, ◌≤◌, Bool, true, false, cond, eqb, List, [], ◌∷◌, ◌++◌, length, take, drop, get_or, refl, sym, ap, ap₂, ◌∙◌, arith, inl, inr, eq-zero-or-pos, eq-eqb, ne_eqb}
+use Rattle.std.proofs.lemmas.List.{append-nil, drop_all, take_all}
 use Rattle.std.specs.Fmt.{digits, digits_onto, digit_glyph}
 use Rattle.std.specs.Prelude.{replicate, flat_map}
 use Rattle.omf_placement.specs.Quoted.{hex}
@@ -77,36 +77,6 @@ hex_eight n small =
     rw (a, b, c, d, e, f) (sym (hex_digits 7 n (omega arith) (omega arith)))
 
 -- ---- bytes as they are written over a text
-
--- three writes in a row, seen from the front
-take-three : (xs : List ℕ) (o x y z : ℕ) → o + 2 < length xs → take (o + 3) (slice_set (slice_set (slice_set xs o x) (o + 1) y) (o + 2) z) ≡ take o xs ++ (x ∷ y ∷ z ∷ [])
-take-three xs o x y z fits =
-    let one : List ℕ = slice_set xs o x in
-    let two : List ℕ = slice_set one (o + 1) y in
-    let long : length one ≡ length xs = length-set xs o x in
-    let longer : length two ≡ length one = length-set one (o + 1) y in
-    let third : o + 3 ≡ o + 2 + 1 = omega arith in
-    let second : o + 2 ≡ o + 1 + 1 = omega arith in
-    ap (λ (k : ℕ). take k (slice_set two (o + 2) z)) third ∙ take_more_set two (o + 2) z (omega (arith, long, longer))
-    ∙ ap (λ (t : List ℕ). t ++ (z ∷ [])) (ap (λ (k : ℕ). take k two) second ∙ take_more_set one (o + 1) y (omega (arith, long)) ∙ ap (λ (t : List ℕ). t ++ (y ∷ [])) (take_more_set xs o x (omega arith)))
-    ∙ append_assoc (take o xs ++ (x ∷ [])) (y ∷ []) (z ∷ []) ∙ append_assoc (take o xs) (x ∷ []) (y ∷ z ∷ [])
-
--- the bytes that are left, from one on
-bytes_left : (bytes : List ℕ) (i : ℕ) → i < length bytes → flat_map byte_text (drop i bytes) ≡ byte_text (slice_index bytes i) ++ flat_map byte_text (drop (i + 1) bytes)
-bytes_left bytes i h = ap (flat_map byte_text) (drop_more bytes i 0 h)
-
--- one byte more is written
-pub byte_written : (bytes text : List ℕ) (i x y z : ℕ) → i < length bytes → 3 * i + 2 < length text → x ∷ y ∷ z ∷ [] ≡ byte_text (slice_index bytes i)
-    → take (3 * i) text ++ flat_map byte_text (drop i bytes) ≡ flat_map byte_text bytes
-    → take (3 * (i + 1)) (slice_set (slice_set (slice_set text (3 * i) x) (3 * i + 1) y) (3 * i + 2) z) ++ flat_map byte_text (drop (i + 1) bytes) ≡ flat_map byte_text bytes
-byte_written bytes text i x y z h fits is before =
-    let next : 3 * (i + 1) ≡ 3 * i + 3 = omega arith in
-    let left : List ℕ = flat_map byte_text (drop (i + 1) bytes) in
-    ap (λ (k : ℕ). take k (slice_set (slice_set (slice_set text (3 * i) x) (3 * i + 1) y) (3 * i + 2) z) ++ left) next
-    ∙ ap (λ (t : List ℕ). t ++ left) (take-three text (3 * i) x y z fits)
-    ∙ append_assoc (take (3 * i) text) (x ∷ y ∷ z ∷ []) left
-    ∙ ap (λ (t : List ℕ). take (3 * i) text ++ t) (ap (λ (t : List ℕ). t ++ left) is ∙ sym (bytes_left bytes i h))
-    ∙ before
 
 -- all of them are
 pub bytes_written : (bytes text : List ℕ) (i : ℕ) → length bytes ≤ i → length text ≡ 3 * length bytes
