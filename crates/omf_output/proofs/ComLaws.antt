@@ -12,7 +12,7 @@ use Rattle.omf_records.specs.Values.{Contents, Names, Plain, Iterated, Rec}
 use Rattle.omf_check.specs.Module.{recs_of, records_in}
 use Rattle.omf_check.specs.Listed.{placed_from}
 use Rattle.omf_placement.specs.Placement.{Places}
-use Rattle.omf_reloc.specs.Plain.{Piece, Kept, Fixed, End, PlainFixup}
+use Rattle.omf_reloc.specs.Plain.{Piece, Kept, Fixed, End, PlainFixup, data_contents}
 use Rattle.omf_reloc.proofs.PieceLaws.{pieces-listed}
 use Rattle.omf_reloc.proofs.WalkedLaws.{records-listed}
 use Rattle.omf_output.specs.declared.exe.com_fault.ComFault.{ComFault}
@@ -23,10 +23,12 @@ use Rattle.omf_output.specs.Exe.Com.{ComLoaded, after_prefix, com_bytes, com_end
 use Rattle.omf_output.specs.Exe.Linked.{linked_at, member_fault, one_start, placed, starts}
 use Rattle.omf_output.specs.Exe.Members.{Member, Portion, all_moving, portions}
 use Rattle.omf_output.specs.Exe.Memory.{Chunk, all_chunks, chunks_at, data_end, flat}
-use Rattle.omf_output.specs.Exe.Movable.{data_segment, segment_after}
 use Rattle.omf_output.specs.Exe.Moved.{Movers}
 use Rattle.omf_output.specs.Exe.Overlaps.{AddInTurn, AreJudged, Open, all_words, opened, opened_after, or_place, with_contents, with_fixups, with_piece}
 use Rattle.omf_output.specs.Exe.Relocations.{site, words_moved}
+use Rattle.omf_output.specs.Inner.Walked.{located_from, segment_after}
+use Rattle.omf_output.specs.Located.{Located, located}
+use Rattle.omf_output.proofs.LocatedLaws.{walked}
 use Rattle.omf_output.proofs.ChunkMoves.{chunks-move}
 use Rattle.omf_output.proofs.ImageMoves.{images}
 use Rattle.omf_output.proofs.LinkedLaws.{AreReady, get-none, judged-of, lie-in}
@@ -77,7 +79,7 @@ module _ (mv : Movers) (pl : Places) where
   piece-clear last (Some o) (Fixed kind fs) h e = no-words o.0 o.1 (map (λ f. (kind, f)) fs) (sym (ap (λ l. has_word mv l (Fixed kind fs)) h) ∙ e)
   piece-clear last o (End kind byte start) h e = refl
 
-  contents-follow : (last : Option ℕ) (o : Open) (c : Contents) → Follows last o → Follows (data_segment c last) (opened pl c o)
+  contents-follow : (last : Option ℕ) (o : Open) (c : Contents) → Follows last o → Follows (option_or (option_map (λ d. d.segment.item) (data_contents c)) last) (opened pl c o)
   contents-follow last o (Plain d) h = refl
   contents-follow last o (Iterated d) h = tt
   contents-follow last o (Names items) h = h
@@ -124,26 +126,29 @@ module _ (m : Member) where
       by None true g rest = absurd cc
       by (Some at) b g rest = absurd cc
 
-  none-worded : (p : Place) (last : Option ℕ) (piece : Piece) → piece_fault m p last piece ≡ None → has_word m.movers last piece ≡ false
+  abbrev here : Place → Option ℕ → Piece → Located
+  here p last piece = record { place = p; segment = last; piece = piece }
+
+  none-worded : (p : Place) (last : Option ℕ) (piece : Piece) → piece_fault m (here p last piece) ≡ None → has_word m.movers last piece ≡ false
   none-worded p last (Kept r) e = refl
   none-worded p None (Fixed kind fs) e = refl
   none-worded p (Some segment) (Fixed kind fs) e = none-sited p segment (map (λ f. (kind, f)) fs) (get-none (filter_map (fixup_fault m p segment) (map (λ f. (kind, f)) fs)) e)
   none-worded p last (End kind byte start) e = refl
 
-  no-words-left : (last : Option ℕ) (xs : List (Place × Piece)) → first_fixup m last xs ≡ None → has_words m.movers last xs ≡ false
+  no-words-left : (last : Option ℕ) (xs : List (Place × Piece)) → filter_map (piece_fault m) (located_from last xs) ≡ [] → has_words m.movers last xs ≡ false
   no-words-left last [] e = refl
-  no-words-left last (x ∷ xs) e = by (piece_fault m x.0 last x.1) refl e (no-words-left (segment_after x.1 last) xs)
+  no-words-left last (x ∷ xs) e = by (piece_fault m (here x.0 last x.1)) refl e (no-words-left (segment_after x.1 last) xs)
     where
-      by : (o : Option ComFault) → piece_fault m x.0 last x.1 ≡ o → option_or o (first_fixup m (segment_after x.1 last) xs) ≡ None
-          → (first_fixup m (segment_after x.1 last) xs ≡ None → has_words m.movers (segment_after x.1 last) xs ≡ false) → has_words m.movers last (x ∷ xs) ≡ false
+      by : (o : Option ComFault) → piece_fault m (here x.0 last x.1) ≡ o → cons_option o (filter_map (piece_fault m) (located_from (segment_after x.1 last) xs)) ≡ []
+          → (filter_map (piece_fault m) (located_from (segment_after x.1 last) xs) ≡ [] → has_words m.movers (segment_after x.1 last) xs ≡ false) → has_words m.movers last (x ∷ xs) ≡ false
       by None f g rest = ap₂ (λ (a b : Bool). a || b) (none-worded x.0 last x.1 f) (rest g)
       by (Some y) f g rest = absurd cc
 
 no-part-here : (m : Member) → part_fault m ≡ None → HasNoWord m
 no-part-here m e = by (first_low m.places (placed_from 0 0 (records_in m.bytes))) e
   where
-    by : (a : Option Place) → option_or (option_map (λ p. fault.Low m.number p) a) (first_fixup m None (placed m)) ≡ None → HasNoWord m
-    by None f = no-words-left m None (placed m) f
+    by : (a : Option Place) → option_or (option_map (λ p. fault.Low m.number p) a) (first_fixup m (placed m)) ≡ None → HasNoWord m
+    by None f = no-words-left m None (placed m) (ap (filter_map (piece_fault m)) (walked (placed m)) ∙ get-none (filter_map (piece_fault m) (located (placed m))) f)
     by (Some p) f = absurd cc
 
 no-parts : (ms : List Member) → filter_map part_fault ms ≡ [] → All HasNoWord ms
@@ -252,15 +257,6 @@ module _ (ms : List Member) (r : AreReady ms) (a : AreFree ms) where
       (ap (λ n. (n % 65536, 256)) here ∙ sym (code-moves k ms (0, 256) (judged).moving a.starts_low))
 
 -- ---- the walks
-
--- The first fault of the pieces to come, with one piece more and without.
-pub fixup-found : (m : Member) (last : Option ℕ) (x : Place × Piece) (left rest : List (Place × Piece)) (f : ComFault) (whole : Option ComFault) → left ≡ x ∷ rest → piece_fault m x.0 last x.1 ≡ Some f
-    → first_fixup m last left ≡ whole → Some f ≡ whole
-fixup-found m last x left rest f whole e g h = sym (ap (first_fixup m last) e ∙ ap (λ o. option_or o (first_fixup m (segment_after x.1 last) rest)) g) ∙ h
-
-pub no-fixup-here : (m : Member) (last : Option ℕ) (x : Place × Piece) (left rest : List (Place × Piece)) (whole : Option ComFault) → left ≡ x ∷ rest → piece_fault m x.0 last x.1 ≡ None
-    → first_fixup m last left ≡ whole → first_fixup m (segment_after x.1 last) rest ≡ whole
-no-fixup-here m last x left rest whole e g h = sym (ap (first_fixup m last) e ∙ ap (λ o. option_or o (first_fixup m (segment_after x.1 last) rest)) g) ∙ h
 
 pub low-found : (pl : Places) (x : Place × Rec) (left rest : List (Place × Rec)) (b : Bool) (whole : Option Place) → left ≡ x ∷ rest → b ≡ is_low_record pl x.1 → b ≡ true
     → first_low pl left ≡ whole → Some x.0 ≡ whole

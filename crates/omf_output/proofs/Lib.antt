@@ -19,6 +19,7 @@ pub mod ProgramLaws
 pub mod StartMoves
 pub mod RowLaws
 pub mod JudgedLaws
+pub mod LocatedLaws
 pub mod MovableLaws
 pub mod OverlapLaws
 pub mod MarkLaws

@@ -37,7 +37,7 @@ use Rattle.omf_output.proofs.RegisterLaws.{code-moves, stack-moves}
 -- ---- no fault
 
 abbrev pub Unmoved : Member → Type 0
-Unmoved m = first_unmoved m.movers None (placed m) ≡ None
+Unmoved m = first_unmoved m.movers (placed m) ≡ None
 
 no-fault : (m : Member) (a : Option ReachFault) (t : Bool) (b : Option Place)
     → or_else (option_map (λ f. fault.Reach m.number f) a) (or_else (cond t None (Some (fault.Movers m.number))) (option_map (λ p. fault.Stays m.number p) b)) ≡ None → (a ≡ None) × (t ≡ true) × (b ≡ None)
@@ -80,7 +80,7 @@ no-faults (m ∷ ms) e = by (member_fault m) refl e (no-faults ms)
     by : (o : Option ExeFault) → member_fault m ≡ o → cons_option o (filter_map member_fault ms) ≡ []
         → (filter_map member_fault ms ≡ [] → All HasReached ms × All IsBased ms × All Unmoved ms) → All HasReached (m ∷ ms) × All IsBased (m ∷ ms) × All Unmoved (m ∷ ms)
     by None f g more =
-        let parts = no-fault m (reach_fault m.places (recs_of m.bytes)) (has_its_movers m) (first_unmoved m.movers None (placed m)) f in
+        let parts = no-fault m (reach_fault m.places (recs_of m.bytes)) (has_its_movers m) (first_unmoved m.movers (placed m)) f in
         let rest = more g in
         (All-cons HasReached m ms parts.0 rest.0, All-cons IsBased m ms (based m parts.0 parts.1) rest.1, All-cons Unmoved m ms parts.2 rest.2)
     by (Some x) f g more = absurd cc
@@ -334,4 +334,4 @@ many-or-memory ms p f a b w (inr t) = inr (t, plain-none ms a b)
 
 pub reach-first : (m : Member) (f : ReachFault) → reach_fault m.places (recs_of m.bytes) ≡ Some f → Some (fault.Reach m.number f) ≡ member_fault m
 reach-first m f e =
-    sym (ap (λ o. or_else (option_map (λ x. fault.Reach m.number x) o) (or_else (cond (has_its_movers m) None (Some (fault.Movers m.number))) (option_map (λ p. fault.Stays m.number p) (first_unmoved m.movers None (placed m))))) e)
+    sym (ap (λ o. or_else (option_map (λ x. fault.Reach m.number x) o) (or_else (cond (has_its_movers m) None (Some (fault.Movers m.number))) (option_map (λ p. fault.Stays m.number p) (first_unmoved m.movers (placed m))))) e)

@@ -1,16 +1,20 @@
 -- The pieces of a module judged one after another.
 use Rattle.std.proofs.Common.{◌≡◌, ℕ, List, [], ◌∷◌, ◌++◌, Bool, true, false, cond, map, refl, sym, ◌∙◌, ap, ap₂}
-use Rattle.std.specs.Prelude.{Option, Some, None, ◌&&◌}
+use Rattle.std.specs.Prelude.{◌↔◌, Option, Some, None, ◌&&◌, find, not, option_map}
 use Rattle.std.specs.List.{list_all}
+use Rattle.std.specs.Option.{option_map_or}
 use Rattle.omf_frame.specs.declared.fault.Place.{Place}
 use Rattle.omf_records.specs.Values.{Contents, Plain, Iterated, Rec}
 use Rattle.omf_reloc.specs.Inner.Pieces.{one_by_one, single_pieces}
-use Rattle.omf_reloc.specs.Plain.{Piece, Kept, Fixed, End, PlainFixup, fixups_of_data, pieces}
+use Rattle.omf_reloc.specs.Plain.{Piece, Kept, Fixed, End, PlainFixup, fixups_in, fixups_of_data, pieces}
 use Rattle.omf_reloc.proofs.SingleLaws.{fixups-same, singles}
 use Rattle.std.specs.Prelude.{flat_map}
 use Rattle.omf_output.specs.Exe.Moved.{Movers, moves}
 use Rattle.omf_output.specs.Exe.Judged.{contents_move, data_moves, pieces_move, start_moves}
-use Rattle.omf_output.specs.Exe.Movable.{data_segment, first_unmoved, moves_after, segment_after, segment_moves, MovingIsDecided}
+use Rattle.omf_output.specs.Exe.Movable.{first_unmoved, located_moves, own_moves, MovingIsDecided}
+use Rattle.omf_output.specs.Inner.Walked.{located_from, segment_after}
+use Rattle.omf_output.specs.Located.{Located}
+use Rattle.omf_output.proofs.LocatedLaws.{walked}
 use Rattle.omf_output.specs.Exe.Relocations.{moves_together}
 
 and-assoc : (a b c : Bool) → (a && (b && c)) ≡ ((a && b) && c)
@@ -26,11 +30,6 @@ all-append : {A : Type 0} (test : A → Bool) (xs ys : List A) → list_all test
 all-append test [] ys = refl
 all-append test (x ∷ xs) ys = ap (λ b. test x && b) (all-append test xs ys) ∙ and-assoc (test x) (list_all test xs) (list_all test ys)
 
--- A test by a value that is there only where it holds.
-pub failed-if : {A : Type 0} (b : Bool) (x : A) → cond b (Some x) None ≡ None → b ≡ false
-failed-if true x e = absurd cc
-failed-if false x e = refl
-
 module _ (mv : Movers) where
   -- The fixups that belong to the last data record.
   abbrev pending : Option ℕ → List (ℕ × PlainFixup) → Bool
@@ -41,25 +40,39 @@ module _ (mv : Movers) where
   pending-none None = refl
   pending-none (Some segment) = refl
 
+  abbrev moves_after : Option ℕ → Piece → Bool
+  moves_after last p = own_moves mv p && option_map_or (λ segment. list_all (moves_together mv segment) (fixups_in p)) last true
+
   abbrev all_after : Option ℕ → List Piece → Bool
   all_after last [] = true
-  all_after last (p ∷ ps) = moves_after mv last p && all_after (segment_after p last) ps
+  all_after last (p ∷ ps) = moves_after last p && all_after (segment_after p last) ps
 
-  kept : (kind : ℕ) (c : Contents) (last : Option ℕ) (ps : List Piece) → all_after (data_segment c last) ps ≡ (pending (data_segment c last) (fixups_of_data ps) && pieces_move mv ps)
-      → (segment_moves mv c && all_after (data_segment c last) ps)
-      ≡ (pending last (fixups_of_data (Kept (record { kind = kind; contents = c }) ∷ ps)) && (contents_move mv c (fixups_of_data ps) && pieces_move mv ps))
+  -- A piece without fixups.
+  own-alone : (b : Bool) (last : Option ℕ) → (b && option_map_or (λ segment. list_all (moves_together mv segment) []) last true) ≡ b
+  own-alone true None = refl
+  own-alone true (Some segment) = refl
+  own-alone false last = refl
+
+  abbrev kept_as : ℕ → Contents → Piece
+  kept_as kind c = Kept (record { kind = kind; contents = c })
+
+  kept : (kind : ℕ) (c : Contents) (last : Option ℕ) (ps : List Piece) → all_after (segment_after (kept_as kind c) last) ps ≡ (pending (segment_after (kept_as kind c) last) (fixups_of_data ps) && pieces_move mv ps)
+      → (moves_after last (kept_as kind c) && all_after (segment_after (kept_as kind c) last) ps)
+      ≡ (pending last (fixups_of_data (kept_as kind c ∷ ps)) && (contents_move mv c (fixups_of_data ps) && pieces_move mv ps))
   kept kind (Plain d) last ps e =
-      ap (λ b. moves mv.segments d.segment.item && b) e
+      ap (λ b. b && all_after (Some d.segment.item) ps) (own-alone (moves mv.segments d.segment.item) last)
+      ∙ ap (λ b. moves mv.segments d.segment.item && b) e
       ∙ and-assoc (moves mv.segments d.segment.item) (list_all (moves_together mv d.segment.item) (fixups_of_data ps)) (pieces_move mv ps)
       ∙ sym (ap (λ b. b && (data_moves mv d (fixups_of_data ps) && pieces_move mv ps)) (pending-none last))
   kept kind (Iterated d) last ps e =
-      ap (λ b. moves mv.segments d.segment.item && b) e
+      ap (λ b. b && all_after (Some d.segment.item) ps) (own-alone (moves mv.segments d.segment.item) last)
+      ∙ ap (λ b. moves mv.segments d.segment.item && b) e
       ∙ and-assoc (moves mv.segments d.segment.item) (list_all (moves_together mv d.segment.item) (fixups_of_data ps)) (pieces_move mv ps)
       ∙ sym (ap (λ b. b && (data_moves mv d (fixups_of_data ps) && pieces_move mv ps)) (pending-none last))
-  kept kind _ last ps e = e
+  kept kind _ last ps e = ap (λ b. b && all_after last ps) (own-alone true last) ∙ e
 
   fixed : (kind : ℕ) (fs : List PlainFixup) (last : Option ℕ) (ps : List Piece) → all_after last ps ≡ (pending last (fixups_of_data ps) && pieces_move mv ps)
-      → (moves_after mv last (Fixed kind fs) && all_after last ps) ≡ (pending last (map (λ f. (kind, f)) fs ++ fixups_of_data ps) && pieces_move mv ps)
+      → (moves_after last (Fixed kind fs) && all_after last ps) ≡ (pending last (map (λ f. (kind, f)) fs ++ fixups_of_data ps) && pieces_move mv ps)
   fixed kind fs None ps e = e
   fixed kind fs (Some segment) ps e =
       let test = moves_together mv segment in
@@ -70,10 +83,11 @@ module _ (mv : Movers) where
 
   in-order : (last : Option ℕ) (ps : List Piece) → all_after last ps ≡ (pending last (fixups_of_data ps) && pieces_move mv ps)
   in-order last [] = sym (ap (λ b. b && true) (pending-none last))
-  in-order last (Kept r ∷ ps) = kept r.kind r.contents last ps (in-order (data_segment r.contents last) ps)
+  in-order last (Kept r ∷ ps) = kept r.kind r.contents last ps (in-order (segment_after (Kept r) last) ps)
   in-order last (Fixed kind fs ∷ ps) = fixed kind fs last ps (in-order last ps)
   in-order last (End kind byte start ∷ ps) =
-      ap (λ b. start_moves mv start && b) (in-order last ps) ∙ and-swap (start_moves mv start) (pending last (fixups_of_data ps)) (pieces_move mv ps)
+      ap (λ b. b && all_after last ps) (own-alone (start_moves mv start) last)
+      ∙ ap (λ b. start_moves mv start && b) (in-order last ps) ∙ and-swap (start_moves mv start) (pending last (fixups_of_data ps)) (pieces_move mv ps)
 
   singles-move : (kind : ℕ) (fs : List PlainFixup) (ps : List Piece) → pieces_move mv (singles kind fs ++ ps) ≡ pieces_move mv ps
   singles-move kind [] ps = refl
@@ -85,50 +99,41 @@ module _ (mv : Movers) where
   single-move (Fixed kind fs ∷ ps) = singles-move kind fs (flat_map one_by_one ps) ∙ single-move ps
   single-move (End kind byte start ∷ ps) = ap (λ b. start_moves mv start && b) (single-move ps)
 
-  none-true : (last : Option ℕ) (xs : List (Place × Piece)) → first_unmoved mv last xs ≡ None → all_after last (map (λ x. x.1) xs) ≡ true
+  abbrev stays : Located → Bool
+  stays x = not (located_moves mv x)
+
+  abbrev first_stay : List Located → Option Place
+  first_stay xs = option_map (λ x. x.place) (find stays xs)
+
+  abbrev here : Option ℕ → Place × Piece → Located
+  here last x = record { place = x.0; segment = last; piece = x.1 }
+
+  none-true : (last : Option ℕ) (xs : List (Place × Piece)) → first_stay (located_from last xs) ≡ None → all_after last (map (λ x. x.1) xs) ≡ true
   none-true last [] e = refl
-  none-true last (x ∷ xs) e = by (moves_after mv last x.1) e (none-true (segment_after x.1 last) xs)
+  none-true last (x ∷ xs) e = by (moves_after last x.1) e (none-true (segment_after x.1 last) xs)
     where
-      by : (b : Bool) → cond b (first_unmoved mv (segment_after x.1 last) xs) (Some x.0) ≡ None
-          → (first_unmoved mv (segment_after x.1 last) xs ≡ None → all_after (segment_after x.1 last) (map (λ x. x.1) xs) ≡ true)
+      by : (b : Bool) → option_map (λ y. y.place) (cond (not b) (Some (here last x)) (find stays (located_from (segment_after x.1 last) xs))) ≡ None
+          → (first_stay (located_from (segment_after x.1 last) xs) ≡ None → all_after (segment_after x.1 last) (map (λ x. x.1) xs) ≡ true)
           → (b && all_after (segment_after x.1 last) (map (λ x. x.1) xs)) ≡ true
       by true e rest = rest e
       by false e rest = absurd cc
 
-  true-none : (last : Option ℕ) (xs : List (Place × Piece)) → all_after last (map (λ x. x.1) xs) ≡ true → first_unmoved mv last xs ≡ None
+  true-none : (last : Option ℕ) (xs : List (Place × Piece)) → all_after last (map (λ x. x.1) xs) ≡ true → first_stay (located_from last xs) ≡ None
   true-none last [] e = refl
-  true-none last (x ∷ xs) e = by (moves_after mv last x.1) e (true-none (segment_after x.1 last) xs)
+  true-none last (x ∷ xs) e = by (moves_after last x.1) e (true-none (segment_after x.1 last) xs)
     where
       by : (b : Bool) → (b && all_after (segment_after x.1 last) (map (λ x. x.1) xs)) ≡ true
-          → (all_after (segment_after x.1 last) (map (λ x. x.1) xs) ≡ true → first_unmoved mv (segment_after x.1 last) xs ≡ None)
-          → cond b (first_unmoved mv (segment_after x.1 last) xs) (Some x.0) ≡ None
+          → (all_after (segment_after x.1 last) (map (λ x. x.1) xs) ≡ true → first_stay (located_from (segment_after x.1 last) xs) ≡ None)
+          → option_map (λ y. y.place) (cond (not b) (Some (here last x)) (find stays (located_from (segment_after x.1 last) xs))) ≡ None
       by true e rest = rest e
       by false e rest = absurd cc
 
 pub moving-decided : MovingIsDecided
 moving-decided mv m xs listed =
     let same : all_after mv None (map (λ x. x.1) xs) ≡ pieces_move mv (pieces m) = ap (all_after mv None) listed ∙ in-order mv None (single_pieces m) ∙ single-move mv (pieces m) in
-    (λ e. sym same ∙ none-true mv None xs e, λ e. true-none mv None xs (same ∙ e))
+    let found : first_stay mv (located_from None xs) ≡ first_unmoved mv xs = ap (first_stay mv) (walked xs) in
+    (λ e. sym same ∙ none-true mv None xs (found ∙ e), λ e. sym found ∙ true-none mv None xs (same ∙ e))
 
--- ---- what the code shows
-
-and-true : (b : Bool) → b ≡ (b && true)
-and-true true = refl
-and-true false = refl
-
-pub fixup-moves : (mv : Movers) (segment kind : ℕ) (f : PlainFixup) (last : Option ℕ) (b : Bool) → last ≡ Some segment → b ≡ moves_together mv segment (kind, f) → b ≡ moves_after mv last (Fixed kind (f ∷ []))
-fixup-moves mv segment kind f last b e h = h ∙ and-true (moves_together mv segment (kind, f)) ∙ sym (ap (λ o. moves_after mv o (Fixed kind (f ∷ []))) e)
-
-module _ (mv : Movers) (m : List Rec) (xs : List (Place × Piece)) (listed : map (λ x. x.1) xs ≡ single_pieces m) where
-  pub all-moved : (last : Option ℕ) (left : List (Place × Piece)) → left ≡ [] → first_unmoved mv last left ≡ first_unmoved mv None xs
-      → (◌≡◌ {A = Option Place} None None → pieces_move mv (pieces m) ≡ true) × (pieces_move mv (pieces m) ≡ true → ◌≡◌ {A = Option Place} None None)
-  all-moved last left e h =
-      let none : first_unmoved mv None xs ≡ None = sym h ∙ ap (first_unmoved mv last) e in
-      (λ _. (moving-decided mv m xs listed).0 none, λ _. refl)
-
-  pub one-stays : (last : Option ℕ) (x : Place × Piece) (left rest : List (Place × Piece)) (b : Bool) → left ≡ x ∷ rest → first_unmoved mv last left ≡ first_unmoved mv None xs
-      → b ≡ moves_after mv last x.1 → b ≡ false → (Some x.0 ≡ None → pieces_move mv (pieces m) ≡ true) × (pieces_move mv (pieces m) ≡ true → Some x.0 ≡ None)
-  one-stays last x left rest b e h f g =
-      let stays : moves_after mv last x.1 ≡ false = sym f ∙ g in
-      let here : first_unmoved mv None xs ≡ Some x.0 = sym h ∙ ap (first_unmoved mv last) e ∙ ap (λ b. cond b (first_unmoved mv (segment_after x.1 last) rest) (Some x.0)) stays in
-      (λ n. absurd cc, λ n. sym here ∙ (moving-decided mv m xs listed).1 n)
+pub decided-by : (mv : Movers) (m : List Rec) (xs : List (Place × Piece)) → map (λ x. x.1) xs ≡ single_pieces m → (o : Option Place) → o ≡ first_unmoved mv xs
+    → (o ≡ None) ↔ (pieces_move mv (pieces m) ≡ true)
+decided-by mv m xs listed o e = (λ n. (moving-decided mv m xs listed).0 (sym e ∙ n), λ t. e ∙ (moving-decided mv m xs listed).1 t)

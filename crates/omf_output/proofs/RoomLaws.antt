@@ -1,12 +1,14 @@
 -- The memory that segments take, one segment after the other.
-use Rattle.std.proofs.Common.{◌≡◌, ℕ, ◌+◌, ◌-◌, List, [], ◌∷◌, Bool, true, false, cond, map, max, min, refl, sym, ◌∙◌, ap}
-use Rattle.std.specs.Prelude.{Option, Some, None, filter, filter_map, fold, not, zip}
+use Rattle.std.proofs.Common.{◌≡◌, ℕ, ◌+◌, ◌⊎◌, ◌<◌, ◌≤◌, List, [], ◌∷◌, Bool, true, false, cond, map, max, min, refl, sym, ◌∙◌, ap, ⊎_elim, inl, inr, arith}
+use Rattle.std.specs.Prelude.{Option, Some, None, filter, filter_map, fold, not, sum_by, zip}
+use Rattle.std.proofs.Math.Nat.{min-eq_left, min-eq_right}
+use Rattle.std.proofs.lemmas.Bool.{cases_lt}
 use Rattle.std.proofs.lemmas.List.Sums.{fold-append}
 use Rattle.omf_records.specs.Values.{SegmentItem}
 use Rattle.omf_placement.specs.declared.frame.Placed.{Placed}
 use Rattle.omf_output.specs.declared.exe.room.Stack.{Stack}
 use Rattle.omf_output.specs.Inner.Rooms.{Room, no_room, with_portion, with_stack}
-use Rattle.omf_output.specs.Exe.Com.{without_stack}
+use Rattle.omf_output.specs.Exe.Com.{size_of, without_stack}
 use Rattle.omf_output.specs.Exe.Members.{Member, Portion, joined, portion, portions, portions_in}
 
 abbrev stack_then : Option Stack → List Portion → Option Stack
@@ -44,9 +46,27 @@ stack-fold room (p ∷ ps) = stack-fold (with_portion room p) ps ∙ by p.is_sta
     by false = refl
 
 abbrev stack_length : ℕ → Portion → ℕ
-stack_length n p = min (n + (p.end - p.place.address)) 65536
+stack_length n p = min (n + size_of p) 65536
 
-pub length-fold : (room : Room) (ps : List Portion) → (fold with_portion room ps).stack_len ≡ fold stack_length room.stack_len (filter (λ p. p.is_stack) ps)
+-- A sum that is cut at each step is the sum, cut once.
+cut-again : (a b c : ℕ) → min (min a c + b) c ≡ min (a + b) c
+cut-again a b c = ⊎_elim
+    (λ (h : a ≤ c). ap (λ x. min (x + b) c) (min-eq_left h))
+    (λ (h : c < a).
+    let under : c ≤ a = omega (arith, h) in
+    let one : c ≤ c + b = omega arith in
+    let both : c ≤ a + b = omega (arith, h) in
+    ap (λ x. min (x + b) c) (min-eq_right under) ∙ min-eq_right one ∙ sym (min-eq_right both))
+    (by_size a c)
+  where
+    by_size : (a c : ℕ) → (a ≤ c) ⊎ (c < a)
+    by_size a c = ⊎_elim (λ h. inr h) (λ h. inl h) (cases_lt c a)
+
+cut-sum : (a n : ℕ) (ps : List Portion) → a ≡ min n 65536 → fold stack_length a ps ≡ min (fold (λ s p. s + size_of p) n ps) 65536
+cut-sum a n [] e = e
+cut-sum a n (p ∷ ps) e = cut-sum (stack_length a p) (n + size_of p) ps (ap (λ x. min (x + size_of p) 65536) e ∙ cut-again n (size_of p) 65536)
+
+length-fold : (room : Room) (ps : List Portion) → (fold with_portion room ps).stack_len ≡ fold stack_length room.stack_len (filter (λ p. p.is_stack) ps)
 length-fold room [] = refl
 length-fold room (p ∷ ps) = length-fold (with_portion room p) ps ∙ by p.is_stack
   where
@@ -54,6 +74,9 @@ length-fold room (p ∷ ps) = length-fold (with_portion room p) ps ∙ by p.is_s
         ≡ fold stack_length room.stack_len (cond b (p ∷ filter (λ q. q.is_stack) ps) (filter (λ q. q.is_stack) ps))
     by true = refl
     by false = refl
+
+pub length-summed : (ps : List Portion) → (fold with_portion no_room ps).stack_len ≡ min (sum_by size_of (filter (λ p. p.is_stack) ps)) 65536
+length-summed ps = length-fold no_room ps ∙ cut-sum 0 0 (filter (λ p. p.is_stack) ps) refl
 
 -- One module more, and none.
 pub room-more : (m : Member) (rest ms : List Member) (room more whole : Room) → ms ≡ m ∷ rest → more ≡ fold with_portion room (portions_in m) → fold with_portion room (portions ms) ≡ whole

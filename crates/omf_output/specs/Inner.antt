@@ -4,3 +4,4 @@ pub mod Laying
 pub mod Owners
 pub mod Rooms
 pub mod Plans
+pub mod Walked

@@ -1,5 +1,6 @@
 pub mod Rom
 pub mod Exe
+pub mod Located
 pub mod Near
 pub mod Stacks
 pub mod Inner

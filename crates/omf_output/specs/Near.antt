@@ -14,8 +14,8 @@ use Rattle.omf_placement.specs.Placement.{Places, place_of}
 -- computed: threads_give_references and faults_are_walked of omf_reloc.
 use Rattle.omf_reloc.specs.Inner.Pieces.{placed_pieces}
 use Rattle.omf_reloc.specs.Offsets.{offsets}
-use Rattle.omf_reloc.specs.Plain.{Piece, Kept, Fixed, End, PlainFixup}
-use Rattle.omf_output.specs.Exe.Movable.{segment_after}
+use Rattle.omf_reloc.specs.Plain.{Piece, PlainFixup, fixups_in}
+use Rattle.omf_output.specs.Located.{Located, located}
 use Rattle.omf_output.specs.declared.near.Stray.{Stray}
 
 -- The members of a module's groups, in the order of the GRPDEFs: the index of the segment and the index of the group.
@@ -47,20 +47,16 @@ is_within f address base = is_some (slice_get (offsets 16 (8 * width f.0) addres
 abbrev pub strays : PlacedModule → ℕ → ℕ × PlainFixup → Bool
 strays m k f = is_near f.1 && option_map_or (λ p. not (list_any (is_within f p.address) (bases m k))) (place_of m.1 f.1.reference.target) false
 
--- A piece has such a fixup, of data in the segment of the last data record; and the place of the first that has.
-abbrev pub has_stray : PlacedModule → Option ℕ → Piece → Bool
-has_stray m last (Kept r) = false
-has_stray m None (Fixed kind fixups) = false
-has_stray m (Some k) (Fixed kind fixups) = list_any (strays m k) (map (λ f. (kind, f)) fixups)
-has_stray m last (End kind byte start) = false
+-- A piece has such a fixup; and the place of the first that has.
+abbrev pub has_stray : PlacedModule → Located → Bool
+has_stray m x = option_map_or (λ k. list_any (strays m k) (fixups_in x.piece)) x.segment false
 
-abbrev pub first_stray : PlacedModule → Option ℕ → List (Place × Piece) → Option Place
-first_stray m last [] = None
-first_stray m last (x ∷ xs) = if has_stray m last x.1 then Some x.0 else first_stray m (segment_after x.1 last) xs
+abbrev pub first_stray : PlacedModule → List (Place × Piece) → Option Place
+first_stray m ps = option_map (λ x. x.place) (find (has_stray m) (located ps))
 
 -- The first such fixup of modules at their placements, by the number of its module, from 0, and its place.
 abbrev pub stray_in : ℕ → Module → Places → Option Stray
-stray_in j m pl = option_map (λ p. record { «module» = j; place = p }) (first_stray (recs_of m.bytes, pl) None (placed_pieces (placed_from 0 0 (records_in m.bytes))))
+stray_in j m pl = option_map (λ p. record { «module» = j; place = p }) (first_stray (recs_of m.bytes, pl) (placed_pieces (placed_from 0 0 (records_in m.bytes))))
 
 abbrev pub near_from : ℕ → List Module → List Places → Option Stray
 near_from j [] pls = None

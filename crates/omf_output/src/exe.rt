@@ -27,6 +27,6 @@ pub use link::{ExeFile, link_exe};
 pub use member::Member;
 pub use movement::movers_of;
 pub use movers::{Movers, Moving};
-pub use moving::{movable, segment_after, site};
+pub use moving::{movable, site};
 pub use room::Stack;
 pub use words::{Words, WordsFault};

@@ -3,6 +3,7 @@
 #![tactic(auto)]
 
 pub mod exe;
+mod located;
 pub mod near;
 pub mod rom;
 pub mod stacks;

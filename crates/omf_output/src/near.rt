@@ -1,27 +1,25 @@
 //! Near references into another frame.
 
-ghost use Rattle.std.specs.Prelude.{◌≡◌, ◌==◌, ◌<◌, ◌^◌, ◌&&◌, [], IfOk, not, length, option_and_then, option_map, option_to_list, None};
+ghost use Rattle.std.specs.Prelude.{◌≡◌, ◌==◌, ◌<◌, ◌^◌, ◌&&◌, IfOk, not, length, option_and_then, option_map, option_to_list, None};
 ghost use Rattle.omf_check.specs.Listed.{placed_from};
 ghost use Rattle.omf_check.specs.Module.{recs_of, records_in};
 ghost use Rattle.omf_check.specs.Tables.{entry};
 ghost use Rattle.omf_placement.specs.Placement.{place_of};
 ghost use Rattle.omf_records.specs.Inner.Names.{location_number, self_relative_bits};
 ghost use Rattle.std.specs.List.{list_any};
-ghost use Rattle.omf_reloc.specs.Inner.PieceSeen.{piece_seen};
 ghost use Rattle.omf_reloc.specs.Inner.Pieces.{placed_pieces};
 ghost use Rattle.omf_reloc.specs.Inner.Widths.{fixupp_type};
-ghost use Rattle.omf_output.specs.Inner.Owners.{IsTable};
 ghost use Rattle.omf_output.specs.Near.{bases, first_near, first_stray, group_of, has_stray, is_near, is_within, stray_in, strays};
 
 mod owners;
 
-use crate::exe::segment_after;
-use crate::near::owners::{group_at, groups_of};
+use crate::located::{Located, located_of};
+use crate::near::owners::Owners;
 use omf_check::Checked;
 use omf_frame::{Place, Width};
 use omf_placement::Placement;
 use omf_records::LocationType;
-use omf_reloc::{Piece, PlainFixup, is_within, pieces_of};
+use omf_reloc::{Piece, PlainFixup, is_within};
 use std::alloc::{AllocError, Global};
 
 /// A near reference into another frame: the module, from 0, and the place of its fixup.
@@ -33,12 +31,11 @@ pub struct Stray {
     pub place: Place,
 }
 
-/// A module at its placement, with the group of each of its segments.
+/// A module with the groups of its segments, at its placement.
 #[derive(Clone, Copy)]
 struct Part<'a> {
-    module: &'a Checked,
+    owners: &'a Owners<'a>,
     placement: &'a Placement,
-    groups: &'a [u16],
 }
 
 /// Returns whether a self-relative offset at a location of this type has 16 bits.
@@ -85,18 +82,16 @@ fn own_base(part: &Part<'_>, segment: u16) -> Option<u32>
 
 /// Returns the base of the frame of a segment's group.
 fn group_base(part: &Part<'_>, segment: u16) -> Option<u32>
-    requires { IsTable (recs_of part.now.«module».now.bytes) [] part.now.groups.now }
-    ensures { result ≡ option_map (λ f. f.base) (option_and_then (λ g. entry part.now.placement.now.groups g) (group_of (recs_of part.now.«module».now.bytes) segment)) }
+    ensures { result ≡ option_map (λ f. f.base) (option_and_then (λ g. entry part.now.placement.now.groups g) (group_of (recs_of part.now.owners.now.bytes) segment)) }
 {
-    let group = group_at(part.module, part.groups, segment)?;
+    let group = part.owners.group_of(segment)?;
     let frame = part.placement.group(usize::from(group))?;
     Some(frame.base)
 }
 
 /// Returns whether the target of a fixup of data in a segment, at an address, is in a frame in which the code there may run.
 fn is_at_home(part: &Part<'_>, segment: u16, width: Width, fixup: &PlainFixup, address: u32) -> bool
-    requires { IsTable (recs_of part.now.«module».now.bytes) [] part.now.groups.now }
-    ensures { result ≡ list_any (is_within (fixupp_type width, fixup.now) address) (bases (recs_of part.now.«module».now.bytes, part.now.placement.now) segment) }
+    ensures { result ≡ list_any (is_within (fixupp_type width, fixup.now) address) (bases (recs_of part.now.owners.now.bytes, part.now.placement.now) segment) }
 {
     is_in(width, fixup, address, own_base(part, segment))
         || is_in(width, fixup, address, group_base(part, segment))
@@ -104,8 +99,7 @@ fn is_at_home(part: &Part<'_>, segment: u16, width: Width, fixup: &PlainFixup, a
 
 /// Returns whether a fixup of data in a segment is a near reference into another frame.
 fn strays(part: &Part<'_>, segment: u16, width: Width, fixup: &PlainFixup) -> bool
-    requires { IsTable (recs_of part.now.«module».now.bytes) [] part.now.groups.now }
-    ensures { result ≡ strays (recs_of part.now.«module».now.bytes, part.now.placement.now) segment (fixupp_type width, fixup.now) }
+    ensures { result ≡ strays (recs_of part.now.owners.now.bytes, part.now.placement.now) segment (fixupp_type width, fixup.now) }
 {
     if !is_near(fixup) {
         return false;
@@ -116,12 +110,11 @@ fn strays(part: &Part<'_>, segment: u16, width: Width, fixup: &PlainFixup) -> bo
     }
 }
 
-/// Returns whether a piece has such a fixup. `last` is the segment of the last data record before it.
-fn has_stray(part: &Part<'_>, last: Option<u16>, piece: &Piece<'_>) -> bool
-    requires { IsTable (recs_of part.now.«module».now.bytes) [] part.now.groups.now }
-    ensures { result ≡ has_stray (recs_of part.now.«module».now.bytes, part.now.placement.now) last (piece_seen piece.now) }
+/// Returns whether a piece has such a fixup.
+fn has_stray(part: &Part<'_>, located: &Located<'_>) -> bool
+    ensures { result ≡ has_stray (recs_of part.now.owners.now.bytes, part.now.placement.now) located.now }
 {
-    match (piece, last) {
+    match (&located.piece, located.segment) {
         (Piece::Fixed { width, fixup }, Some(segment)) => strays(part, segment, *width, fixup),
         (Piece::Fixed { .. } | Piece::Kept(_) | Piece::End { .. }, _) => false,
     }
@@ -129,15 +122,12 @@ fn has_stray(part: &Part<'_>, last: Option<u16>, piece: &Piece<'_>) -> bool
 
 /// Returns the place of a module's first such fixup.
 fn first_stray(part: &Part<'_>) -> Option<Place>
-    requires { IsTable (recs_of part.now.«module».now.bytes) [] part.now.groups.now }
-    ensures { result ≡ first_stray (recs_of part.now.«module».now.bytes, part.now.placement.now) None (placed_pieces (placed_from 0 0 (records_in part.now.«module».now.bytes))) }
+    ensures { result ≡ first_stray (recs_of part.now.owners.now.bytes, part.now.placement.now) (placed_pieces (placed_from 0 0 (records_in part.now.owners.now.bytes))) }
 {
-    let mut last = None;
-    for (place, piece) in pieces_of(part.module) {
-        if has_stray(part, last, &piece) {
-            return Some(place);
+    for located in located_of(part.owners.module()) {
+        if has_stray(part, &located) {
+            return Some(located.place);
         }
-        last = segment_after(&piece, last);
     }
     None
 }
@@ -151,11 +141,10 @@ fn stray_in(
 ) -> Result<Option<Stray>, AllocError>
     ensures { IfOk result (λ o. o ≡ stray_in number «module».now placement.now) }
 {
-    let groups = groups_of(alloc, module)?;
+    let owners = Owners::of(alloc, module)?;
     let part = Part {
-        module,
+        owners: &owners,
         placement,
-        groups: &groups,
     };
     match first_stray(&part) {
         Some(place) => Ok(Some(Stray {

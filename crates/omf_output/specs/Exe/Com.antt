@@ -1,8 +1,8 @@
 -- .COM programs of linked modules: the file, what DOS makes of it, and why modules have none (this profile's rule; the order of faults too).
-use Rattle.std.specs.Prelude.{◌≡◌, ◌⊎◌, ℕ, ◌+◌, ◌-◌, ◌*◌, ◌%◌, ◌==◌, ◌&&◌, List, [], ◌∷◌, ◌++◌, drop, filter, filter_map, find, fold, length, map, max, min, not, nat_lt, Bool, false, Option, Some, None, option_map, is_some, Result, Ok, Err, slice_get, take, if◌then◌else◌}
+use Rattle.std.specs.Prelude.{◌≡◌, ◌⊎◌, ℕ, ◌+◌, ◌-◌, ◌*◌, ◌%◌, ◌==◌, ◌&&◌, List, [], ◌∷◌, ◌++◌, drop, filter, filter_map, find, length, max, min, not, nat_lt, Bool, false, Option, Some, None, option_and_then, option_map, is_some, Result, Ok, Err, slice_get, sum_by, take, if◌then◌else◌}
 use Rattle.std.specs.Option.{option_map_or, option_or}
 use Rattle.omf_frame.specs.declared.fault.Place.{Place}
-use Rattle.omf_records.specs.Values.{Contents, Plain, Iterated, Rec, is_segment_relative, location_type, width}
+use Rattle.omf_records.specs.Values.{Contents, Plain, Iterated, Rec, is_segment_relative, width}
 -- computed: blocks_are_read and lengths_are_decided of omf_image.
 use Rattle.omf_image.specs.Inner.Expanding.{expanded}
 use Rattle.omf_image.specs.Limits.{profile_limits}
@@ -10,7 +10,7 @@ use Rattle.omf_check.specs.Listed.{placed_from}
 use Rattle.omf_check.specs.Module.{records_in}
 use Rattle.omf_placement.specs.declared.frame.Frame.{Frame}
 use Rattle.omf_placement.specs.Placement.{Places, frame_by}
-use Rattle.omf_reloc.specs.Plain.{Piece, Kept, Fixed, End, PlainFixup}
+use Rattle.omf_reloc.specs.Plain.{Piece, PlainFixup, fixups_in}
 use Rattle.omf_output.specs.declared.exe.com_fault.ComFault.{ComFault}
 use Rattle.omf_output.specs.declared.exe.com_fault.ComFault.TheVariants as fault
 use Rattle.omf_output.specs.declared.exe.fault.ExeFault.{ExeFault}
@@ -18,9 +18,9 @@ use Rattle.omf_output.specs.Exe.Linked.{linked, member_fault, one_start, placed,
 use Rattle.omf_output.specs.Exe.Loading.{Loaded}
 use Rattle.omf_output.specs.Exe.Members.{Member, Portion, all_moving, memory_end, portions}
 use Rattle.omf_output.specs.Exe.Memory.{all_chunks, data_end, segment_address}
-use Rattle.omf_output.specs.Exe.Movable.{segment_after}
 use Rattle.omf_output.specs.Exe.Moved.{Movers, frame_moves}
-use Rattle.omf_output.specs.Exe.Relocations.{site}
+use Rattle.omf_output.specs.Exe.Relocations.{is_base, site}
+use Rattle.omf_output.specs.Located.{Located, located}
 
 -- ---- the file
 
@@ -79,7 +79,7 @@ has_base frame = option_map_or (λ f. not (f.base == 0)) frame false
 
 abbrev pub counts_apart : Places → Movers → ℕ → PlainFixup → Bool
 counts_apart pl mv segment f =
-    is_segment_relative f.locat && not (location_type f.locat == 2)
+    is_segment_relative f.locat && not (is_base f.locat)
     && (frame_moves mv segment f.reference.target f.reference.frame && has_base (frame_by pl segment f.reference.target f.reference.frame))
 
 -- The fault of a fixup of data in a segment, at a place: a relocation word, or else such a frame.
@@ -88,20 +88,16 @@ fixup_fault m p segment f =
     if is_some (site m.movers segment f) then Some (fault.Words m.number p)
     else (if counts_apart m.places m.movers segment f.1 then Some (fault.Frame m.number p) else None)
 
--- The first fault of the fixups of a piece at a place, which belong to the data in the segment of the last data record; and the first of all pieces.
-abbrev pub piece_fault : Member → Place → Option ℕ → Piece → Option ComFault
-piece_fault m p last (Kept r) = None
-piece_fault m p None (Fixed kind fixups) = None
-piece_fault m p (Some segment) (Fixed kind fixups) = slice_get (filter_map (fixup_fault m p segment) (map (λ f. (kind, f)) fixups)) 0
-piece_fault m p last (End kind byte start) = None
+-- The first fault of the fixups of a piece, and of those of all pieces.
+abbrev pub piece_fault : Member → Located → Option ComFault
+piece_fault m x = option_and_then (λ segment. slice_get (filter_map (fixup_fault m x.place segment) (fixups_in x.piece)) 0) x.segment
 
-abbrev pub first_fixup : Member → Option ℕ → List (Place × Piece) → Option ComFault
-first_fixup m last [] = None
-first_fixup m last (x ∷ xs) = option_or (piece_fault m x.0 last x.1) (first_fixup m (segment_after x.1 last) xs)
+abbrev pub first_fixup : Member → List (Place × Piece) → Option ComFault
+first_fixup m ps = slice_get (filter_map (piece_fault m) (located ps)) 0
 
 -- The fault of a module alone: data below 100H, or else that of its first fixup with one.
 abbrev pub part_fault : Member → Option ComFault
-part_fault m = option_or (option_map (λ p. fault.Low m.number p) (first_low m.places (placed_from 0 0 (records_in m.bytes)))) (first_fixup m None (placed m))
+part_fault m = option_or (option_map (λ p. fault.Low m.number p) (first_low m.places (placed_from 0 0 (records_in m.bytes)))) (first_fixup m (placed m))
 
 -- The first address after the prefix, the data and the segments. The segments of the stack do not count: DOS sets SS:SP to the end of the program's segment.
 abbrev pub without_stack : List Portion → List Portion
@@ -110,9 +106,13 @@ without_stack ps = filter (λ p. not p.is_stack) ps
 abbrev pub com_end : List Member → ℕ
 com_end ms = max 256 (max (data_end (all_chunks (all_moving ms))) (memory_end (without_stack (portions ms))))
 
+-- The bytes of a segment.
+abbrev pub size_of : Portion → ℕ
+size_of p = p.end - p.place.address
+
 -- The bytes that the stack needs: those of its segments together, and 256 at least. More than 65,536 count as 65,536.
 abbrev pub stack_bytes : List Portion → ℕ
-stack_bytes ps = max 256 (fold (λ n p. min (n + (p.end - p.place.address)) 65536) 0 (filter (λ p. p.is_stack) ps))
+stack_bytes ps = max 256 (min (sum_by size_of (filter (λ p. p.is_stack) ps)) 65536)
 
 -- The program and its stack end before offset FFFEH.
 abbrev pub long_fault : List Member → Option ComFault

@@ -79,7 +79,7 @@ movers_fault m = if has_its_movers m then None else Some (fault.Movers m.number)
 abbrev pub member_fault : Member → Option ExeFault
 member_fault m =
     or_else (option_map (λ f. fault.Reach m.number f) (reach_fault m.places (recs_of m.bytes)))
-    (or_else (movers_fault m) (option_map (λ p. fault.Stays m.number p) (first_unmoved m.movers None (placed m))))
+    (or_else (movers_fault m) (option_map (λ p. fault.Stays m.number p) (first_unmoved m.movers (placed m))))
 
 -- The image ends by 2^20, and so do the segments.
 abbrev pub high_faults : List Member → List ExeFault

@@ -11,6 +11,10 @@ use Rattle.omf_reloc.specs.Plain.{PlainFixup}
 use Rattle.omf_reloc.specs.Laws.{location_end}
 use Rattle.omf_output.specs.Exe.Moved.{Movers, moves, frame_moves, target_moves}
 
+-- Whether a location is a base (TIS OMF 1.1, "FIXUPP", LOCATION: type 2), which holds a selector alone.
+abbrev pub is_base : ℕ → Bool
+is_base locat = location_type locat == 2
+
 -- Whether a fixup of data in a segment moves with the program. A base holds the frame's selector alone. Any other offset in a frame needs the target to
 -- move where the frame does; and a self-relative offset needs the data to move with both.
 abbrev pub moves_together : Movers → ℕ → ℕ × PlainFixup → Bool
@@ -19,7 +23,7 @@ moves_together mv segment f =
     let frame = frame_moves mv segment r.target r.frame in
     let target = target_moves mv r.target in
     if is_segment_relative f.1.locat
-    then (location_type f.1.locat == 2) || same frame target
+    then is_base f.1.locat || same frame target
     else same frame target && same frame (moves mv.segments segment)
 
 -- Where the selector is in a location (TIS OMF 1.1, "FIXUPP", LOCATION): alone in a base, after the offset in a pointer; the others have none.

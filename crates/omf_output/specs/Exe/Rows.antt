@@ -1,6 +1,6 @@
 -- Words of the worked examples.
 use Rattle.std.specs.Prelude.{ℕ, ◌+◌, List, [], ◌∷◌, ◌++◌, true, false, Some, None}
-use Rattle.omf_records.specs.Values.{At, Rec, Segment, Group, Plain, Fixups, ModEnd, Fixup, SegmentItem}
+use Rattle.omf_records.specs.Values.{At, Rec, Segment, Group, Plain, Iterated, Fixups, ModEnd, Fixup, SegmentItem}
 use Rattle.omf_check.specs.declared.method.FrameMethod.{FrameMethod}
 use Rattle.omf_check.specs.declared.method.TargetMethod.{TargetMethod}
 use Rattle.omf_placement.specs.declared.frame.Placed.{Placed}
@@ -88,6 +88,20 @@ abbrev pub base_under_offset : List Piece
 base_under_offset =
     Kept (record { kind = 0xA0; contents = Plain (record { segment = at 3 1; offset = at 4 0; bytes = 0xB8 ∷ 0 ∷ 0 ∷ 0xCB ∷ [] }) })
     ∷ Fixed 0x9C ((fixup 0xC801 F5 (T0 1)).1 ∷ [])
+    ∷ Fixed 0x9C ((fixup 0xC402 F5 (T0 1)).1 ∷ [])
+    ∷ []
+
+-- Data of segment 2, with a near reference to segment 1.
+abbrev pub near_to_1 : List Piece
+near_to_1 = Kept (record { kind = 0xA0; contents = Plain (record { segment = at 3 2; offset = at 4 0; bytes = 0xE8 ∷ 0 ∷ 0 ∷ [] }) }) ∷ Fixed 0x9C ((fixup 0x8401 F5 (T0 1)).1 ∷ []) ∷ []
+
+-- A fixup without data before it; data of segment 1 with two fixups; blocks of segment 2, a SEGDEF, and a fixup of the blocks.
+abbrev pub data_and_fixups : List Piece
+data_and_fixups =
+    Fixed 0x9C ((fixup 0xC402 F5 (T0 2)).1 ∷ [])
+    ∷ base_under_offset
+    ++ Kept (record { kind = 0xA2; contents = Iterated (record { segment = at 3 2; offset = at 4 0; bytes = [] }) })
+    ∷ Kept (record { kind = 0x98; contents = Segment segment_of_4 })
     ∷ Fixed 0x9C ((fixup 0xC402 F5 (T0 1)).1 ∷ [])
     ∷ []
 

@@ -3,20 +3,21 @@
 ghost use Rattle.std.specs.Prelude.{◌≡◌, ◌==◌, ◌&&◌, ℕ, ◌+◌, None, All, filter_map, not, slice_get};
 ghost use Rattle.omf_check.specs.Listed.{placed_from};
 ghost use Rattle.omf_check.specs.Module.{records_in};
-ghost use Rattle.omf_reloc.specs.Inner.PieceSeen.{piece_seen};
-ghost use Rattle.omf_records.specs.Values.{is_segment_relative, location_type};
+ghost use Rattle.omf_records.specs.Values.{is_segment_relative};
 ghost use Rattle.omf_output.specs.Exe.Com.{counts_apart, first_fixup, first_low, fixup_fault, has_base, has_low_data, part_fault, piece_fault};
 ghost use Rattle.omf_output.specs.Exe.Linked.{placed};
+ghost use Rattle.omf_output.specs.Exe.Relocations.{is_base};
 ghost use Rattle.omf_output.specs.Inner.Laying.{CanEnd};
 
 use crate::exe::com_fault::ComFault;
 use crate::exe::laying::{extent_of, segment_address};
 use crate::exe::member::Member;
-use crate::exe::moving::{is_base, segment_after, site};
+use crate::exe::moving::{is_base, site};
+use crate::located::{Located, located_of};
 use omf_check::{Checked, Undecoded};
 use omf_frame::Place;
 use omf_placement::{Frame, Placement};
-use omf_reloc::{Piece, PlainFixup, pieces_of};
+use omf_reloc::{Piece, PlainFixup};
 
 /// Whether a record has a byte of data below 100H. No record without data is decoded.
 fn has_low_data(placement: &Placement, rec: &Undecoded<'_>) -> bool
@@ -46,7 +47,7 @@ fn first_low(module: &Checked, placement: &Placement) -> Option<Place>
 
 /// Whether a fixup adds an offset in a frame: it is segment-relative, and no base (TIS OMF 1.1, "FIXUPP", LOCATION).
 fn has_offset(fixup: &PlainFixup) -> bool
-    ensures { result ≡ (is_segment_relative fixup.now.locat && not (location_type fixup.now.locat == 2)) }
+    ensures { result ≡ (is_segment_relative fixup.now.locat && not (is_base fixup.now.locat)) }
 {
     fixup.location.is_segment_relative() && !is_base(fixup.location.location_type())
 }
@@ -96,31 +97,26 @@ fn fixup_fault(
     None
 }
 
-/// The fault of a piece at a place. `last` is the segment of the last data record before it; without one there is none.
-fn piece_fault(
-    member: &Member<'_>,
-    place: Place,
-    last: Option<u16>,
-    piece: &Piece<'_>,
-) -> Option<ComFault>
-    ensures { result ≡ piece_fault member.now place last (piece_seen piece.now) }
+/// The fault of a piece. A fixup without data before it has none.
+fn piece_fault(member: &Member<'_>, located: &Located<'_>) -> Option<ComFault>
+    ensures { result ≡ piece_fault member.now located.now }
 {
-    match piece {
-        Piece::Fixed { fixup, .. } => fixup_fault(member, place, last?, fixup),
+    match &located.piece {
+        Piece::Fixed { fixup, .. } => {
+            fixup_fault(member, located.place, located.segment?, fixup)
+        }
         Piece::Kept(_) | Piece::End { .. } => None,
     }
 }
 
 /// The fault of a module's first fixup that has one.
 fn first_fixup(member: &Member<'_>) -> Option<ComFault>
-    ensures { result ≡ first_fixup member.now None (placed member.now) }
+    ensures { result ≡ first_fixup member.now (placed member.now) }
 {
-    let mut last = None;
-    for (place, piece) in pieces_of(member.module) {
-        if let Some(fault) = piece_fault(member, place, last, &piece) {
+    for located in located_of(member.module) {
+        if let Some(fault) = piece_fault(member, &located) {
             return Some(fault);
         }
-        last = segment_after(&piece, last);
     }
     None
 }

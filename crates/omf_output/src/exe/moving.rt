@@ -1,24 +1,25 @@
 //! Whether a module moves with a program, and its relocation words.
 
-ghost use Rattle.std.specs.Prelude.{◌≡◌, ◌↔◌, ◌∷◌, [], ℕ, ◌==◌, true, None, Some, if◌then◌else◌};
-ghost use Rattle.std.specs.List.{list_all};
+ghost use Rattle.std.specs.Prelude.{◌≡◌, ◌↔◌, ℕ, ◌==◌, true, None};
+ghost use Rattle.std.specs.Option.{option_map_or};
 ghost use Rattle.omf_check.specs.Listed.{placed_from};
 ghost use Rattle.omf_check.specs.Module.{recs_of, records_in};
 ghost use Rattle.omf_records.specs.Inner.Names.{location_number};
 ghost use Rattle.omf_reloc.specs.Additions.{type_of_number};
-ghost use Rattle.omf_reloc.specs.Inner.PieceSeen.{piece_seen};
 ghost use Rattle.omf_reloc.specs.Inner.Pieces.{placed_pieces};
 ghost use Rattle.omf_reloc.specs.Inner.Widths.{fixupp_type};
-ghost use Rattle.omf_reloc.specs.Plain.{Fixed, pieces};
+ghost use Rattle.omf_reloc.specs.Plain.{data_contents, pieces};
 ghost use Rattle.omf_output.specs.Exe.Judged.{pieces_move, start_moves};
-ghost use Rattle.omf_output.specs.Exe.Movable.{data_segment, first_unmoved, moves_after, segment_after, segment_moves};
+ghost use Rattle.omf_output.specs.Exe.Movable.{first_unmoved, located_moves};
+ghost use Rattle.omf_output.specs.Exe.Moved.{moves};
 ghost use Rattle.omf_output.specs.Exe.Relocations.{moves_together, selector_at, site};
 
 use crate::exe::movers::Movers;
-use omf_check::{Checked, Data, Undecoded};
+use crate::located::{Located, located_of, segment_of};
+use omf_check::{Checked, Undecoded};
 use omf_frame::{Place, Width};
 use omf_records::LocationType;
-use omf_reloc::{Piece, PlainFixup, PlainReference, pieces_of};
+use omf_reloc::{Piece, PlainFixup, PlainReference};
 
 /// Whether a location has this type: a base, which holds a selector alone.
 pub(crate) fn is_base(kind: LocationType) -> bool
@@ -97,90 +98,47 @@ fn start_moves(movers: &Movers, start: &Option<PlainReference>) -> bool
     }
 }
 
-/// The segment of the last data record, up to and including this record. No record without data is decoded.
-fn data_segment(rec: &Undecoded<'_>, last: Option<u16>) -> Option<u16>
-    ensures { result ≡ data_segment rec.now.contents last }
+/// Whether a record moves: a data record if its segment does.
+fn record_moves(movers: &Movers, rec: &Undecoded<'_>) -> bool
+    ensures { result ≡ option_map_or (λ d. moves movers.now.segments d.segment.item) (data_contents rec.now.contents) true }
 {
-    let Some(data) = rec.as_data() else {
-        return last;
-    };
-    match &data {
-        Data::Plain { segment, .. } => Some(segment.item.0),
-        Data::Iterated { segment, .. } => Some(segment.item.0),
-    }
-}
-
-/// The segment of the last data record, up to and including this piece; `last` is that before it.
-pub fn segment_after(piece: &Piece<'_>, last: Option<u16>) -> Option<u16>
-    ensures { result ≡ segment_after (piece_seen piece.now) last }
-{
-    match piece {
-        Piece::Kept(rec) => data_segment(rec, last),
-        Piece::Fixed { .. } | Piece::End { .. } => last,
-    }
-}
-
-/// The segment of the last data record, up to and including this record; `None` if it has data of a segment that does not move.
-fn record_moves(movers: &Movers, last: Option<u16>, rec: &Undecoded<'_>) -> Option<Option<u16>>
-    ensures { result ≡ (if segment_moves movers.now rec.now.contents then Some (data_segment rec.now.contents last) else None) }
-{
-    match data_segment(rec, None) {
-        Some(segment) => {
-            if movers.segment_moves(usize::from(segment)) {
-                Some(Some(segment))
-            } else {
-                None
-            }
-        }
-        None => Some(last),
-    }
-}
-
-/// Whether a fixup of the last data record moves. `last` is the segment of that record; without one, nothing is to move.
-fn fixup_moves(movers: &Movers, last: Option<u16>, width: Width, fixup: &PlainFixup) -> bool
-    ensures { result ≡ moves_after movers.now last (Fixed (fixupp_type width) (fixup.now ∷ [])) }
-{
-    match last {
-        Some(segment) => moves_together(movers, segment, width, fixup),
+    match segment_of(rec) {
+        Some(segment) => movers.segment_moves(usize::from(segment)),
         None => true,
     }
 }
 
-/// The segment of the last data record, up to and including this piece; `None` if the piece does not move. `last` is that before it.
-fn moved_past(movers: &Movers, last: Option<u16>, piece: &Piece<'_>) -> Option<Option<u16>>
-    ensures { result ≡ (if moves_after movers.now last (piece_seen piece.now) then Some (segment_after (piece_seen piece.now) last) else None) }
+/// Whether a piece moves. A fixup without data before it does.
+fn located_moves(movers: &Movers, located: &Located<'_>) -> bool
+    ensures { result ≡ located_moves movers.now located.now }
 {
-    match piece {
-        Piece::Kept(rec) => record_moves(movers, last, rec),
-        Piece::Fixed { width, fixup } => {
-            if fixup_moves(movers, last, *width, fixup) {
-                Some(last)
-            } else {
-                None
-            }
+    match (&located.piece, located.segment) {
+        (Piece::Kept(rec), _) => record_moves(movers, rec),
+        (Piece::Fixed { width, fixup }, Some(segment)) => {
+            moves_together(movers, segment, *width, fixup)
         }
-        Piece::End { start, .. } => {
-            if start_moves(movers, start) {
-                Some(last)
-            } else {
-                None
-            }
+        (Piece::Fixed { .. }, None) => true,
+        (Piece::End { start, .. }, _) => start_moves(movers, start),
+    }
+}
+
+/// The place of the first piece of a module that does not move.
+fn first_unmoved(module: &Checked, movers: &Movers) -> Option<Place>
+    ensures { result ≡ first_unmoved movers.now (placed_pieces (placed_from 0 0 (records_in «module».now.bytes))) }
+{
+    for located in located_of(module) {
+        if !located_moves(movers, &located) {
+            return Some(located.place);
         }
     }
+    None
 }
 
 /// The place of the first part of a module that does not move with the program: a data record of a segment that stays; a fixup of which the
 /// frame moves and the target does not, or the reverse, or whose data do not move with both; a start that stays. `None` if all move.
 pub fn movable(module: &Checked, movers: &Movers) -> Option<Place>
-    ensures first { result ≡ first_unmoved movers.now None (placed_pieces (placed_from 0 0 (records_in «module».now.bytes))) }
+    ensures first { result ≡ first_unmoved movers.now (placed_pieces (placed_from 0 0 (records_in «module».now.bytes))) }
     ensures decided { (result ≡ None) ↔ (pieces_move movers.now (pieces (recs_of «module».now.bytes)) ≡ true) }
 {
-    let mut last = None;
-    for (place, piece) in pieces_of(module) {
-        match moved_past(movers, last, &piece) {
-            Some(segment) => last = segment,
-            None => return Some(place),
-        }
-    }
-    None
+    first_unmoved(module, movers)
 }

@@ -1,20 +1,22 @@
 //! Worked examples, each evaluated by the check.
 
-ghost use Rattle.std.specs.Prelude.{◌≡◌, [], ◌∷◌, ◌++◌, length, Some, None, Ok, Err, true, false};
+ghost use Rattle.std.specs.Prelude.{◌≡◌, [], ◌∷◌, ◌++◌, drop, length, map, Some, None, Ok, Err, true, false};
 ghost use Rattle.std.specs.List.{repeat};
 ghost use Rattle.omf_check.specs.Threads.{F0, T0};
 ghost use Rattle.omf_check.specs.declared.method.FrameMethod.TheVariants.{Target as F5};
 ghost use Rattle.omf_reloc.specs.Image.{start};
 ghost use Rattle.omf_output.specs.declared.exe.com_fault.ComFault.TheVariants as com_fault;
-ghost use Rattle.omf_output.specs.Exe.Com.{com_loaded, counts_apart, first_fixup, first_low, is_low, stack_bytes, start_fault};
+ghost use Rattle.omf_output.specs.Exe.Com.{com_loaded, counts_apart, first_fixup, first_low, is_low, piece_fault, stack_bytes, start_fault};
 ghost use Rattle.omf_output.specs.Exe.Exe.{exe};
 ghost use Rattle.omf_output.specs.Exe.Memory.{IsProgram, program};
 ghost use Rattle.omf_output.specs.Exe.Judged.{pieces_move};
 ghost use Rattle.omf_reloc.specs.Plain.{Fixed, pieces};
 ghost use Rattle.omf_output.specs.Exe.Loading.{loaded};
 ghost use Rattle.omf_output.specs.Exe.Moved.{moved};
-ghost use Rattle.omf_output.specs.Exe.Rows.{at_0, base_under_offset, both_move, file, fixup, in_a_group, loads_its_segment, member_0, numbered, numbered_records, one_of_two, place, stack_portion, two_apart, two_apart_grouped, two_segments};
-ghost use Rattle.omf_output.specs.Near.{group_of, strays};
+ghost use Rattle.omf_output.specs.Exe.Rows.{at_0, base_under_offset, both_move, data_and_fixups, file, fixup, in_a_group, loads_its_segment, member_0, near_to_1, numbered, numbered_records, one_of_two, place, stack_portion, two_apart, two_apart_grouped, two_segments};
+ghost use Rattle.omf_output.specs.Near.{first_stray, group_of, strays};
+ghost use Rattle.omf_output.specs.Exe.Movable.{first_unmoved};
+ghost use Rattle.omf_output.specs.Located.{located};
 ghost use Rattle.omf_output.specs.Exe.Overlaps.{all_words};
 ghost use Rattle.omf_reloc.specs.Inner.Pieces.{single_pieces};
 ghost use Rattle.omf_output.specs.Exe.Relocations.{moves_together, sites};
@@ -84,6 +86,7 @@ pub fn stack_of_a_com_program()
     ensures small { stack_bytes (stack_portion 0x100 16 ∷ []) ≡ 256 }
     ensures two { stack_bytes (stack_portion 0x100 512 ∷ stack_portion 0x300 1024 ∷ []) ≡ 1536 }
     ensures large { stack_bytes (stack_portion 0 65536 ∷ stack_portion 0 65536 ∷ []) ≡ 65536 }
+    ensures one_over { stack_bytes (stack_portion 0 65535 ∷ stack_portion 0 2 ∷ stack_portion 0 1 ∷ []) ≡ 65536 }
 {}
 
 /// A near reference of a location in segment 2, at 40H, to segment 1, at 0, is into another frame, unless a group has both; the reverse is not. A far
@@ -98,6 +101,23 @@ pub fn near_references()
     ensures alone { group_of two_segments 2 ≡ None }
 {}
 
+/// A fixup is in the data of the last LEDATA or LIDATA before it, whatever records are between. So a near reference to segment 1 is in segment 2, which is
+/// in another frame.
+pub fn segments_of_fixups()
+    ensures segments { map (λ x. x.segment) (located (numbered 0 data_and_fixups)) ≡ None ∷ None ∷ Some 1 ∷ Some 1 ∷ Some 1 ∷ Some 2 ∷ Some 2 ∷ [] }
+    ensures stray { first_stray (two_segments, two_apart) (numbered 0 near_to_1) ≡ Some (place 1) }
+    ensures grouped { first_stray (in_a_group, two_apart_grouped) (numbered 0 near_to_1) ≡ None }
+    ensures without_data { first_stray (two_segments, two_apart) (numbered 0 (drop 1 near_to_1)) ≡ None }
+{}
+
+/// The first piece that does not move: blocks of a segment that stays; before them, a far pointer whose frame moves and whose target does not. A fixup
+/// without data before it is none.
+pub fn first_pieces_that_stay()
+    ensures none { first_unmoved both_move (numbered 0 data_and_fixups) ≡ None }
+    ensures blocks { first_unmoved one_of_two (numbered 0 data_and_fixups) ≡ Some (place 4) }
+    ensures pointer { first_unmoved one_of_two (numbered 0 (base_under_offset ++ Fixed 0x9C ((fixup 0xCC00 (F0 1) (T0 2)).1 ∷ []) ∷ data_and_fixups)) ≡ Some (place 3) }
+{}
+
 /// What no .COM program has: a start that is not at 0:100H; a byte below 100H, as the data of the module that loads its own segment, which is
 /// its second record; a relocation word, as that of its first fixup, its third piece. A record without bytes is not below 100H, and an offset has no
 /// relocation word.
@@ -108,8 +128,8 @@ pub fn what_no_com_file_has()
     ensures first_byte { is_low 256 1 ≡ false }
     ensures no_byte { is_low 0 0 ≡ false }
     ensures data { first_low at_0.places (numbered_records 0 loads_its_segment) ≡ Some (place 1) }
-    ensures word { first_fixup member_0 None (numbered 0 (single_pieces loads_its_segment)) ≡ Some (com_fault.Words 0 (place 2)) }
-    ensures no_word { first_fixup member_0 (Some 1) ((place 0, Fixed 0x9C ((fixup 0xC402 F5 (T0 1)).1 ∷ [])) ∷ []) ≡ None }
+    ensures word { first_fixup member_0 (numbered 0 (single_pieces loads_its_segment)) ≡ Some (com_fault.Words 0 (place 2)) }
+    ensures no_word { piece_fault member_0 (record { place = place 0; segment = Some 1; piece = Fixed 0x9C ((fixup 0xC402 F5 (T0 1)).1 ∷ []) }) ≡ None }
     ensures apart { counts_apart two_apart both_move 1 (fixup 0xC402 F5 (T0 2)).1 ≡ true }
     ensures own { counts_apart two_apart both_move 1 (fixup 0xC402 F5 (T0 1)).1 ≡ false }
     ensures stays { counts_apart two_apart one_of_two 1 (fixup 0xC402 F5 (T0 2)).1 ≡ false }

@@ -11,6 +11,7 @@ ghost use Rattle.omf_output.specs.Near.{group_of, members_of, memberships};
 use omf_check::Checked;
 use omf_records::{Items, Member, Rec};
 use std::alloc::{AllocError, Global};
+use std::marker::Model;
 
 /// Notes the group of a segment, unless it has one.
 fn note(table: &mut Vec<u16>, segment: u16, group: u16)
@@ -81,7 +82,7 @@ fn blank(alloc: Global, module: &Checked) -> Result<Vec<u16>, AllocError>
 }
 
 /// Returns the group of a segment, by the table of a module.
-pub(crate) fn group_at(module: &Checked, table: &[u16], segment: u16) -> Option<u16>
+fn group_at(module: &Checked, table: &[u16], segment: u16) -> Option<u16>
     requires { IsTable (recs_of «module».now.bytes) [] table.now }
     ensures { result ≡ group_of (recs_of «module».now.bytes) segment }
 {
@@ -97,7 +98,7 @@ pub(crate) fn group_at(module: &Checked, table: &[u16], segment: u16) -> Option<
 }
 
 /// Returns the group of each segment of a module: the first that has it, or 0.
-pub(crate) fn groups_of(alloc: Global, module: &Checked) -> Result<Vec<u16>, AllocError>
+fn groups_of(alloc: Global, module: &Checked) -> Result<Vec<u16>, AllocError>
     ensures { IfOk result (λ v. IsTable (recs_of «module».now.bytes) [] v.items) }
 {
     let mut table = blank(alloc, module)?;
@@ -105,4 +106,48 @@ pub(crate) fn groups_of(alloc: Global, module: &Checked) -> Result<Vec<u16>, All
         note_group(&mut table, module, before + 1);
     }
     Ok(table)
+}
+
+/// A module with the group of each of its segments.
+#[derive(Drop)]
+pub(crate) struct Owners<'a> {
+    module: &'a Checked,
+    /// For each segment the index of the first group that has it, or 0.
+    groups: Vec<u16>,
+}
+
+impl<'a> Model for Owners<'a> {
+    ghost use Rattle.std.specs.Prelude.{[]};
+    ghost use Rattle.omf_check.specs.Module.{Module, recs_of};
+    ghost use Rattle.omf_output.specs.Inner.Owners.{IsTable};
+
+    ghost Value = { Module };
+
+    ghost view = { λ o. o.«module».now };
+
+    ghost invariant = { λ o. IsTable (recs_of o.«module».now.bytes) [] o.groups.items };
+}
+
+impl<'a> Owners<'a> {
+    /// Finds the groups of a module's segments.
+    pub(crate) fn of(alloc: Global, module: &'a Checked) -> Result<Owners<'a>, AllocError>
+        ensures { IfOk result (λ o. o ≡ «module».entry.now) }
+    {
+        let groups = groups_of(alloc, module)?;
+        Ok(Owners { module, groups })
+    }
+
+    /// Returns the module.
+    pub(crate) fn module(&self) -> &'a Checked
+        ensures { result.now ≡ self.now }
+    {
+        self.module
+    }
+
+    /// Returns the group of a segment.
+    pub(crate) fn group_of(&self, segment: u16) -> Option<u16>
+        ensures { result ≡ group_of (recs_of self.now.bytes) segment }
+    {
+        group_at(self.module, &self.groups, segment)
+    }
 }
