@@ -25,7 +25,8 @@ members_of g = map (λ x. (x.item.item, g.0)) g.1.members
 abbrev pub memberships : List Rec → List (ℕ × ℕ)
 memberships m = flat_map members_of (enumerate_from 1 (groups m))
 
--- The group of a segment: the first that has it.
+-- The group of a segment: the first of its own module that has it. A group of another module does not count, even if it has a part of the same combined
+-- segment.
 abbrev pub group_of : List Rec → ℕ → Option ℕ
 group_of m k = option_and_then (λ s. option_map (λ x. x.1) (find (λ x. x.0 == k) (memberships m))) (entry (segments m) k)
 

@@ -156,7 +156,8 @@ fn stray_in(
 }
 
 /// Returns the first self-relative fixup of 16 bits, in the order of the modules and of their fixups, whose target has no 16-bit offset in the
-/// frame of the segment of its location, nor in the frame of the first group that has this segment. A near call or jump there leads elsewhere.
+/// frame of the segment of its location, nor in the frame of the first group of its module that has this segment. A near call or jump there leads
+/// elsewhere, unless the code runs in the frame of a group that only another module gives the combined segment.
 ///
 /// # Errors
 ///
