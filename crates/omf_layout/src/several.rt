@@ -12,6 +12,8 @@ pub mod rows;
 pub(crate) mod runs;
 
 pub use arranging::arrange;
+pub use gathering::gather;
 pub use laying::Lying;
 pub use placing::place_segments;
-pub use portion::{Combination, Portion};
+pub use portion::{Classed, Combination, Portion, portions_of};
+pub use runs::{combined_by, runs_in};
