@@ -49,9 +49,9 @@ fn map_of(
 struct MadeProgram {
     bytes: Vec<u8>,
     map: Option<Vec<u8>>,
-    repeated: String,
-    long: String,
-    near: String,
+    repeated: Option<String>,
+    long: Option<String>,
+    near: Option<String>,
     lacks_stack: bool,
 }
 
@@ -132,12 +132,9 @@ fn made(
 
 /// Prints the warnings of a program on the standard error.
 fn warn(rt: &HostRuntime, made: &MadeProgram) {
-    for lines in [
-        made.repeated.as_str(),
-        made.long.as_str(),
-        made.near.as_str(),
-    ] {
-        if !lines.is_empty() {
+    for lines in [&made.repeated, &made.long, &made.near] {
+        if let Some(lines) = lines {
+            let lines = lines.as_str();
             let _ = eprint!(rt; "{lines}");
         }
     }

@@ -22,6 +22,8 @@ pub mod SeenLaws
 pub mod ExeLaws
 pub mod UnresolvedLaws
 pub mod RepeatedLaws
+pub mod TwiceLaws
+pub mod RefusingLaws
 pub mod TakenLaws
 pub mod InputLaws
 pub mod OverlapLaws

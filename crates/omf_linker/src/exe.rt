@@ -11,6 +11,7 @@ mod joining;
 mod lines;
 mod listing;
 mod making;
+mod memory;
 mod options;
 mod ordering;
 mod program;

@@ -1,18 +1,25 @@
 //! Why there is no program: refusals of files, of communals, and of the module for DOS order.
 
+ghost use Rattle.std.specs.Prelude.{◌≡◌, false, true};
+ghost use Rattle.omf_linker.specs.Exe.Refusing.{IsRefusalFor, is_input_memory, is_library_memory, is_link_memory, is_ordering_memory, is_out_of_memory, is_sharing_memory};
+
 use crate::exe::input::InputFault;
 use crate::exe::lines::{library_line, ordering_line, sharing_line};
+use crate::exe::memory::{
+    is_library_memory, is_link_memory, is_ordering_memory, is_sharing_memory,
+};
 use crate::exe::ordering::OrderingFault;
 use crate::exe::refusal::Refusal;
 use crate::exe::sharing::SharingFault;
 use crate::link::{FilesFault, ImageFault, InputFile, file_front};
-use omf_layout::own::{CommunalsFault, OrderFault};
 use omf_library::LibraryFault;
 use omf_linking::LinkFault;
 use std::alloc::{AllocError, Global};
 
 /// Out of memory.
-pub(crate) fn memory() -> Refusal {
+pub(crate) fn memory() -> Refusal
+    ensures { is_out_of_memory result ≡ true }
+{
     Refusal::Files(FilesFault::Link(ImageFault::Link(LinkFault::Memory)))
 }
 
@@ -24,8 +31,23 @@ pub(crate) fn in_line(line: Result<Vec<u8>, AllocError>) -> Refusal {
     }
 }
 
+/// The refusal of a file that begins with F0H and is no library.
+fn of_library(alloc: Global, files: &[InputFile], file: usize, fault: LibraryFault) -> Refusal
+    ensures { IsRefusalFor (is_library_memory fault ≡ false) result }
+{
+    if is_library_memory(fault) {
+        return memory();
+    }
+    in_line(library_line(alloc, files, file, fault))
+}
+
 /// The refusal of a file that does not hold modules and padding alone.
-fn of_modules(alloc: Global, files: &[InputFile], file: usize, fault: LinkFault) -> Refusal {
+fn of_modules(alloc: Global, files: &[InputFile], file: usize, fault: LinkFault) -> Refusal
+    ensures { IsRefusalFor (is_link_memory fault ≡ false) result }
+{
+    if is_link_memory(fault) {
+        return memory();
+    }
     let Some(input) = files.get(file) else {
         return memory();
     };
@@ -36,27 +58,32 @@ fn of_modules(alloc: Global, files: &[InputFile], file: usize, fault: LinkFault)
 }
 
 /// The refusal of files that are not read.
-pub(crate) fn of_input(alloc: Global, files: &[InputFile], fault: InputFault) -> Refusal {
+pub(crate) fn of_input(alloc: Global, files: &[InputFile], fault: InputFault) -> Refusal
+    ensures { IsRefusalFor (is_input_memory fault ≡ false) result }
+{
     match fault {
         InputFault::Memory => memory(),
-        InputFault::Library(_, LibraryFault::Memory) => memory(),
-        InputFault::Library(file, fault) => in_line(library_line(alloc, files, file, fault)),
+        InputFault::Library(file, fault) => of_library(alloc, files, file, fault),
         InputFault::Modules(file, fault) => of_modules(alloc, files, file, fault),
     }
 }
 
 /// The refusal of communals that are not shared.
-pub(crate) fn of_sharing(alloc: Global, fault: &SharingFault<'_>) -> Refusal {
-    match fault {
-        SharingFault::Communals(CommunalsFault::Memory) => memory(),
-        _ => in_line(sharing_line(alloc, fault)),
+pub(crate) fn of_sharing(alloc: Global, fault: &SharingFault<'_>) -> Refusal
+    ensures { IsRefusalFor (is_sharing_memory fault.now ≡ false) result }
+{
+    if is_sharing_memory(fault) {
+        return memory();
     }
+    in_line(sharing_line(alloc, fault))
 }
 
 /// The refusal of modules that are not put in DOS order.
-pub(crate) fn of_ordering(alloc: Global, fault: OrderingFault) -> Refusal {
-    match fault {
-        OrderingFault::Order(OrderFault::Memory) => memory(),
-        _ => in_line(ordering_line(alloc, fault)),
+pub(crate) fn of_ordering(alloc: Global, fault: OrderingFault) -> Refusal
+    ensures { IsRefusalFor (is_ordering_memory fault ≡ false) result }
+{
+    if is_ordering_memory(fault) {
+        return memory();
     }
+    in_line(ordering_line(alloc, fault))
 }

@@ -1,5 +1,8 @@
 //! Lines of faults of programs, by the names of files, modules and segments.
 
+ghost use Rattle.std.specs.Prelude.{IfOk, IfSome, is_some, string_bytes};
+ghost use Rattle.omf_linker.specs.Exe.Refusing.{AreTwiceLines, HaveNamesTwice};
+
 use crate::exe::fault::{ComProgramFault, PlacingFault, ProgramFault};
 use crate::exe::input::Origin;
 use crate::exe::ordering::OrderingFault;
@@ -94,17 +97,22 @@ impl<'a> Origins<'a> {
         Ok(labels)
     }
 
-    /// The lines of the names that more than one public has, in ascending order. Out of memory if there are 2^32 modules or more.
-    pub(crate) fn repeated_lines(&self, alloc: Global) -> Result<String, AllocError> {
+    /// The lines of the names that more than one public has, in ascending order; none if there are no such names. Out of memory if there are
+    /// 2^32 modules or more.
+    pub(crate) fn repeated_lines(&self, alloc: Global) -> Result<Option<String>, AllocError>
+        ensures found { IfOk result (λ lines. HaveNamesTwice self.now.modules.now (is_some lines)) }
+        ensures lines { IfOk result (λ lines. IfSome lines (λ text. AreTwiceLines self.now.modules.now (string_bytes text))) }
+    {
         if self.modules.len() > u32::MAX as usize {
             return Err(AllocError);
         }
         let numbered = repeated_text(alloc, &[], self.modules)?;
         if numbered.is_empty() {
-            return Ok(numbered);
+            return Ok(None);
         }
         let labels = self.labels(alloc)?;
-        repeated_text(alloc, &labels, self.modules)
+        let lines = repeated_text(alloc, &labels, self.modules)?;
+        Ok(Some(lines))
     }
 
     /// The line of a segment, or of a member of a group, that ends too far from its frame.

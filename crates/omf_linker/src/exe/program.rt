@@ -1,14 +1,16 @@
 //! The modules of a program, and what is made of them: its file and its map.
 
-ghost use Rattle.std.specs.Prelude.{◌≡◌, ◌++◌, ℕ, IfOk, List, None, false, string_bytes};
+ghost use Rattle.std.specs.Prelude.{◌≡◌, ◌++◌, ℕ, IfErr, IfOk, IfSome, List, None, Some, false, is_some, map, string_bytes, true};
 ghost use Rattle.omf_linking.specs.File.{InputFile as FileModel};
 ghost use Rattle.std.specs.List.{AllZip};
 ghost use Rattle.omf_check.specs.Module.{Module};
 ghost use Rattle.omf_linking.specs.Folded.{IsFolded};
 ghost use Rattle.omf_linker.specs.Exe.Adding.{AreAdded};
 ghost use Rattle.omf_linker.specs.Exe.Input.{AllGive, AreOfFiles, AreOfFolded};
+ghost use Rattle.omf_linker.specs.Exe.Libraries.{sought};
 ghost use Rattle.omf_linker.specs.Exe.Ordering.{AreOrdered};
 ghost use Rattle.omf_linker.specs.Exe.Program.{IsBetweenOf, IsComOf, IsLongOf, IsMapOf, IsNearOf, IsProgramOf};
+ghost use Rattle.omf_linker.specs.Exe.Refusing.{AreNoComProgram, AreNoProgram, AreNotAdded, AreNotOrdered, AreNotShared, AreTwiceLines, AreUnplaced, Finds, GiveNoModules, HaveNamesTwice, IsNotAllowed, IsRefusalFor, is_com_memory, is_memory, is_out_of_memory, is_placing_memory};
 ghost use Rattle.omf_linker.specs.Exe.Sharing.{AreShared};
 
 use crate::exe::added::{is_dos_ordered, stack_of};
@@ -22,6 +24,7 @@ use crate::exe::listing::modules_text;
 use crate::exe::making::{
     between_of, com_linked, long_of, map_linked, near_linked, program_linked,
 };
+use crate::exe::memory::{is_com_memory, is_memory, is_placing_memory};
 use crate::exe::options::ExeOptions;
 use crate::exe::ordering::{order_of, with_front};
 use crate::exe::refusal::Refusal;
@@ -82,7 +85,8 @@ fn all_of(alloc: Global, input: Input) -> Result<ProgramModules, AllocError>
 ///
 /// The fault of `shared_module`.
 pub fn share_communals(alloc: Global, modules: Vec<Checked>) -> Result<Vec<Checked>, Refusal>
-    ensures { IfOk result (λ v. AreShared modules.items v.items) }
+    ensures shared { IfOk result (λ v. AreShared modules.items v.items) }
+    ensures refused { IfErr result (IsRefusalFor (AreNotShared modules.items)) }
 {
     let added = match shared_module(alloc, &modules) {
         Ok(added) => added,
@@ -100,7 +104,8 @@ pub fn share_communals(alloc: Global, modules: Vec<Checked>) -> Result<Vec<Check
 ///
 /// The fault of `order_of`; out of memory also if there are 2^32 modules or more.
 pub fn order_modules(alloc: Global, modules: Vec<Checked>) -> Result<Vec<Checked>, Refusal>
-    ensures { IfOk result (λ v. AreOrdered modules.items v.items) }
+    ensures ordered { IfOk result (λ v. AreOrdered modules.items v.items) }
+    ensures refused { IfErr result (IsRefusalFor (AreNotOrdered modules.items)) }
 {
     if modules.len() > u32::MAX as usize {
         return Err(memory());
@@ -115,13 +120,26 @@ pub fn order_modules(alloc: Global, modules: Vec<Checked>) -> Result<Vec<Checked
     }
 }
 
-/// Lines that are allowed; else the refusal with them.
-fn allowed(lines: Result<String, AllocError>, is_allowed: bool) -> Result<String, Refusal>
-    ensures { is_allowed ≡ false → IfOk result (λ _. ⊥) }
+/// Lines, if they are allowed; else the refusal with them.
+fn shown(lines: String, is_allowed: bool) -> Result<Option<String>, Refusal>
+    ensures same { IfOk result (λ shown. shown ≡ Some lines) }
+    ensures allowed { IfOk result (λ _. is_allowed ≡ true) }
+    ensures refused { IfErr result (IsRefusalFor (is_allowed ≡ false)) }
+{
+    if is_allowed {
+        return Ok(Some(lines));
+    }
+    Err(Refusal::Line(lines.into_bytes()))
+}
+
+/// The same of lines for which there may be no memory.
+fn allowed(lines: Result<String, AllocError>, is_allowed: bool) -> Result<Option<String>, Refusal>
+    ensures some { IfOk result (λ lines. is_some lines ≡ true) }
+    ensures allowed { IfOk result (λ _. is_allowed ≡ true) }
+    ensures refused { IfErr result (IsRefusalFor (is_allowed ≡ false)) }
 {
     match lines {
-        Ok(lines) if is_allowed => Ok(lines),
-        Ok(lines) => Err(Refusal::Line(lines.into_bytes())),
+        Ok(lines) => shown(lines, is_allowed),
         Err(AllocError) => Err(memory()),
     }
 }
@@ -142,7 +160,8 @@ impl ProgramModules {
     ///
     /// The first file that is not read; or out of memory.
     pub fn of(alloc: Global, files: &[InputFile]) -> Result<ProgramModules, Refusal>
-        ensures { IfOk result (λ p. AreOfFiles files.now p.modules) }
+        ensures modules { IfOk result (λ p. AreOfFiles files.now p.modules) }
+        ensures refused { IfErr result (IsRefusalFor (GiveNoModules files.now)) }
     {
         let input = match Input::of(alloc, files) {
             Ok(input) => input,
@@ -160,7 +179,8 @@ impl ProgramModules {
     ///
     /// The first file that is not read; or out of memory.
     pub fn folded(alloc: Global, files: &[InputFile]) -> Result<ProgramModules, Refusal>
-        ensures { IfOk result (λ p. AreOfFolded files.now p.modules) }
+        ensures modules { IfOk result (λ p. AreOfFolded files.now p.modules) }
+        ensures refused { IfErr result (IsRefusalFor (GiveNoModules files.now)) }
     {
         let input = match Input::of(alloc, files) {
             Ok(input) => input,
@@ -177,7 +197,8 @@ impl ProgramModules {
 
     /// The modules, and before them the module that puts them in DOS order.
     fn in_dos_order(self, alloc: Global) -> Result<ProgramModules, Refusal>
-        ensures { IfOk result (λ p. AreOrdered self.modules p.modules) }
+        ensures ordered { IfOk result (λ p. AreOrdered self.modules p.modules) }
+        ensures refused { IfErr result (IsRefusalFor (AreNotOrdered self.modules)) }
     {
         let ProgramModules { modules, from } = self;
         let modules = order_modules(alloc, modules)?;
@@ -198,7 +219,8 @@ impl ProgramModules {
         alloc: Global,
         options: &ExeOptions<'_>,
     ) -> Result<ProgramModules, Refusal>
-        ensures { IfOk result (λ p. AreAdded options.now.stack options.now.order self.modules p.modules) }
+        ensures added { IfOk result (λ p. AreAdded options.now.stack options.now.order self.modules p.modules) }
+        ensures refused { IfErr result (IsRefusalFor (AreNotAdded options.now.stack options.now.order self.modules)) }
     {
         let ProgramModules { modules, from } = self;
         let shared = share_communals(alloc, modules)?;
@@ -222,12 +244,16 @@ impl ProgramModules {
     /// # Errors
     ///
     /// `AllocError` if memory runs out.
-    pub fn sought(&self, alloc: Global, known: &[Vec<u8>]) -> Result<Vec<Vec<u8>>, AllocError> {
+    pub fn sought(&self, alloc: Global, known: &[Vec<u8>]) -> Result<Vec<Vec<u8>>, AllocError>
+        ensures { IfOk result (λ v. map (λ n. n.items) v.items ≡ sought (map (λ k. k.items) known.now) self.now.modules) }
+    {
         sought(alloc, &self.modules, known)
     }
 
     /// The modules with the files that they come from.
-    fn origins<'a>(&'a self, files: &'a [InputFile]) -> Origins<'a> {
+    fn origins<'a>(&'a self, files: &'a [InputFile]) -> Origins<'a>
+        ensures { result.modules.now ≡ self.entry.now.modules }
+    {
         Origins {
             files,
             modules: &self.modules,
@@ -236,28 +262,40 @@ impl ProgramModules {
     }
 
     /// The refusal of modules that are no program.
-    fn refused(&self, alloc: Global, files: &[InputFile], fault: ProgramFault) -> Refusal {
+    fn refused(&self, alloc: Global, files: &[InputFile], fault: ProgramFault) -> Refusal
+        ensures { IsRefusalFor (is_memory fault ≡ false) result }
+    {
+        if is_memory(fault) {
+            return memory();
+        }
         let lines = self.origins(files).line_of(alloc, fault);
         match fault {
-            ProgramFault::Memory => memory(),
             ProgramFault::External(DeriveFault::Undefined { .. }) => undefined(lines),
-            ProgramFault::NoRoom | ProgramFault::External(_) | ProgramFault::Exe(_) => {
-                in_line(lines)
-            }
+            _ => in_line(lines),
         }
     }
 
     /// The refusal of modules that are no .COM program.
-    fn com_refused(&self, alloc: Global, files: &[InputFile], fault: ComProgramFault) -> Refusal {
+    fn com_refused(&self, alloc: Global, files: &[InputFile], fault: ComProgramFault) -> Refusal
+        ensures { IsRefusalFor (is_com_memory fault ≡ false) result }
+    {
+        if is_com_memory(fault) {
+            return memory();
+        }
         let lines = self.origins(files).com_line_of(alloc, fault);
         match fault {
-            ComProgramFault::Placing(PlacingFault::Memory) => memory(),
-            ComProgramFault::Modules(ComFault::Memory) => memory(),
             ComProgramFault::Placing(PlacingFault::External(DeriveFault::Undefined { .. })) => {
                 undefined(lines)
             }
-            ComProgramFault::Placing(_) | ComProgramFault::Modules(_) => in_line(lines),
+            _ => in_line(lines),
         }
+    }
+
+    /// The refusal of modules that have no places.
+    fn unplaced(&self, alloc: Global, files: &[InputFile], fault: PlacingFault) -> Refusal
+        ensures { IsRefusalFor (is_placing_memory fault ≡ false) result }
+    {
+        self.com_refused(alloc, files, ComProgramFault::Placing(fault))
     }
 
     /// The modules with what their externals refer to.
@@ -266,7 +304,8 @@ impl ProgramModules {
     ///
     /// Out of memory.
     pub fn linked(&self, alloc: Global) -> Result<LinkedModules<'_>, Refusal>
-        ensures { IfOk result (λ l. l ≡ self.entry.now) }
+        ensures same { IfOk result (λ l. l ≡ self.entry.now) }
+        ensures refused { IfErr result (λ r. is_out_of_memory r ≡ true) }
     {
         match Linkage::of(alloc, &self.modules) {
             Ok(linkage) => Ok(LinkedModules {
@@ -304,7 +343,8 @@ impl<'a> LinkedModules<'a> {
     ///
     /// The fault of `program_linked`, as lines.
     pub fn exe(&self, alloc: Global, files: &[InputFile]) -> Result<ExeFile, Refusal>
-        ensures { IfOk result (λ e. IsProgramOf self.now.modules e.bytes.items e.has_stack) }
+        ensures program { IfOk result (λ e. IsProgramOf self.now.modules e.bytes.items e.has_stack) }
+        ensures refused { IfErr result (IsRefusalFor (AreNoProgram self.now.modules)) }
     {
         let program = self.program;
         if program.modules.len() > u32::MAX as usize {
@@ -322,7 +362,8 @@ impl<'a> LinkedModules<'a> {
     ///
     /// The fault of `com_linked`, as lines.
     pub fn com(&self, alloc: Global, files: &[InputFile]) -> Result<Vec<u8>, Refusal>
-        ensures { IfOk result (λ v. IsComOf self.now.modules v.items) }
+        ensures program { IfOk result (λ v. IsComOf self.now.modules v.items) }
+        ensures refused { IfErr result (IsRefusalFor (AreNoComProgram self.now.modules)) }
     {
         let program = self.program;
         if program.modules.len() > u32::MAX as usize {
@@ -334,8 +375,8 @@ impl<'a> LinkedModules<'a> {
         }
     }
 
-    /// The lines of the names that more than one public of the modules has, in ascending order; empty if there are none. A program without a
-    /// fault has no external of these names. They are looked for only where names repeat.
+    /// The lines of the names that more than one public of the modules has, in ascending order; none if there are no such names. A program
+    /// without a fault has no external of these names. They are looked for only where names repeat.
     ///
     /// # Errors
     ///
@@ -345,20 +386,27 @@ impl<'a> LinkedModules<'a> {
         alloc: Global,
         files: &[InputFile],
         is_allowed: bool,
-    ) -> Result<String, Refusal> {
+    ) -> Result<Option<String>, Refusal>
+        ensures found { IfOk result (λ lines. HaveNamesTwice self.now.modules (is_some lines)) }
+        ensures lines { IfOk result (λ lines. IfSome lines (λ text. AreTwiceLines self.now.modules (string_bytes text))) }
+        ensures strict { is_allowed ≡ false → IfOk result (λ lines. is_some lines ≡ false) }
+        ensures refused { IfErr result (IsRefusalFor ((is_allowed ≡ false) × HaveNamesTwice self.now.modules true)) }
+    {
+        let program = self.program;
         if !self.linkage.repeats() {
-            return Ok(String::new(alloc));
+            return Ok(None);
         }
-        let Ok(lines) = self.program.origins(files).repeated_lines(alloc) else {
-            return Err(memory());
+        let found = match program.origins(files).repeated_lines(alloc) {
+            Ok(found) => found,
+            Err(AllocError) => return Err(memory()),
         };
-        if lines.is_empty() {
-            return Ok(lines);
+        match found {
+            Some(lines) => shown(lines, is_allowed),
+            None => Ok(None),
         }
-        allowed(Ok(lines), is_allowed)
     }
 
-    /// The line of the first segment, or else of the first member of a group, that ends more than 65,536 bytes after the base of its frame; empty
+    /// The line of the first segment, or else of the first member of a group, that ends more than 65,536 bytes after the base of its frame; none
     /// if there is none. No 16-bit offset reaches its end.
     ///
     /// # Errors
@@ -369,8 +417,10 @@ impl<'a> LinkedModules<'a> {
         alloc: Global,
         files: &[InputFile],
         is_allowed: bool,
-    ) -> Result<String, Refusal>
-        ensures { is_allowed ≡ false → IfOk result (λ _. IsLongOf self.now.modules None) }
+    ) -> Result<Option<String>, Refusal>
+        ensures found { IfOk result (λ line. Finds (IsLongOf self.now.modules) (is_some line)) }
+        ensures strict { is_allowed ≡ false → IfOk result (λ line. is_some line ≡ false) }
+        ensures refused { IfErr result (IsRefusalFor (IsNotAllowed (IsLongOf self.now.modules) is_allowed self.now.modules)) }
     {
         let program = self.program;
         if program.modules.len() > u32::MAX as usize {
@@ -378,13 +428,11 @@ impl<'a> LinkedModules<'a> {
         }
         let found = match long_of(alloc, &program.modules) {
             Ok(found) => found,
-            Err(fault) => {
-                return Err(program.com_refused(alloc, files, ComProgramFault::Placing(fault)));
-            }
+            Err(fault) => return Err(program.unplaced(alloc, files, fault)),
         };
         match found {
             Some(far) => allowed(program.origins(files).long_line(alloc, far), is_allowed),
-            None => Ok(String::new(alloc)),
+            None => Ok(None),
         }
     }
 
@@ -394,7 +442,8 @@ impl<'a> LinkedModules<'a> {
     ///
     /// The line of the first such segment; the fault of `between_of`; or out of memory.
     pub fn stack_is_alone(&self, alloc: Global, files: &[InputFile]) -> Result<(), Refusal>
-        ensures { IfOk result (λ _. IsBetweenOf self.now.modules None) }
+        ensures alone { IfOk result (λ _. IsBetweenOf self.now.modules None) }
+        ensures refused { IfErr result (IsRefusalFor (IsNotAllowed (IsBetweenOf self.now.modules) false self.now.modules)) }
     {
         let program = self.program;
         if program.modules.len() > u32::MAX as usize {
@@ -403,13 +452,11 @@ impl<'a> LinkedModules<'a> {
         match between_of(alloc, &program.modules) {
             Ok(None) => Ok(()),
             Ok(Some(found)) => Err(in_line(program.origins(files).stack_line(alloc, found))),
-            Err(fault) => {
-                Err(program.com_refused(alloc, files, ComProgramFault::Placing(fault)))
-            }
+            Err(fault) => Err(program.unplaced(alloc, files, fault)),
         }
     }
 
-    /// The line of the first near reference into another frame; empty if there is none.
+    /// The line of the first near reference into another frame; none if there is none.
     ///
     /// # Errors
     ///
@@ -419,8 +466,10 @@ impl<'a> LinkedModules<'a> {
         alloc: Global,
         files: &[InputFile],
         is_allowed: bool,
-    ) -> Result<String, Refusal>
-        ensures { is_allowed ≡ false → IfOk result (λ _. IsNearOf self.now.modules None) }
+    ) -> Result<Option<String>, Refusal>
+        ensures found { IfOk result (λ line. Finds (IsNearOf self.now.modules) (is_some line)) }
+        ensures strict { is_allowed ≡ false → IfOk result (λ line. is_some line ≡ false) }
+        ensures refused { IfErr result (IsRefusalFor (IsNotAllowed (IsNearOf self.now.modules) is_allowed self.now.modules)) }
     {
         let program = self.program;
         if program.modules.len() > u32::MAX as usize {
@@ -428,13 +477,11 @@ impl<'a> LinkedModules<'a> {
         }
         let found = match near_linked(alloc, &self.linkage, &program.modules) {
             Ok(found) => found,
-            Err(fault) => {
-                return Err(program.com_refused(alloc, files, ComProgramFault::Placing(fault)));
-            }
+            Err(fault) => return Err(program.unplaced(alloc, files, fault)),
         };
         match found {
             Some(stray) => allowed(program.origins(files).near_line(alloc, stray), is_allowed),
-            None => Ok(String::new(alloc)),
+            None => Ok(None),
         }
     }
 
@@ -444,7 +491,8 @@ impl<'a> LinkedModules<'a> {
     ///
     /// The fault of `map_linked`, as lines.
     pub fn map(&self, alloc: Global, files: &[InputFile]) -> Result<Vec<u8>, Refusal>
-        ensures { IfOk result (λ v. (front : List ℕ) × (text : List ℕ) × (v.items ≡ front ++ text) × IsMapOf self.now.modules text) }
+        ensures map { IfOk result (λ v. (front : List ℕ) × (text : List ℕ) × (v.items ≡ front ++ text) × IsMapOf self.now.modules text) }
+        ensures refused { IfErr result (IsRefusalFor (AreUnplaced self.now.modules)) }
     {
         let program = self.program;
         if program.modules.len() > u32::MAX as usize {
@@ -452,9 +500,7 @@ impl<'a> LinkedModules<'a> {
         }
         let map = match map_linked(alloc, &self.linkage, &program.modules) {
             Ok(map) => map,
-            Err(fault) => {
-                return Err(program.com_refused(alloc, files, ComProgramFault::Placing(fault)));
-            }
+            Err(fault) => return Err(program.unplaced(alloc, files, fault)),
         };
         match self.listed(alloc, files, map.as_str()) {
             Ok(text) => Ok(text.into_bytes()),

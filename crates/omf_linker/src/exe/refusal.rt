@@ -1,5 +1,10 @@
 //! Why files are no program, as a line.
 
+ghost use Rattle.std.specs.Prelude.{◌≡◌};
+ghost use Rattle.omf_cmd.specs.Runs.{IsWritten};
+ghost use Rattle.omf_host.specs.Ending.{exit_code};
+ghost use Rattle.omf_linker.specs.Exe.Refusing.{refusal_report};
+
 use crate::link::FilesFault;
 use omf_cmd::{Fault, tell};
 use omf_frame::Sink;
@@ -18,7 +23,9 @@ pub enum Refusal {
 
 impl Refusal {
     /// How the program ends: `Refused`, or `Failed` if memory ran out.
-    pub fn status(&self) -> Status {
+    pub fn status(&self) -> Status
+        ensures { exit_code result ≡ (refusal_report self.now).status }
+    {
         match self {
             Refusal::Files(fault) => Status::of_code(fault.status()),
             Refusal::Undefined(_) | Refusal::Line(_) => Status::Refused,
@@ -26,7 +33,9 @@ impl Refusal {
     }
 
     /// Prints the line. A failing writer is ignored.
-    pub fn print<K: Sink>(&self, writer: &mut K) {
+    pub fn print<K: Sink>(&self, writer: &mut K)
+        ensures { IsWritten (K.seen writer.old) (K.seen writer.new) (refusal_report self.now).text }
+    {
         match self {
             Refusal::Files(fault) => fault.print(writer),
             Refusal::Undefined(line) | Refusal::Line(line) => tell(writer, line),

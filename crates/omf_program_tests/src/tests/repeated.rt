@@ -160,7 +160,7 @@ fn linked(
     case: &Case,
     files: &[InputFile],
     is_allowed: bool,
-) -> Result<(Vec<u8>, String), Refusal> {
+) -> Result<(Vec<u8>, Option<String>), Refusal> {
     let modules = if case.ignores_case {
         ProgramModules::folded(alloc, files)?
     } else {
@@ -192,6 +192,14 @@ fn is_program(alloc: Global, case: &Case, bytes: &[u8]) -> bool {
     }
 }
 
+/// Whether lines are these; no lines if these are empty.
+fn are_lines(lines: Option<&String>, wanted: &str) -> bool {
+    match lines {
+        Some(lines) => !wanted.is_empty() && lines.as_str() == wanted,
+        None => wanted.is_empty(),
+    }
+}
+
 /// Whether a case is refused with its lines; if it has none, whether it gives its program.
 fn is_refused(alloc: Global, case: &Case) -> bool {
     let Some(files) = files_of(alloc, case) else {
@@ -199,7 +207,7 @@ fn is_refused(alloc: Global, case: &Case) -> bool {
     };
     match linked(alloc, case, &files, false) {
         Ok((bytes, lines)) => {
-            case.lines.is_empty() && lines.is_empty() && is_program(alloc, case, &bytes)
+            case.lines.is_empty() && lines.is_none() && is_program(alloc, case, &bytes)
         }
         Err(refusal) => !case.lines.is_empty() && is_refusal(alloc, &refusal, case.lines),
     }
@@ -211,7 +219,9 @@ fn is_allowed(alloc: Global, case: &Case) -> bool {
         return false;
     };
     match linked(alloc, case, &files, true) {
-        Ok((bytes, lines)) => lines.as_str() == case.lines && is_program(alloc, case, &bytes),
+        Ok((bytes, lines)) => {
+            are_lines(lines.as_ref(), case.lines) && is_program(alloc, case, &bytes)
+        }
         Err(refusal) => case.program.is_empty() && is_refusal(alloc, &refusal, case.lines),
     }
 }
