@@ -125,7 +125,7 @@ fn put_fault(
         MakeFault::LongSearches => {
             shown.refuse(output, "the searches for its names would be too long")?
         }
-        MakeFault::Refused { .. } | MakeFault::Unlike => {
+        MakeFault::Refused { .. } | MakeFault::Rest { .. } | MakeFault::Unlike => {
             shown.refuse(output, "not read back as it was made")?
         }
     }

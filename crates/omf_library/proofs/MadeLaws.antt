@@ -1,7 +1,14 @@
 -- What is read back of a library.
-use Rattle.std.proofs.Common.{◌≡◌, ℕ, zero, suc, Bool, true, false, cond, List, [], ◌∷◌, drop, take, subst, inr}
+use Rattle.std.proofs.Common.{◌≡◌, ℕ, zero, suc, Bool, true, false, cond, List, [], ◌∷◌, drop, take, sym, ap, ◌∙◌, subst, inr}
+use Rattle.std.specs.Prelude.{Some, slice_get}
 use Rattle.std.specs.Bool.{OnTrue}
-use Rattle.omf_library.specs.Made.{HasName, HasStrong, IsDefinedAt, Opened}
+use Rattle.omf_check.specs.declared.profile.Profile.{Profile}
+use Rattle.omf_library.specs.Inner.Making.{IsLaid, IsPartFault}
+use Rattle.omf_library.specs.Library.{IsLibrary, header_of, page_size}
+use Rattle.omf_library.specs.Made.{AreParts, AreSoundEntries, HasName, HasStrong, IsDefinedAt, IsMade, IsMakeFault, Opened, dictionary_at, is_case_sensitive, opened}
+use Rattle.omf_library.specs.declared.header.Header.{Header}
+use Rattle.omf_library.specs.declared.making.MakeFault.{MakeFault}
+use Rattle.omf_library.specs.declared.making.MakeFault.TheVariants as fault
 use Rattle.omf_library.specs.declared.making.Part.{Part}
 use Rattle.omf_library.specs.declared.member.Member.{Member}
 use Rattle.omf_library.specs.declared.names.Defined.{Defined}
@@ -32,3 +39,41 @@ defined_more o zero ms ps name page h = h
 defined_more o (suc n) [] ps name page h = h
 defined_more o (suc n) (m ∷ ms) [] name page h = no_part_defines o (drop n ms) name page h
 defined_more o (suc n) (m ∷ ms) (p ∷ ps) name page h = inr (defined_more o n ms ps name page h)
+
+-- What is read back and looked at is a library that was made.
+abbrev read : List ℕ → List Part → ℕ → Bool → List ℕ → List Member → Opened
+read bytes parts page sensitive dictionary members = record { bytes = bytes; page = page; is_case_sensitive = sensitive; dictionary = dictionary; members = members; parts = parts }
+
+pub made_is : (profile : Profile) (sensitive : Bool) (parts : List Part) (bytes : List ℕ) (members seen : List Member) (end : ℕ) (h : Header) (db : List ℕ) (ds : Bool) → IsLibrary profile bytes members end → h ≡ header_of bytes
+    → db ≡ dictionary_at h bytes → ds ≡ is_case_sensitive h → seen ≡ members → IsLaid h sensitive bytes end → AreParts (read bytes parts h.page ds db seen) seen parts → AreSoundEntries (read bytes parts h.page ds db seen)
+    → IsMade profile sensitive parts bytes
+made_is profile sensitive parts bytes members seen end h db ds library e d s m l are only =
+    let dictionary : db ≡ dictionary_at (header_of bytes) bytes = d ∙ ap (λ x. dictionary_at x bytes) e in
+    let case : ds ≡ is_case_sensitive (header_of bytes) = s ∙ ap is_case_sensitive e in
+    let page : h.page ≡ page_size bytes = ap (λ (x : Header). x.page) e in
+    let same : read bytes parts h.page ds db seen ≡ opened bytes members parts
+    = ap (λ p. read bytes parts p ds db seen) page ∙ ap (λ b. read bytes parts (page_size bytes) b db seen) case
+    ∙ ap (λ x. read bytes parts (page_size bytes) (is_case_sensitive (header_of bytes)) x seen) dictionary
+    ∙ ap (λ x. read bytes parts (page_size bytes) (is_case_sensitive (header_of bytes)) (dictionary_at (header_of bytes) bytes) x) m in
+    let laid : IsLaid (header_of bytes) sensitive bytes end = subst (λ x. IsLaid x sensitive bytes end) e l in
+    record {
+      members = members;
+      end = end;
+      library = library;
+      flags = laid.flags;
+      after = laid.after;
+      last = laid.last;
+      prime = laid.prime;
+      only = subst AreSoundEntries same only;
+      same = subst (λ x. AreParts x members parts) same (subst (λ ms. AreParts (read bytes parts h.page ds db seen) ms parts) m are);
+    }
+
+-- A fault of a part is one of the parts.
+pub part_fault : (profile : Profile) (sensitive : Bool) (parts : List Part) (number : ℕ) (part : Part) (f : MakeFault) → slice_get parts number ≡ Some part → IsPartFault profile part number f → IsMakeFault profile sensitive parts f
+part_fault profile sensitive parts number part fault.Memory here h = tt
+part_fault profile sensitive parts number part (fault.Refused n why at) here h = record { part = part; part_is = ap (slice_get parts) h.0 ∙ here; refused = h.1 }
+part_fault profile sensitive parts number part (fault.Rest n) here h = record { part = part; part_is = ap (slice_get parts) h.0 ∙ here; found = h.1; checked = h.2; longer = h.3 }
+part_fault profile sensitive parts number part (fault.Twice first second name) here h = absurd h
+part_fault profile sensitive parts number part fault.TooLarge here h = absurd h
+part_fault profile sensitive parts number part fault.LongSearches here h = absurd h
+part_fault profile sensitive parts number part fault.Unlike here h = absurd h

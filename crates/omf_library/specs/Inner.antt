@@ -4,3 +4,4 @@ pub mod Modules
 pub mod Names
 pub mod Search
 pub mod Walk
+pub mod Making

@@ -1,10 +1,17 @@
 -- Libraries that are made: their members are the modules that were given, and both searches find each name.
-use Rattle.std.specs.Prelude.{◌≡◌, ◌⊎◌, ⊤, ℕ, ◌+◌, ◌*◌, ◌/◌, ◌%◌, ◌<◌, ◌≤◌, ◌==◌, if◌then◌else◌, Bool, true, List, [], ◌∷◌, length, drop, take, Option, Some, MatchOption}
+use Rattle.std.specs.Prelude.{◌≡◌, ◌≢◌, ◌⊎◌, ⊤, ℕ, ◌+◌, ◌*◌, ◌/◌, ◌%◌, ◌<◌, ◌≤◌, ◌==◌, if◌then◌else◌, Bool, true, List, [], ◌∷◌, length, drop, slice_get, slice_index, take, Option, Some, Ok, MatchOption}
 use Rattle.std.specs.Borrow.{Bor}
 use Rattle.std.specs.Slice.{IsItemAt}
+use Rattle.omf_image.specs.Limits.{profile_limits}
+use Rattle.omf_check.specs.Checking.{Decides}
+use Rattle.omf_check.specs.Module.{Module}
+use Rattle.omf_check.specs.Refusal.{IsRefused}
 use Rattle.omf_check.specs.declared.profile.Profile.{Profile}
-use Rattle.omf_library.specs.Dictionary.{IsFoundAfter, block_size, is_same_name}
-use Rattle.omf_library.specs.Library.{IsLibrary, header_of, page_size}
+use Rattle.omf_frame.specs.declared.fault.Place.{Place}
+use Rattle.omf_frame.specs.declared.fault.Reason.{Reason}
+use Rattle.omf_library.specs.Dictionary.{IsFoundAfter, block_count, block_of, block_size, is_inside, is_same_name, name_at, page_at}
+use Rattle.omf_library.specs.Hash.{buckets}
+use Rattle.omf_library.specs.Library.{IsLibrary, header_of, page_size, word_at}
 use Rattle.omf_library.specs.declared.dictionary.Dictionary.{Dictionary}
 use Rattle.omf_library.specs.declared.header.Header.{Header}
 use Rattle.omf_library.specs.Names.{is_strong}
@@ -97,18 +104,38 @@ AreParts o [] (part ∷ parts) = ⊥
 AreParts o (m ∷ ms) [] = ⊥
 AreParts o (m ∷ ms) (part ∷ parts) = IsPart o m part × AreParts o ms parts
 
+-- Half the offset of an entry: it is 0, or the entry has a name that the member at its page defines.
+abbrev pub IsSoundEntry : Opened → List ℕ → ℕ → Type 0
+IsSoundEntry o block half =
+    (half ≡ 0) ⊎ ((is_inside block (2 * half) ≡ true) × IsDefinedAt o o.members o.parts (name_at block (2 * half)) (page_at block (2 * half)))
+
+-- So it is in each bucket of each block.
+abbrev pub AreSoundIn : Opened → List ℕ → Type 0
+AreSoundIn o block = (bucket : ℕ) → bucket < buckets → IsSoundEntry o block (slice_index block bucket)
+
+abbrev pub AreSoundEntries : Opened → Type 0
+AreSoundEntries o = (number : ℕ) → number < block_count o.dictionary → AreSoundIn o (block_of o.dictionary number)
+
+-- A prime number.
+abbrev pub IsPrime : ℕ → Type 0
+IsPrime n = (2 ≤ n) × ((d : ℕ) → 1 < d → d < n → n % d ≢ 0)
+
 abbrev pub opened : List ℕ → List Member → List Part → Opened
 opened bytes members parts = record { bytes = bytes; page = page_size bytes; is_case_sensitive = is_case_sensitive (header_of bytes); dictionary = dictionary_at (header_of bytes) bytes; members = members; parts = parts }
 
 -- The bytes are a library whose members are the modules that were given, in order, byte for byte. Both searches of its
--- dictionary, which is all there, find each of their names: a public and an import with the page of its member, a communal
+-- dictionary find each of their names: a public and an import with the page of its member, a communal
 -- with that of a member that defines the name. Names that differ in case are one in a library without the flag 1.
+-- The dictionary has no other names. It follows the F1H record, and ends the library; its number of blocks is prime.
 pub record IsMade (profile : Profile) (sensitive : Bool) (parts : List Part) (bytes : List ℕ) : Type 0 where
   pub members : List Member
   pub end : ℕ
   pub library : IsLibrary profile bytes members end
   pub flags : (header_of bytes).flags ≡ (if sensitive then 1 else 0)
-  pub inside : (header_of bytes).dictionary + block_size * (header_of bytes).blocks ≤ length bytes
+  pub after : (header_of bytes).dictionary ≡ end + 3 + word_at bytes (end + 1)
+  pub last : (header_of bytes).dictionary + block_size * (header_of bytes).blocks ≡ length bytes
+  pub prime : IsPrime (header_of bytes).blocks
+  pub only : AreSoundEntries (opened bytes members parts)
   pub same : AreParts (opened bytes members parts) members parts
 
 -- Two modules define one name, other than as a communal: the second by its name of this number, the first by any of its
@@ -123,7 +150,22 @@ pub record IsTwice (sensitive : Bool) (parts : List Part) (first second name : �
   pub strong : is_strong defined.now.kind ≡ true
   pub again : HasStrong sensitive (if first == second then take name one.now.names.items else one.now.names.items) defined.now.name.items
 
+-- The check refuses a part; or a part has bytes after its module.
+pub record IsRefusedPart (profile : Profile) (parts : List Part) (number : ℕ) (why : Reason) (at : Place) : Type 0 where
+  pub part : Part
+  pub part_is : slice_get parts number ≡ Some part
+  pub refused : IsRefused profile profile_limits part.bytes.items why at
+
+pub record IsLongPart (profile : Profile) (parts : List Part) (number : ℕ) : Type 0 where
+  pub part : Part
+  pub part_is : slice_get parts number ≡ Some part
+  pub found : Module
+  pub checked : Decides profile part.bytes.items (Ok found)
+  pub longer : length found.bytes < length part.bytes.items
+
 -- What a fault of the making means for the modules that were given.
-abbrev pub IsMakeFault : Bool → List Part → MakeFault → Type 0
-IsMakeFault sensitive parts (fault.Twice first second name) = IsTwice sensitive parts first second name
-IsMakeFault sensitive parts _ = ⊤
+abbrev pub IsMakeFault : Profile → Bool → List Part → MakeFault → Type 0
+IsMakeFault profile sensitive parts (fault.Twice first second name) = IsTwice sensitive parts first second name
+IsMakeFault profile sensitive parts (fault.Refused part why at) = IsRefusedPart profile parts part why at
+IsMakeFault profile sensitive parts (fault.Rest part) = IsLongPart profile parts part
+IsMakeFault profile sensitive parts _ = ⊤

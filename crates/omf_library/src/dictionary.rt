@@ -176,7 +176,7 @@ pub(crate) fn first_entry(is_case_sensitive: bool, bytes: &[u8], name: &[u8]) ->
 }
 
 /// What a bucket of a block has.
-fn bucket_of<'a>(block: &'a [u8], bucket: usize) -> Bucket<'a>
+pub(crate) fn bucket_of<'a>(block: &'a [u8], bucket: usize) -> Bucket<'a>
     requires { bucket < length block.now }
     ensures { IsBucket block.entry.now bucket result }
 {

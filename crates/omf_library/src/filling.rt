@@ -8,6 +8,7 @@ use crate::entries::{Entry, First, entries_of};
 use crate::hash::{BUCKETS, Probe, probe_of};
 use crate::making::{MakeFault, Part};
 use crate::names::is_strong;
+use crate::prime::is_prime;
 use crate::search::{credit_of, hash_cost, looks_cost};
 use std::alloc::{AllocError, Global};
 
@@ -269,16 +270,6 @@ fn fill(
     } else {
         Ok(None)
     }
-}
-
-/// Whether a number from 2 to 65,535 is prime.
-fn is_prime(n: usize) -> bool {
-    for divisor in 2..256usize {
-        if divisor < n && n % divisor == 0 {
-            return false;
-        }
-    }
-    true
 }
 
 /// The bytes that the entry of a name takes: an even number, and a bucket's share of its block or more.

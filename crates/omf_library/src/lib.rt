@@ -23,8 +23,10 @@ mod members;
 mod modules;
 mod names;
 pub mod needed;
+mod prime;
 pub mod rows;
 mod search;
+mod sound;
 mod spans;
 mod spots;
 

@@ -1,9 +1,10 @@
 //! Libraries of modules that are given.
 
-ghost use Rattle.std.specs.Prelude.{◌≡◌, ◌<◌, IfErr, IfOk, IfSome, OnOk, List, Bool, drop, take, if◌then◌else◌};
+ghost use Rattle.std.specs.Prelude.{◌≡◌, ◌<◌, length, IfErr, IfOk, IfSome, OnOk, List, Bool, drop, take, if◌then◌else◌};
 ghost use Rattle.std.specs.Bool.{OnTrue};
 ghost use Rattle.omf_check.specs.Module.{recs_of};
 ghost use Rattle.omf_library.specs.Made.{AreEntered, AreParts, HasName, HasStrong, IsCommunalEntered, IsDefinedAt, IsDictionary, IsEntered, IsFoundBy, IsFoundByBoth, IsMade, IsMakeFault, IsPart, IsTwice, opened_seen};
+ghost use Rattle.omf_library.specs.Inner.Making.{IsLaid, IsPartFault};
 ghost use Rattle.omf_library.specs.Names.{defined_names, is_strong, names_seen};
 ghost use Rattle.omf_library.specs.declared.making.MakeFault.TheVariants.{Memory};
 
@@ -12,12 +13,14 @@ use crate::fault::LibraryFault;
 use crate::filling::build;
 use crate::header::{Header, read_header};
 use crate::member::Member;
-use crate::members::members_in;
+use crate::members::{MemberPage, found_in, module_at};
 use crate::names::{Defined, Kind, defined_names, is_strong};
+use crate::prime::is_prime;
 use crate::search::Rule;
+use crate::sound::are_sound;
 use crate::spots::{Spot, number_in, ordered_spots};
 use omf_check::{Checked, Profile};
-use omf_frame::{Place, Reason};
+use omf_frame::{Framer, Place, Reason};
 use std::alloc::{AllocError, AllocFailed, Global};
 use thiserror::Error;
 
@@ -74,7 +77,12 @@ pub enum MakeFault {
     /// No dictionary was found in which the searches for the names are short.
     #[error("the searches for the names would be too long")]
     LongSearches,
-    /// What was built would not be read back as these modules: a part has bytes after its module.
+    /// This part, counted from 0, has bytes after its module.
+    #[error("a module has bytes after its end")]
+    Rest {
+        part: usize,
+    },
+    /// What was built would not be read back as these modules.
     #[error("the library would not be read back as these modules")]
     Unlike,
 }
@@ -92,32 +100,6 @@ impl<T: Drop> From<AllocFailed<T>> for MakeFault {
 
     fn from(_error: AllocFailed<T>) -> MakeFault {
         MakeFault::Memory
-    }
-}
-
-impl From<LibraryFault> for MakeFault {
-    ghost use Rattle.omf_library.specs.declared.making.Part.{Part};
-
-    ghost from_gives = { λ _ e. (sensitive : Bool) (parts : List Part) → IsMakeFault sensitive parts e };
-
-    fn from(fault: LibraryFault) -> MakeFault {
-        match fault {
-            LibraryFault::Memory => MakeFault::Memory,
-            LibraryFault::Refused {
-                member,
-                reason,
-                place,
-                ..
-            } => MakeFault::Refused {
-                part: member as usize,
-                reason,
-                place,
-            },
-            LibraryFault::NoHeader
-            | LibraryFault::PageSize(_)
-            | LibraryFault::HeaderCut
-            | LibraryFault::NoEnd { .. } => MakeFault::Unlike,
-        }
     }
 }
 
@@ -178,10 +160,10 @@ fn is_equal(one: &[u8], other: &[u8]) -> bool
 
 /// What is read back of a library, and the modules that were given.
 #[derive(Clone, Copy)]
-struct Opened<'a> {
+pub(crate) struct Opened<'a> {
     bytes: &'a [u8],
-    page: usize,
-    dictionary: Dictionary<'a>,
+    pub(crate) page: usize,
+    pub(crate) dictionary: Dictionary<'a>,
     members: &'a [Member],
     parts: &'a [Part],
     spots: &'a [Spot],
@@ -247,7 +229,7 @@ fn number_at(opened: Opened<'_>, page: usize) -> usize {
 }
 
 /// Whether the member that begins at a page defines a name.
-fn is_defined_at(opened: Opened<'_>, name: &[u8], page: usize) -> bool
+pub(crate) fn is_defined_at(opened: Opened<'_>, name: &[u8], page: usize) -> bool
     requires { 0 < opened.page }
     ensures { OnTrue result (IsDefinedAt (opened_seen opened.entry) opened.entry.members.now opened.entry.parts.now name.now page) }
 {
@@ -343,35 +325,92 @@ fn are_parts(opened: Opened<'_>) -> bool
     others.is_empty()
 }
 
-/// Reads a library back, and compares it with the modules that it was made of.
-fn read_back(
+/// Whether a library follows the rules of those that are made: its dictionary has these flags, follows the F1H record at `end`, ends the
+/// library, and has a prime number of blocks.
+fn is_laid(header: Header, is_case_sensitive: bool, bytes: &[u8], end: usize) -> bool
+    requires { end < length bytes.now }
+    ensures { OnTrue result (IsLaid header is_case_sensitive bytes.now end) }
+{
+    let Some([low, high, ..]) = bytes.get(end + 1..) else {
+        return false;
+    };
+    let size = usize::from(*low) + 256 * usize::from(*high);
+    let dictionary = header.dictionary as usize;
+    header.flags == u8::from(is_case_sensitive)
+        && dictionary == end + 3 + size
+        && dictionary + BLOCK * header.blocks as usize == bytes.len()
+        && header.blocks < 65536
+        && is_prime(header.blocks as usize)
+}
+
+/// Whether bytes are a library of these modules: it is read back, and compared with them.
+fn is_made(
     alloc: Global,
     profile: Profile,
     is_case_sensitive: bool,
     bytes: &[u8],
     parts: &[Part],
-) -> Result<(), MakeFault>
-    ensures made { OnOk result (IsMade profile is_case_sensitive parts.now bytes.now) }
-    ensures fault { IfErr result (IsMakeFault is_case_sensitive parts.now) }
+) -> Result<bool, LibraryFault>
+    ensures { IfOk result (λ b. OnTrue b (IsMade profile is_case_sensitive parts.now bytes.now)) }
 {
-    let members = members_in(alloc, profile, bytes)?;
+    let found = found_in(alloc, profile, bytes)?;
     let header = read_header(bytes)?;
     let Some(dictionary) = dictionary_in(header, bytes) else {
-        return Err(MakeFault::Unlike);
+        return Ok(false);
     };
     let spots = ordered_spots(alloc, dictionary.is_case_sensitive, parts)?;
     let opened = Opened {
         bytes,
         page: header.page as usize,
         dictionary,
-        members: members.as_slice(),
+        members: found.members.as_slice(),
         parts,
         spots: spots.as_slice(),
     };
-    if header.flags != u8::from(is_case_sensitive) || !are_parts(opened) {
-        return Err(MakeFault::Unlike);
+    if !is_laid(header, is_case_sensitive, bytes, found.end) || !are_parts(opened) {
+        return Ok(false);
     }
-    Ok(())
+    Ok(are_sound(opened))
+}
+
+/// Why a part is no member, if it is none: the check refuses it, or it has bytes after its module.
+fn fault_of_part(
+    alloc: Global,
+    framer: &mut Framer,
+    profile: Profile,
+    part: &Part,
+    number: usize,
+) -> Option<MakeFault>
+    ensures { IfSome result (IsPartFault profile part.now number) }
+{
+    let bytes = part.bytes.as_slice();
+    let count = number as u64;
+    match module_at(alloc, framer, profile, bytes, MemberPage { count, at: 0 }) {
+        Ok(module) if module.bytes().len() < bytes.len() => Some(MakeFault::Rest { part: number }),
+        Ok(_) => None,
+        Err(LibraryFault::Refused { reason, place, .. }) => {
+            let part = number;
+            Some(MakeFault::Refused {
+                part,
+                reason,
+                place,
+            })
+        }
+        Err(_) => Some(MakeFault::Memory),
+    }
+}
+
+/// Why no library was made of parts that do not define a name twice: the first that is no member; `Unlike` if all are.
+fn fault_of_parts(alloc: Global, profile: Profile, parts: &[Part]) -> MakeFault
+    ensures { (is_case_sensitive : Bool) → IsMakeFault profile is_case_sensitive parts.now result }
+{
+    let mut framer = Framer::new(alloc);
+    for (number, part) in parts.iter().enumerate() {
+        if let Some(fault) = fault_of_part(alloc, &mut framer, profile, part, number) {
+            return fault;
+        }
+    }
+    MakeFault::Unlike
 }
 
 /// Whether one of the names is this one, other than as a communal.
@@ -422,8 +461,14 @@ fn is_twice(
 }
 
 /// A fault of the building, if it is so.
-fn sure(is_case_sensitive: bool, parts: &[Part], fault: MakeFault) -> MakeFault
-    ensures { IsMakeFault is_case_sensitive parts.now result }
+fn sure(
+    alloc: Global,
+    profile: Profile,
+    is_case_sensitive: bool,
+    parts: &[Part],
+    fault: MakeFault,
+) -> MakeFault
+    ensures { IsMakeFault profile is_case_sensitive parts.now result }
 {
     match fault {
         MakeFault::Twice {
@@ -437,11 +482,10 @@ fn sure(is_case_sensitive: bool, parts: &[Part], fault: MakeFault) -> MakeFault
                 MakeFault::Unlike
             }
         }
-        MakeFault::Memory
-        | MakeFault::Refused { .. }
-        | MakeFault::TooLarge
-        | MakeFault::LongSearches
-        | MakeFault::Unlike => fault,
+        MakeFault::Memory | MakeFault::TooLarge | MakeFault::LongSearches => fault,
+        MakeFault::Refused { .. } | MakeFault::Rest { .. } | MakeFault::Unlike => {
+            fault_of_parts(alloc, profile, parts)
+        }
     }
 }
 
@@ -452,9 +496,9 @@ fn sure(is_case_sensitive: bool, parts: &[Part], fault: MakeFault) -> MakeFault
 ///
 /// # Errors
 ///
-/// `Refused` if a part is no module under the profile, `Twice` if two parts define one name other than as a communal (or
-/// one part twice), `TooLarge`, `LongSearches` if no dictionary was found with short searches, as where many names have one
-/// hash, `Unlike` if a part has bytes after its module. `Memory` if out of memory.
+/// `Refused` with the first part that is no module under the profile, `Rest` with the first that has bytes after its module, `Twice` if two
+/// parts define one name other than as a communal (or one part twice), `TooLarge`, `LongSearches` if no dictionary was found with short
+/// searches, as where many names have one hash, `Unlike` if what was built is not read back, which is not met. `Memory` if out of memory.
 pub fn make(
     alloc: Global,
     profile: Profile,
@@ -462,13 +506,15 @@ pub fn make(
     parts: &[Part],
 ) -> Result<Vec<u8>, MakeFault>
     ensures made { IfOk result (λ made. IsMade profile is_case_sensitive parts.now made.items) }
-    ensures fault { IfErr result (IsMakeFault is_case_sensitive parts.now) }
+    ensures fault { IfErr result (IsMakeFault profile is_case_sensitive parts.now) }
 {
-    match build(alloc, is_case_sensitive, parts) {
-        Ok(bytes) => {
-            read_back(alloc, profile, is_case_sensitive, &bytes, parts)?;
-            Ok(bytes)
-        }
-        Err(fault) => Err(sure(is_case_sensitive, parts, fault)),
+    let bytes = match build(alloc, is_case_sensitive, parts) {
+        Ok(bytes) => bytes,
+        Err(fault) => return Err(sure(alloc, profile, is_case_sensitive, parts, fault)),
+    };
+    match is_made(alloc, profile, is_case_sensitive, &bytes, parts) {
+        Ok(true) => Ok(bytes),
+        Err(LibraryFault::Memory) => Err(MakeFault::Memory),
+        Ok(false) | Err(_) => Err(fault_of_parts(alloc, profile, parts)),
     }
 }

@@ -2,6 +2,7 @@
 
 ghost use Rattle.std.specs.Prelude.{◌≡◌, ◌+◌, ◌<◌, ◌≤◌, ◌^◌, length};
 ghost use Rattle.omf_records.specs.Inner.Seen.{map_ok};
+ghost use Rattle.omf_library.specs.Inner.Modules.{AreFoundIn};
 ghost use Rattle.omf_library.specs.Library.{AreMembersIn, IsMemberRead, IsModuleRead, next_page};
 
 use crate::fault::LibraryFault;
@@ -88,6 +89,40 @@ fn member_at(
     }
 }
 
+/// The members of a library, and the offset of its F1H.
+#[derive(Drop)]
+pub(crate) struct Found {
+    pub(crate) members: Vec<Member>,
+    pub(crate) end: usize,
+}
+
+/// The members of a library, and the offset of its F1H.
+///
+/// # Errors
+///
+/// Those of `members_in`.
+pub(crate) fn found_in(alloc: Global, profile: Profile, bytes: &[u8]) -> Result<Found, LibraryFault>
+    ensures { AreFoundIn profile bytes.now result }
+{
+    let page = read_header(bytes)?.page as usize;
+    let mut framer = Framer::new(alloc);
+    let mut members = Vec::new(alloc);
+    let mut at = page;
+    while at < bytes.len() {
+        if bytes[at] == LIBRARY_END {
+            return Ok(Found { members, end: at });
+        }
+        let count = members.len() as u64;
+        let member = member_at(alloc, &mut framer, profile, bytes, MemberPage { count, at })?;
+        members.push(member)?;
+        at = next_page(page, at + member.length as usize);
+    }
+    Err(LibraryFault::NoEnd {
+        member: members.len() as u64,
+        offset: at as u64,
+    })
+}
+
 /// The members of a library, in order: from the second page on, each at the first page after the one before, up to a
 /// page that begins with F1H.
 ///
@@ -102,21 +137,8 @@ pub fn members_in(
 ) -> Result<Vec<Member>, LibraryFault>
     ensures { AreMembersIn profile bytes.now (map_ok (λ members. members.items) result) }
 {
-    let page = read_header(bytes)?.page as usize;
-    let mut framer = Framer::new(alloc);
-    let mut members = Vec::new(alloc);
-    let mut at = page;
-    while at < bytes.len() {
-        if bytes[at] == LIBRARY_END {
-            return Ok(members);
-        }
-        let count = members.len() as u64;
-        let member = member_at(alloc, &mut framer, profile, bytes, MemberPage { count, at })?;
-        members.push(member)?;
-        at = next_page(page, at + member.length as usize);
+    match found_in(alloc, profile, bytes) {
+        Ok(found) => Ok(found.members),
+        Err(fault) => Err(fault),
     }
-    Err(LibraryFault::NoEnd {
-        member: members.len() as u64,
-        offset: at as u64,
-    })
 }

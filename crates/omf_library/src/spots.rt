@@ -3,7 +3,7 @@
 
 use crate::dictionary::folded;
 use crate::making::Part;
-use crate::names::{Defined, Kind};
+use crate::names::Defined;
 use std::alloc::{AllocError, Global};
 use std::cmp::Ordering;
 
@@ -75,26 +75,6 @@ fn is_before(
     }
 }
 
-/// Whether some of the names is a communal.
-fn has_communal(names: &[Defined]) -> bool {
-    for defined in names {
-        if matches!(defined.kind, Kind::Communal) {
-            return true;
-        }
-    }
-    false
-}
-
-/// Whether some part has a communal.
-fn have_communals(parts: &[Part]) -> bool {
-    for part in parts {
-        if has_communal(part.names.as_slice()) {
-            return true;
-        }
-    }
-    false
-}
-
 /// Adds the spots of this many names of a part.
 fn push_spots(spots: &mut Vec<Spot>, part: usize, count: usize) -> Result<(), AllocError> {
     for name in 0..count {
@@ -103,16 +83,13 @@ fn push_spots(spots: &mut Vec<Spot>, part: usize, count: usize) -> Result<(), Al
     Ok(())
 }
 
-/// The spots of all names of the parts, in order; none if no part has a communal, as only communals are looked for.
+/// The spots of all names of the parts, in order.
 pub(crate) fn ordered_spots(
     alloc: Global,
     is_case_sensitive: bool,
     parts: &[Part],
 ) -> Result<Vec<Spot>, AllocError> {
     let mut spots = Vec::new(alloc);
-    if !have_communals(parts) {
-        return Ok(spots);
-    }
     for (number, part) in parts.iter().enumerate() {
         push_spots(&mut spots, number, part.names.len())?;
     }

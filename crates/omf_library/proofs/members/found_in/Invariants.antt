@@ -1,6 +1,6 @@
 use Rattle.std.proofs.Common.{◌≡◌, ◌-◌, ◌<◌, length}
 use Rattle.omf_library.specs.Library.{AreMembers, HasHeader, page_size}
-use Rattle.omf_library.proofs.members.members_in.Given as goal
+use Rattle.omf_library.proofs.members.found_in.Given as goal
 
 -- the members so far, after which the next page is
 abbrev pub invariant-loop-at : goal.invariant-loop-at
