@@ -35,10 +35,12 @@ pub(crate) const ABOUT: About = About {
   --library-path DIR       exe, com: a folder for libraries that modules ask for
   --no-default-libraries   exe, com: without the libraries that modules ask for
   --allow KIND             image, bin, hex, srec: a warning in place of a fault where
-                           the text does this: overlap, align or group; or where
-                           modules define a name twice that none asks for: twice;
-                           exe, com: group, near (a near call or jump into
-                           another frame) and twice
+                           the text does this: overlap, align, group, frame (parts
+                           of a segment have different frames, or in real mode a
+                           base is not 16 times its selector) or near (a near call
+                           or jump is into another frame); or where modules define
+                           a name twice that none asks for: twice;
+                           exe, com: group, near and twice
   --ignore-case            the case of publics, externals and communals does not
                            count; they are shown in lower case
   --base ADDRESS           bin: the address of the first byte; draft: of the first

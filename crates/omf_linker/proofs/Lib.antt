@@ -28,6 +28,7 @@ pub mod TakenLaws
 pub mod InputLaws
 pub mod OverlapLaws
 pub mod WideLaws
+pub mod FrameLaws
 pub mod LabelLaws
 pub mod SettledLaws
 pub mod SuitingLaws

@@ -12,6 +12,10 @@ pub struct Allowed {
     pub align: bool,
     /// Groups may be longer than 64 KB.
     pub group: bool,
+    /// Parts of one segment, and groups of one name, may have different frames; a frame in real mode may have any base.
+    pub frame: bool,
+    /// A near reference may be into another frame.
+    pub near: bool,
     /// Several publics may have one name, if no external has it.
     pub twice: bool,
 }
@@ -23,6 +27,8 @@ impl Allowed {
             overlap: false,
             align: false,
             group: false,
+            frame: false,
+            near: false,
             twice: false,
         }
     }
@@ -42,6 +48,14 @@ impl Allowed {
                 self.group = true;
                 true
             }
+            "frame" => {
+                self.frame = true;
+                true
+            }
+            "near" => {
+                self.near = true;
+                true
+            }
             "twice" => {
                 self.twice = true;
                 true
@@ -52,7 +66,7 @@ impl Allowed {
 
     /// Returns whether something is allowed.
     pub fn has_any(&self) -> bool {
-        self.overlap || self.align || self.group || self.twice
+        self.overlap || self.align || self.group || self.frame || self.near || self.twice
     }
 
     /// Returns whether what is found is allowed.
@@ -61,6 +75,8 @@ impl Allowed {
             Finding::Overlap { .. } => self.overlap,
             Finding::Align { .. } => self.align,
             Finding::Group(_) => self.group,
+            Finding::Frames { .. } | Finding::Selector(_) => self.frame,
+            Finding::Near(_) => self.near,
         }
     }
 }

@@ -1,16 +1,18 @@
 //! What a link text does that may not be meant.
 
 ghost use Rattle.std.specs.Prelude.{◌≡◌, ◌++◌, ◌<◌, ◌^◌, IfOk, OnOk, find, length, option_map, option_to_list};
-ghost use Rattle.omf_placement.specs.Derive.{placed_modules};
-ghost use Rattle.omf_linker.specs.declared.seen.finding.Finding.TheVariants.{Group};
-ghost use Rattle.omf_linker.specs.Seen.Unseen.{AreUnseen, align_of, is_misaligned, overlap_of, range_of};
+ghost use Rattle.omf_linker.specs.declared.seen.finding.Finding.TheVariants.{Group, Near, Selector};
+ghost use Rattle.omf_linker.specs.Seen.Unseen.{AreUnseen, align_of, frames_of, is_misaligned, overlap_of, range_of};
 
+use crate::seen::frames::{Framed, first_split};
+use crate::seen::real::first_unreal;
 use crate::seen::span::Span;
 use crate::seen::spans::spans_of;
 use crate::seen::sweep::first_overlap;
 use crate::seen::wide::{FarMember, first_wide};
 use omf_check::Checked;
 use omf_linking::space::Owner;
+use omf_output::near::{Stray, first_near};
 use omf_placement::Placement;
 use std::alloc::{AllocError, Global};
 
@@ -46,6 +48,17 @@ pub enum Finding {
     },
     /// A 16-bit member of a group ends more than 65536 bytes after the base of the group's frame.
     Group(FarMember),
+    /// Two parts of one segment, or two groups of one name, have different frames.
+    Frames {
+        /// The first of its name.
+        first: Framed,
+        /// The first after it with another frame.
+        other: Framed,
+    },
+    /// A frame in real mode has a base that is not 16 times its selector.
+    Selector(Framed),
+    /// A near call or jump is into another frame.
+    Near(Stray),
 }
 
 /// Returns the addresses of a segment.
@@ -108,6 +121,28 @@ fn group_of(member: Option<FarMember>) -> Option<Finding>
     Some(Finding::Group(member?))
 }
 
+/// Returns two frames of one name as what is found.
+fn frames_of(split: Option<(Framed, Framed)>) -> Option<Finding>
+    ensures { result ≡ option_map frames_of split }
+{
+    let (first, other) = split?;
+    Some(Finding::Frames { first, other })
+}
+
+/// Returns a frame with a wrong base as what is found.
+fn selector_of(framed: Option<Framed>) -> Option<Finding>
+    ensures { result ≡ option_map Selector framed }
+{
+    Some(Finding::Selector(framed?))
+}
+
+/// Returns a near reference into another frame as what is found.
+fn near_of(stray: Option<Stray>) -> Option<Finding>
+    ensures { result ≡ option_map Near stray }
+{
+    Some(Finding::Near(stray?))
+}
+
 /// Adds what is found, if there is something.
 fn add(found: &mut Vec<Finding>, more: Option<Finding>) -> Result<(), AllocError>
     ensures { OnOk result (found.new.items ≡ found.old.items ++ option_to_list more) }
@@ -119,8 +154,9 @@ fn add(found: &mut Vec<Finding>, more: Option<Finding>) -> Result<(), AllocError
 }
 
 /// Returns what the placements of modules do that may not be meant, at most one of each kind: two segments with the lowest address in
-/// common that they may not share, the first segment whose address is no multiple of its alignment, and the first 16-bit member of a group
-/// that ends too far from the group's frame.
+/// common that they may not share, the first segment whose address is no multiple of its alignment, the first 16-bit member of a group
+/// that ends too far from the group's frame, the first parts of one segment, or groups of one name, that have different frames, in real mode the
+/// first frame with a base that is not 16 times its selector, and the first near call or jump into another frame.
 ///
 /// Two common segments of one name and class may share addresses, and so may two absolute segments. A segment of length 0 has no address.
 ///
@@ -134,15 +170,21 @@ pub fn unseen(
 ) -> Result<Vec<Finding>, AllocError>
     requires few { length modules.now < 2 ^ 32 }
     requires placed { length placements.now ≡ length modules.now }
-    ensures { IfOk result (λ v. AreUnseen (placed_modules modules.now placements.now) v.items) }
+    ensures { IfOk result (λ v. AreUnseen modules.now placements.now v.items) }
 {
     let spans = spans_of(alloc, modules, placements)?;
     let wide = first_wide(modules, placements);
     let misaligned = first_misaligned(&spans);
     let overlap = first_overlap(spans);
+    let split = first_split(alloc, modules, placements)?;
+    let unreal = first_unreal(alloc, modules, placements)?;
+    let near = first_near(alloc, modules, placements)?;
     let mut found = Vec::new(alloc);
     add(&mut found, overlap_of(overlap))?;
     add(&mut found, align_of(misaligned))?;
     add(&mut found, group_of(wide))?;
+    add(&mut found, frames_of(split))?;
+    add(&mut found, selector_of(unreal))?;
+    add(&mut found, near_of(near))?;
     Ok(found)
 }

@@ -1,11 +1,15 @@
 //! Lines of what a link text does unseen, by the names of modules and segments.
 
+use crate::lines::{Labeled, put_stray};
 use crate::seen::finding::{Finding, Range};
+use crate::seen::frames::Framed;
 use crate::seen::wide::FarMember;
 use omf_check::Checked;
 use omf_layout::printing::print_quoted;
 use omf_linking::space::Owner;
+use omf_placement::Frame;
 use omf_records::Rec;
+use omf_reloc::Kind;
 use std::alloc::AllocError;
 use std::fmt::Write;
 
@@ -112,6 +116,45 @@ pub(crate) fn put_range(
     write!(text, " {:08X} to {:08X}", range.first, last)
 }
 
+/// Appends a part of a segment, or a group, and its frame.
+fn put_framed(
+    text: &mut String,
+    labels: &[String],
+    modules: &[Checked],
+    framed: Framed,
+) -> Result<(), AllocError> {
+    put_module(text, labels, framed.module)?;
+    match framed.kind {
+        Kind::Group => {
+            text.push_str(" group")?;
+            put_group(text, modules, framed.module, framed.index)?;
+        }
+        Kind::Segment | Kind::External => {
+            let owner = Owner {
+                module: framed.module,
+                segment: framed.index,
+            };
+            put_segment(text, modules, owner)?;
+        }
+    }
+    let Frame { base, selector } = framed.frame;
+    write!(text, " frame {base:08X} selector {selector:04X}")
+}
+
+/// Appends the line of two parts of one segment, or two groups of one name, but for its line feed.
+fn put_frames(
+    text: &mut String,
+    labels: &[String],
+    modules: &[Checked],
+    first: Framed,
+    other: Framed,
+) -> Result<(), AllocError> {
+    text.push_str("frame: ")?;
+    put_framed(text, labels, modules, first)?;
+    text.push_str(", ")?;
+    put_framed(text, labels, modules, other)
+}
+
 /// Appends the line of what is found.
 pub(crate) fn put_line(
     text: &mut String,
@@ -140,6 +183,13 @@ pub(crate) fn put_line(
             text.push_str("group: ")?;
             put_far_member(text, labels, modules, far)?;
         }
+        Finding::Frames { first, other } => put_frames(text, labels, modules, first, other)?,
+        Finding::Selector(framed) => {
+            text.push_str("frame: ")?;
+            put_framed(text, labels, modules, framed)?;
+            text.push_str(": the base is not 16 times the selector")?;
+        }
+        Finding::Near(stray) => return put_stray(text, Labeled { labels, modules }, stray),
     }
     text.push('\n')
 }

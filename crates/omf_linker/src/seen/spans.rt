@@ -29,7 +29,7 @@ fn sharing_of(segment: SegInfo, attribute: u8) -> Sharing
 }
 
 /// Returns the name of an index; the empty name for index 0.
-fn name_at(module: &Checked, index: u16) -> &[u8]
+pub(crate) fn name_at(module: &Checked, index: u16) -> &[u8]
     ensures { result.now ≡ name_at (recs_of «module».now.bytes) index }
 {
     match module.name(index) {

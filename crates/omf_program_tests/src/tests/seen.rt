@@ -1,4 +1,4 @@
-//! What a link text does unseen: addresses in common, wrong alignments, and the option `--allow`.
+//! What a link text does unseen: addresses in common, wrong alignments, different frames, and the option `--allow`.
 
 use omf_linker::link::{InputFile, Task};
 use omf_linker::seen::{Allowed, Request, SeenText, allowed_in, files_seen};
@@ -34,6 +34,17 @@ const GROUP: &str =
 const WIDE_GROUP: &str =
     "80030001423A 960600000154014700 98070029040002010100 9A040003FF0100 8A02000074";
 
+/// A module with one private segment "T" of four bytes without data.
+const PRIVATE: &str = "80030001423A 96040000015411 98070020040002010100 8A02000074";
+
+/// A module with one segment "T", and in it a near call of the external "X".
+const CALLER: &str =
+    "80030001413B 96040000015411 98070028040002010100 8C040001580000 A00800010000E800009000 9C05008401560100 8A02000074";
+
+/// A module with one segment "U" of two bytes, and in it the public "X".
+const CALLED: &str =
+    "80030001423A 96040000015510 98070028020002010100 9008000001015800000000 A00600010000CCDD00 8A02000074";
+
 /// A module with one segment "T" of two bytes, and in it the public "X".
 const PUBLIC: &str =
     "80030001413B 96040000015411 98070028020002010100 9008000001015800000000 A00600010000CCDD00 8A02000074";
@@ -55,6 +66,8 @@ const NOTHING: Allowed = Allowed {
     overlap: false,
     align: false,
     group: false,
+    frame: false,
+    near: false,
     twice: false,
 };
 
@@ -67,7 +80,7 @@ struct Case {
     warnings: &'static str,
 }
 
-static CASES: [Case; 20] = [
+static CASES: [Case; 36] = [
     // A name that two modules define and none asks for.
     Case {
         modules: [PUBLIC, PUBLIC],
@@ -83,6 +96,8 @@ static CASES: [Case; 20] = [
             overlap: false,
             align: false,
             group: false,
+            frame: false,
+            near: false,
             twice: true,
         },
         faults: "",
@@ -150,6 +165,8 @@ static CASES: [Case; 20] = [
             overlap: true,
             align: false,
             group: false,
+            frame: false,
+            near: false,
             twice: false,
         },
         faults: "",
@@ -178,6 +195,8 @@ static CASES: [Case; 20] = [
             overlap: false,
             align: true,
             group: false,
+            frame: false,
+            near: false,
             twice: false,
         },
         faults: "overlap: file \"a.obj\" module 1 segment \"T\" 00007C01 to 00007C02, file \"b.obj\" module 1 segment \"T\" 00007C01 to 00007C04\n",
@@ -216,21 +235,154 @@ static CASES: [Case; 20] = [
     // The last address of a member is the last that a 16-bit offset reaches, or the one after it; a 32-bit member may be anywhere.
     Case {
         modules: [DATA, GROUP],
-        text: "M #1\nS #1 7C00 0 0\nM #2\nS #1 1FFFC 10000 1000\nG #1 10000 1000",
+        text: "M #1\nS #1 10000 10000 1000\nM #2\nS #1 1FFFC 10000 1000\nG #1 10000 1000",
         allowed: NOTHING,
         faults: "",
         warnings: "",
     },
     Case {
         modules: [DATA, GROUP],
-        text: "M #1\nS #1 7C00 0 0\nM #2\nS #1 1FFFD 10000 1000\nG #1 10000 1000",
+        text: "M #1\nS #1 10000 10000 1000\nM #2\nS #1 1FFFD 10000 1000\nG #1 10000 1000",
         allowed: NOTHING,
         faults: "group: file \"b.obj\" module 1 \"G\" frame 00010000, segment \"T\" ends at 00020001, 1 bytes too far\n",
         warnings: "",
     },
     Case {
         modules: [DATA, WIDE_GROUP],
-        text: "M #1\nS #1 7C00 0 0\nM #2\nS #1 1FFFD 10000 1000\nG #1 10000 1000",
+        text: "M #1\nS #1 10000 10000 1000\nM #2\nS #1 1FFFD 10000 1000\nG #1 10000 1000",
+        allowed: NOTHING,
+        faults: "",
+        warnings: "",
+    },
+    // Parts of one segment have one frame.
+    Case {
+        modules: [DATA, ROOM],
+        text: "M #1\nS #1 7C00 7C00 7C0\nM #2\nS #1 7C10 7C10 7C1",
+        allowed: NOTHING,
+        faults: "frame: file \"a.obj\" module 1 segment \"T\" frame 00007C00 selector 07C0, file \"b.obj\" module 1 segment \"T\" frame 00007C10 selector 07C1\n",
+        warnings: "",
+    },
+    Case {
+        modules: [DATA, ROOM],
+        text: "M #1\nS #1 7C00 7C00 7C0\nM #2\nS #1 7C10 7C10 7C1",
+        allowed: Allowed {
+            overlap: false,
+            align: false,
+            group: false,
+            frame: true,
+            near: false,
+            twice: false,
+        },
+        faults: "",
+        warnings: "frame: file \"a.obj\" module 1 segment \"T\" frame 00007C00 selector 07C0, file \"b.obj\" module 1 segment \"T\" frame 00007C10 selector 07C1\n",
+    },
+    // A frame is a base and a selector.
+    Case {
+        modules: [DATA, EMPTY],
+        text: "M #1\nS #1 7C00 0 0\nM #2\nS #1 7C10 0 8",
+        allowed: NOTHING,
+        faults: "frame: file \"a.obj\" module 1 segment \"T\" frame 00000000 selector 0000, file \"b.obj\" module 1 segment \"T\" frame 00000000 selector 0008\n",
+        warnings: "",
+    },
+    Case {
+        modules: [COMMON, COMMON],
+        text: "M #1\nS #1 7C00 7C00 7C0\nM #2\nS #1 7C00 0 0",
+        allowed: NOTHING,
+        faults: "frame: file \"a.obj\" module 1 segment \"T\" frame 00007C00 selector 07C0, file \"b.obj\" module 1 segment \"T\" frame 00000000 selector 0000\n",
+        warnings: "",
+    },
+    // Segments that are not combined may have different frames: a public and a common one, private ones, an absolute one, those of two names.
+    Case {
+        modules: [DATA, COMMON],
+        text: "M #1\nS #1 7C00 7C00 7C0\nM #2\nS #1 7C10 7C10 7C1",
+        allowed: NOTHING,
+        faults: "",
+        warnings: "",
+    },
+    Case {
+        modules: [PRIVATE, PRIVATE],
+        text: "M #1\nS #1 7C00 7C00 7C0\nM #2\nS #1 7C10 7C10 7C1",
+        allowed: NOTHING,
+        faults: "",
+        warnings: "",
+    },
+    Case {
+        modules: [FIXED, ROOM],
+        text: "M #1\nS #1 400 400 40\nM #2\nS #1 7C10 7C10 7C1",
+        allowed: NOTHING,
+        faults: "",
+        warnings: "",
+    },
+    Case {
+        modules: [COMMON, OTHER],
+        text: "M #1\nS #1 7C00 7C00 7C0\nM #2\nS #1 7C10 7C10 7C1",
+        allowed: NOTHING,
+        faults: "",
+        warnings: "",
+    },
+    // Groups of one name have one frame.
+    Case {
+        modules: [GROUP, GROUP],
+        text: "M #1\nS #1 10000 10000 1000\nG #1 10000 1000\nM #2\nS #1 10010 10000 1000\nG #1 10010 1001",
+        allowed: NOTHING,
+        faults: "frame: file \"a.obj\" module 1 group \"G\" frame 00010000 selector 1000, file \"b.obj\" module 1 group \"G\" frame 00010010 selector 1001\n",
+        warnings: "",
+    },
+    // Where one base is 16 times its selector, all are: those of segments and of groups.
+    Case {
+        modules: [DATA, OTHER],
+        text: "M #1\nS #1 7C00 7C00 7C0\nM #2\nS #1 500 500 51",
+        allowed: NOTHING,
+        faults: "frame: file \"b.obj\" module 1 segment \"U\" frame 00000500 selector 0051: the base is not 16 times the selector\n",
+        warnings: "",
+    },
+    Case {
+        modules: [DATA, GROUP],
+        text: "M #1\nS #1 10000 10000 1000\nM #2\nS #1 10010 10000 1000\nG #1 10000 1001",
+        allowed: NOTHING,
+        faults: "frame: file \"b.obj\" module 1 group \"G\" frame 00010000 selector 1001: the base is not 16 times the selector\n",
+        warnings: "",
+    },
+    // But not those of 32-bit segments and their groups, nor in protected mode.
+    Case {
+        modules: [OTHER, WIDE_GROUP],
+        text: "M #1\nS #1 7C00 7C00 7C0\nM #2\nS #1 100000 0 8\nG #1 0 8",
+        allowed: NOTHING,
+        faults: "",
+        warnings: "",
+    },
+    Case {
+        modules: [DATA, OTHER],
+        text: "M #1\nS #1 10000 10000 8\nM #2\nS #1 500 500 10",
+        allowed: NOTHING,
+        faults: "",
+        warnings: "",
+    },
+    // A near call of what is below its frame; and of what is in it.
+    Case {
+        modules: [CALLER, CALLED],
+        text: "M #1\nS #1 10020 10020 1002\nM #2\nS #1 10000 10000 1000",
+        allowed: NOTHING,
+        faults: "near: file \"a.obj\" module 1 segment \"T\" offset 00000001: \"X\" is in another frame\n",
+        warnings: "",
+    },
+    Case {
+        modules: [CALLER, CALLED],
+        text: "M #1\nS #1 10020 10020 1002\nM #2\nS #1 10000 10000 1000",
+        allowed: Allowed {
+            overlap: false,
+            align: false,
+            group: false,
+            frame: false,
+            near: true,
+            twice: false,
+        },
+        faults: "",
+        warnings: "near: file \"a.obj\" module 1 segment \"T\" offset 00000001: \"X\" is in another frame\n",
+    },
+    Case {
+        modules: [CALLER, CALLED],
+        text: "M #1\nS #1 10020 10000 1000\nM #2\nS #1 10000 10000 1000",
         allowed: NOTHING,
         faults: "",
         warnings: "",
@@ -295,7 +447,7 @@ fn a_text_does_nothing_unseen(rt: HostRuntime) {
 }
 
 /// Arguments, and what they allow; none if they are not understood.
-static ARGUMENTS: [(&'static [&'static str], Option<(Allowed, usize)>); 6] = [
+static ARGUMENTS: [(&'static [&'static str], Option<(Allowed, usize)>); 7] = [
     (&["omf-link", "image"], Some((NOTHING, 2))),
     (
         &[
@@ -306,6 +458,8 @@ static ARGUMENTS: [(&'static [&'static str], Option<(Allowed, usize)>); 6] = [
                 overlap: true,
                 align: true,
                 group: false,
+                frame: false,
+                near: false,
                 twice: false,
             },
             2,
@@ -318,7 +472,23 @@ static ARGUMENTS: [(&'static [&'static str], Option<(Allowed, usize)>); 6] = [
                 overlap: false,
                 align: false,
                 group: false,
+                frame: false,
+                near: false,
                 twice: true,
+            },
+            2,
+        )),
+    ),
+    (
+        &["omf-link", "image", "--allow", "near", "--allow", "frame"],
+        Some((
+            Allowed {
+                overlap: false,
+                align: false,
+                group: false,
+                frame: true,
+                near: true,
+                twice: false,
             },
             2,
         )),
