@@ -1,0 +1,82 @@
+//! What a search finds.
+
+use omf_reloc::Placement;
+
+/// What is asked of a search.
+#[derive(Clone, Copy, Debug, PartialEq, Eq)]
+pub struct FindOptions {
+    /// The number of closed bytes from which on a segment with one place is placed by its bytes alone; usually 16.
+    pub least: usize,
+    /// The number of places that are listed of a segment at most; usually 64.
+    pub most: usize,
+}
+
+/// A module that is in the program.
+#[derive(Drop)]
+pub struct Found {
+    /// Where it is. The entries of segments that are absent, and of externals that are unknown, mean nothing.
+    pub placement: Placement,
+    /// The segments that are not in the program or that nothing places, in ascending order: their bytes are not compared.
+    pub absent: Vec<u16>,
+    /// The externals that nothing places, in ascending order.
+    pub unknown: Vec<u16>,
+}
+
+/// Why a place of a segment is only a possible one.
+#[derive(Clone, Copy, Debug, PartialEq, Eq)]
+pub enum Why {
+    /// The segment has fewer closed bytes than `least`, and no reference leads to it.
+    FewBytes,
+    /// Its closed bytes are at several places, and no reference leads to one of them.
+    SeveralPlaces,
+    /// Its closed bytes are at the same place as those of a segment of this module of the list.
+    SameBytes(u32),
+    /// A reference leads elsewhere, or two references disagree.
+    Disagrees,
+    /// The fixups do not reach, or a byte at a location is not what they give.
+    OpenBytes,
+}
+
+/// A segment of a module that is not found, and the places where its closed bytes are.
+#[derive(Drop)]
+pub struct Candidate {
+    /// The segment, from 1.
+    pub segment: u16,
+    /// The addresses, in ascending order, at most `most`.
+    pub addresses: Vec<u32>,
+    /// Whether there are more.
+    pub more: bool,
+    /// Why none of them is told as found.
+    pub why: Why,
+}
+
+/// What is known of a module.
+#[derive(Drop)]
+pub enum Verdict {
+    /// It is in the program, but for absent segments.
+    Found(Found),
+    /// The closed bytes of some segments are in the program.
+    Possible(Vec<Candidate>),
+    /// No segment whose closed bytes were searched for is in the program.
+    NotThere,
+}
+
+/// A name that modules ask for and no module that is found defines, with an address that their references give it.
+#[derive(Clone, Copy, Debug, PartialEq, Eq)]
+pub struct Asked {
+    /// The address.
+    pub address: u32,
+    /// A module that asks for it, from 0 in the list of modules.
+    pub module: u32,
+    /// Its external with the name, from 1.
+    pub external: u16,
+}
+
+/// What a search finds.
+#[derive(Drop)]
+pub struct Findings {
+    /// What is known of each module, in the order of the list of modules.
+    pub verdicts: Vec<Verdict>,
+    /// The names that are asked for, in ascending order of address; each name once for each address.
+    pub asked: Vec<Asked>,
+}
