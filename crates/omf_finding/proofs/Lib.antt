@@ -8,3 +8,5 @@ pub mod IsFoundLaws
 pub mod RunLaws
 pub mod SaidLaws
 pub mod AmongLaws
+mod TellingLaws
+mod CompareLaws

@@ -1,5 +1,5 @@
 -- A module is in a program at a placement.
-use Rattle.std.specs.Prelude.{◌≡◌, ℕ, ◌+◌, ◌-◌, List, nat_le, false, Option, Some, None, slice_get, if◌then◌else◌}
+use Rattle.std.specs.Prelude.{◌≡◌, ℕ, ◌+◌, ◌-◌, List, nat_le, false, Option, Some, None, IsSome, slice_get, if◌then◌else◌}
 use Rattle.std.specs.Option.{option_and_then}
 use Rattle.omf_frame.specs.Bytes.{is_one_of}
 use Rattle.omf_records.specs.Values.{Rec}
@@ -22,3 +22,11 @@ byte_there pl program base segment x = option_and_then (λ p. program_byte progr
 pub record IsFound (m : List Rec) (pl : Places) (absent program : List ℕ) (base : ℕ) : Type 0 where
   pub reaches : Reaches pl m
   pub bytes : (segment x b : ℕ) → is_one_of absent segment ≡ false → image profile_limits pl m segment x ≡ Some b → byte_there pl program base segment x ≡ Some b
+
+-- The same, and some byte is compared: the image has one in a segment that is not absent.
+pub record IsFoundInPart (m : List Rec) (pl : Places) (absent program : List ℕ) (base : ℕ) : Type 0 where
+  pub found : IsFound m pl absent program base
+  pub segment : ℕ
+  pub compared : is_one_of absent segment ≡ false
+  pub x : ℕ
+  pub byte : IsSome (image profile_limits pl m segment x)

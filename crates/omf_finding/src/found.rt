@@ -7,8 +7,8 @@ ghost use Rattle.omf_reloc.specs.Reach.{Reaches};
 ghost use Rattle.omf_check.specs.Module.{recs_of};
 ghost use Rattle.omf_check.specs.Sound.{ModuleHolds};
 ghost use Rattle.omf_check.specs.Tables.{segments};
-ghost use Rattle.omf_finding.specs.Found.{IsFound};
-ghost use Rattle.omf_finding.specs.Inner.Agreeing.{lies_in, SegmentAgrees, FirstAgree};
+ghost use Rattle.omf_finding.specs.Found.{IsFound, IsFoundInPart};
+ghost use Rattle.omf_finding.specs.Inner.Agreeing.{lies_in, SegmentAgrees, FirstAgree, HasByte, SomeCompared};
 
 use omf_check::Checked;
 use omf_image::Image;
@@ -66,6 +66,43 @@ fn image_agrees(image: &Image, places: &[Placed], absent: &[u16], program: &[u8]
     true
 }
 
+/// Whether an image has a byte of a segment.
+fn has_byte(image: &Image, segment: u16) -> bool
+    ensures { result ≡ true → HasByte image.now segment }
+{
+    match image.run_with_bytes(segment, 0) {
+        Some((_first, bytes)) => !bytes.is_empty(),
+        None => false,
+    }
+}
+
+/// Whether an image has a byte of one of so many segments that is not absent.
+fn some_compared(image: &Image, count: usize, absent: &[u16]) -> bool
+    requires { count ≤ 65535 }
+    ensures { result ≡ true → SomeCompared image.now absent.now }
+{
+    for n in 0..count {
+        let segment = n as u16 + 1;
+        if has_byte(image, segment) && !is_absent(absent, segment) {
+            return true;
+        }
+    }
+    false
+}
+
+/// Each byte of an image whose segments lie at these places is the program's, but for absent segments, and there is such a byte.
+fn part_agrees(image: &Image, places: &[Placed], absent: &[u16], program: &[u8], base: u32) -> bool
+    requires { length places.now ≤ 65535 }
+    ensures agrees { result ≡ true → FirstAgree image.now places.now absent.now program.now base (length places.now) }
+    ensures compared { result ≡ true → SomeCompared image.now absent.now }
+{
+    if some_compared(image, places.len(), absent) {
+        image_agrees(image, places, absent, program, base)
+    } else {
+        false
+    }
+}
+
 /// The number of segments of a module, which is well-formed.
 fn segment_count(module: &Checked) -> u16
     ensures count { result ≡ length (segments (recs_of «module».now.bytes)) }
@@ -98,6 +135,29 @@ pub fn is_found(
     match reach_and_relocate(alloc, module, placement) {
         Ok(image) => Ok(image_agrees(&image, placement.segments(), absent, program, base)),
         Err(RelocateFault::Reach(_fault)) => Ok(false),
+        Err(RelocateFault::Memory) => Err(AllocError),
+    }
+}
+
+/// The same, and some byte of the image is in a segment that is not absent.
+///
+/// # Errors
+///
+/// Those of `is_found`.
+pub fn is_found_in_part(
+    alloc: Global,
+    module: &Checked,
+    placement: &Placement,
+    absent: &[u16],
+    program: &[u8],
+    base: u32,
+) -> Result<bool, AllocError>
+    ensures { IfOk result (λ found. found ≡ true → IsFoundInPart (recs_of «module».now.bytes) placement.now absent.now program.now base) }
+{
+    let _count = segment_count(module);
+    match reach_and_relocate(alloc, module, placement) {
+        Ok(image) => Ok(part_agrees(&image, placement.segments(), absent, program, base)),
+        Err(RelocateFault::Reach(_)) => Ok(false),
         Err(RelocateFault::Memory) => Err(AllocError),
     }
 }

@@ -1,19 +1,27 @@
 //! Where a module's segments are in a program: patterns of a segment's bytes, and the places where they lie.
 #![tactic(auto)]
 
+mod asking;
 mod finding;
 mod findings;
+mod fixes;
+mod following;
 mod found;
 pub mod laws;
 mod matching;
+mod names;
 mod patterning;
 mod program;
 pub mod rows;
+mod settling;
+mod shapes;
+mod singles;
 mod tests;
+mod windows;
 
 pub use finding::find;
 pub use findings::{Asked, Candidate, FindOptions, Findings, Found, Verdict, Why};
-pub use found::is_found;
+pub use found::{is_found, is_found_in_part};
 pub use matching::places;
 pub use patterning::{Pattern, PatternByte, pattern_of};
 pub use program::Program;

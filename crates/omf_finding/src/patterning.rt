@@ -87,6 +87,13 @@ impl Pattern {
         )
     }
 
+    /// The first offset, the bytes and the marks of the k-th interval of a segment that data records cover, from 0 and in ascending order.
+    pub(crate) fn interval(&self, segment: u16, k: usize) -> Option<(u32, &[u8], &[u8])> {
+        let (first, values) = self.values.run_with_bytes(segment, k)?;
+        let marks = self.marks.run_bytes(segment, k)?;
+        Some((first, values, marks))
+    }
+
     /// The bytes of an interval of a segment.
     fn cells(&self, alloc: Global, segment: u16, run: Run) -> Result<Vec<Option<u8>>, AllocError>
         requires { run.first + run.len ≤ 2 ^ 32 }

@@ -1,5 +1,7 @@
 //! Programs as they are loaded.
 
+use std::alloc::AllocError;
+
 /// A program as it is loaded: real mode, where a frame's base is 16 times its selector.
 ///
 /// The image of an MZ file is loaded at address 0, so its selectors are those of the file. A .COM file is loaded at 100H.
@@ -17,4 +19,68 @@ pub struct Program {
     /// Other selectors that the program uses: SS of an MZ file; of a raw image those that the user names. Those of relocated words and CS
     /// need not be here.
     pub selectors: Vec<u16>,
+}
+
+impl Program {
+    /// The offset of an address in its bytes; `None` if it is outside.
+    pub(crate) fn offset_of(&self, address: u32) -> Option<usize> {
+        let offset = usize::try_from(address.checked_sub(self.base)?).ok()?;
+        if offset < self.bytes.len() {
+            Some(offset)
+        } else {
+            None
+        }
+    }
+
+    /// The bytes from an address on; none if it is outside.
+    pub(crate) fn bytes_at(&self, address: u32) -> &[u8] {
+        match self.offset_of(address) {
+            Some(offset) => self.bytes.as_slice().get(offset..).unwrap_or(&[]),
+            None => &[],
+        }
+    }
+
+    /// The little-endian number of 16 bits at an address.
+    pub(crate) fn word(&self, address: u32) -> Option<u16> {
+        match self.bytes_at(address) {
+            [low, high, ..] => Some(u16::from_le_bytes([*low, *high])),
+            _ => None,
+        }
+    }
+
+    /// The little-endian number of 8, 16 or 32 bits at an address, of this many bytes.
+    pub(crate) fn number(&self, address: u32, size: u8) -> Option<u32> {
+        little_number(self.bytes_at(address), size)
+    }
+
+    /// The selectors that it uses, in ascending order: of the words that the loader changes, of CS, and the others.
+    pub(crate) fn frames(&self) -> Result<Vec<u16>, AllocError> {
+        let mut frames = self.selectors.clone()?;
+        if let Some((selector, _offset)) = self.start {
+            frames.push(selector)?;
+        }
+        if let Some(relocated) = &self.relocated {
+            for address in relocated {
+                if let Some(selector) = self.word(*address) {
+                    frames.push(selector)?;
+                }
+            }
+        }
+        if frames.is_empty() {
+            frames.push(u16::try_from(self.base / 16).unwrap_or(0))?;
+        }
+        frames.sort_unstable();
+        frames.dedup();
+        Ok(frames)
+    }
+}
+
+/// The little-endian number of 1, 2 or 4 bytes at the front; of any other size, 4.
+pub(crate) fn little_number(bytes: &[u8], size: u8) -> Option<u32> {
+    match (size, bytes) {
+        (1, [a, ..]) => Some(u32::from(*a)),
+        (2, [a, b, ..]) => Some(u32::from(u16::from_le_bytes([*a, *b]))),
+        (4, [a, b, c, d, ..]) => Some(u32::from_le_bytes([*a, *b, *c, *d])),
+        _ => None,
+    }
 }

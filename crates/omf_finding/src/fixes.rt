@@ -1,0 +1,180 @@
+//! The fixups of a module, each with the bytes that its data have at its location.
+
+use crate::program::{Program, little_number};
+use omf_check::{Checked, Data, Undecoded};
+use omf_frame::Index;
+use omf_records::{Kind, LocationType};
+use omf_reloc::{FrameMethod, Piece, PlainFixup, TargetMethod, pieces_of};
+use std::alloc::{AllocError, Global};
+
+/// A fixup of a data record.
+#[derive(Clone, Copy, Drop)]
+pub(crate) struct Fix {
+    /// The segment of its data, from 1.
+    pub(crate) segment: u16,
+    /// The offset of its location in the segment.
+    pub(crate) location: u32,
+    pub(crate) kind: LocationType,
+    pub(crate) is_segment_relative: bool,
+    /// What its data have at the location, but for a selector.
+    own: u32,
+    /// What they have at the place of a selector.
+    own_selector: u16,
+    pub(crate) frame: FrameMethod,
+    pub(crate) target: TargetMethod,
+    pub(crate) displacement: u32,
+}
+
+/// The size of the part of a location that is no selector, in bytes.
+fn offset_size(kind: LocationType) -> u8 {
+    match kind {
+        LocationType::LowByte | LocationType::HighByte => 1,
+        LocationType::Offset16 | LocationType::LoaderOffset16 | LocationType::Pointer16 => 2,
+        LocationType::Offset32 | LocationType::LoaderOffset32 | LocationType::Pointer32 => 4,
+        LocationType::Base => 0,
+    }
+}
+
+/// Whether a location has a selector.
+fn has_selector(kind: LocationType) -> bool {
+    match kind {
+        LocationType::Base | LocationType::Pointer16 | LocationType::Pointer32 => true,
+        LocationType::LowByte
+        | LocationType::HighByte
+        | LocationType::Offset16
+        | LocationType::LoaderOffset16
+        | LocationType::Offset32
+        | LocationType::LoaderOffset32 => false,
+    }
+}
+
+/// The difference of two numbers, modulo 2 to the power of 8 times a size.
+fn wrapped(one: u32, other: u32, size: u8) -> u32 {
+    let difference = one.wrapping_sub(other);
+    match size {
+        1 => difference & 0xFF,
+        2 => difference & 0xFFFF,
+        _ => difference,
+    }
+}
+
+impl Fix {
+    /// A fixup in data of this segment, which begin at an offset.
+    fn of(fixup: &PlainFixup, segment: u16, offset: u32, data: &[u8]) -> Fix {
+        let kind = fixup.location.location_type();
+        let size = offset_size(kind);
+        let start = usize::from(fixup.location.offset());
+        let own = data.get(start..).unwrap_or(&[]);
+        let high = own.get(usize::from(size)..).unwrap_or(&[]);
+        Fix {
+            segment,
+            location: offset.wrapping_add(u32::from(fixup.location.offset())),
+            kind,
+            is_segment_relative: fixup.location.is_segment_relative(),
+            own: little_number(own, size).unwrap_or(0),
+            own_selector: match high {
+                [a, b, ..] => u16::from_le_bytes([*a, *b]),
+                _ => 0,
+            },
+            frame: fixup.reference.frame,
+            target: fixup.reference.target,
+            displacement: fixup.reference.displacement,
+        }
+    }
+
+    /// The entry whose frame it names.
+    pub(crate) fn frame_entry(&self) -> TargetMethod {
+        match self.frame {
+            FrameMethod::Of(entry) => entry,
+            FrameMethod::Location => entry_with(Kind::Segment, self.segment),
+            FrameMethod::Target => self.target,
+        }
+    }
+
+    /// What it adds to the selector at its location, where its segment is at this address; `None` if the location has none.
+    pub(crate) fn selector(&self, program: &Program, segment: u32) -> Option<u16> {
+        if !has_selector(self.kind) {
+            return None;
+        }
+        let at = segment
+            .wrapping_add(self.location)
+            .wrapping_add(u32::from(offset_size(self.kind)));
+        Some(program.word(at)?.wrapping_sub(self.own_selector))
+    }
+
+    /// What it adds to the offset at its location, where its segment is at this address; `None` if the location has none, or only a half.
+    pub(crate) fn offset(&self, program: &Program, segment: u32) -> Option<u32> {
+        let size = offset_size(self.kind);
+        if size == 0 || (size == 1 && self.is_segment_relative) {
+            return None;
+        }
+        let at = segment.wrapping_add(self.location);
+        Some(wrapped(program.number(at, size)?, self.own, size))
+    }
+
+    /// What it adds to a self-relative distance at its location, as a signed number of 32 bits, and the number of bytes of that; where its
+    /// segment is at this address.
+    pub(crate) fn distance(&self, program: &Program, segment: u32) -> Option<(u32, u8)> {
+        let size = offset_size(self.kind);
+        let at = segment.wrapping_add(self.location);
+        let distance = wrapped(program.number(at, size)?, self.own, size);
+        if size == 1 && distance >= 0x80 {
+            return Some((distance.wrapping_sub(0x100), size));
+        }
+        Some((distance, size))
+    }
+
+    /// The address after its location, where its segment is at this address.
+    pub(crate) fn after(&self, segment: u32) -> u32 {
+        segment
+            .wrapping_add(self.location)
+            .wrapping_add(u32::from(offset_size(self.kind)))
+    }
+}
+
+/// An entry of a kind, as a target.
+pub(crate) fn entry_with(kind: Kind, index: u16) -> TargetMethod {
+    TargetMethod {
+        kind,
+        index: Index(index & 0x7FFF),
+    }
+}
+
+/// The segment, the offset and the bytes of a record, if it is an LEDATA.
+fn plain_data<'a>(rec: &Undecoded<'a>) -> Option<(u16, u32, &'a [u8])> {
+    let Some(data) = rec.as_data() else {
+        return None;
+    };
+    match &data {
+        Data::Plain {
+            segment,
+            offset,
+            bytes,
+            ..
+        } => Some((segment.item.0, offset.item, *bytes)),
+        Data::Iterated { .. } => None,
+    }
+}
+
+/// The fixups of a module's data records, by segment, those of one segment in file order.
+pub(crate) fn fixes_of(alloc: Global, module: &Checked) -> Result<Vec<Fix>, AllocError> {
+    let mut fixes = Vec::new(alloc);
+    let mut segment = 0;
+    let mut offset = 0;
+    let mut data = module.bytes();
+    for (_, piece) in pieces_of(module) {
+        match &piece {
+            Piece::Kept(rec) => {
+                if let Some(found) = plain_data(rec) {
+                    (segment, offset, data) = found;
+                }
+            }
+            Piece::Fixed { fixup, .. } => {
+                fixes.push(Fix::of(fixup, segment, offset, data))?;
+            }
+            Piece::End { .. } => {}
+        }
+    }
+    fixes.sort_by_key(|fix| fix.segment)?;
+    Ok(fixes)
+}
