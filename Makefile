@@ -4,7 +4,7 @@
 #                       it in build/unproved/
 # make draft FILE=x.obj drafts a placement the same way; WORDS=--real, or WORDS="--base 7C00 --flat 1B", has the options
 # make look             the first example the same way
-# make try-all          builds the five programs without their proofs, under their names in build/unproved/bin (minutes, once)
+# make try-all          builds the six programs without their proofs, under their names in build/unproved/bin (minutes, once)
 # make library          proves and builds the library for C: build/libomf.a, build/libomf.so; with UNPROVED=1 both are in build/unproved/,
 #                       built without proofs in some minutes
 # make try-c            tests the library for C (tests/c/run.sh) over examples/ and the folder MODULES
@@ -12,14 +12,15 @@
 #                       build/unproved/omf.html, from programs built without proofs in some minutes
 # make try-page         tries the page in headless Chromium (tests/page.sh) over examples/ and the folder MODULES
 # make install          builds the programs and the library, and installs them under PREFIX: bin/omf, bin/omf-place, bin/omf-link,
-#                       bin/omf-dump, bin/omf-lib, share/man/man1/omf.1, omf-place.1, omf-link.1, omf-dump.1 and omf-lib.1,
+#                       bin/omf-dump, bin/omf-lib, bin/omf-find, share/man/man1/omf.1, omf-place.1, omf-link.1, omf-dump.1, omf-lib.1 and
+#                       omf-find.1,
 #                       lib/libomf.a, lib/libomf.so,
 #                       include/omf.h, lib/pkgconfig/omf.pc; the Python package is installed by `pip install ./python`, which needs no network
 # make dist             packs the proved programs, their man pages, the library, the page, and the last line of the log GATE of `.ci/run`
 #                       into build/omf-VERSION-x86_64-linux.tar.gz, the same bytes for the same files (dist/pack.sh)
 # make vendor DEST=DIR  copies the crates CRATES (omf_check) and those below them, with their lines of crates.txt, into the repository DIR
 # make shown            runs the commands that the pages show with the installed programs, and compares what they print; OMF, OMF_PLACE,
-#                       OMF_LINK, OMF_DUMP, OMF_LIB and LIBOMF name others (tests/shown.sh)
+#                       OMF_LINK, OMF_DUMP, OMF_LIB, OMF_FIND and LIBOMF name others (tests/shown.sh)
 # make release          runs what the gate leaves out: the C library, the Python package, the page in Chromium, the cases and other programs on
 #                       the built programs, failing devices, the examples in emulators, the commands of the pages, and tests/fuzz for MINUTES
 #                       (10) a target; PLANTED=1 adds tests/planted.sh, MODULES a folder of modules, STAGES="page fuzz" runs these alone. It
@@ -59,7 +60,7 @@ try:
 
 try-all:
 	@mkdir -p build/unproved/bin
-	@for crate in omf omf_place omf_link omf_dump omf_lib; do \
+	@for crate in omf omf_place omf_link omf_dump omf_lib omf_find; do \
 		program=$$(tests/unproved.sh $$crate) && ln -sf "../$$crate" "build/unproved/bin/$$(echo $$crate | tr _ -)" || exit 1; \
 	done
 	@echo "the programs are in build/unproved/bin, built without their proofs"
@@ -75,6 +76,7 @@ build:
 	@cat examples/link/start.obj examples/link/say.obj examples/link/mark.obj examples/link/program.link | (cd crates/omf_link && rt run -- image) > /dev/null
 	@(cd crates/omf_dump && rt run) < examples/first.omf > /dev/null
 	@(cd crates/omf_lib && rt run -- list -) < examples/library/small.lib > /dev/null
+	@(cd crates/omf_find && rt run -- --base 0 - ../../examples/library/small.lib) < examples/first.omf > /dev/null
 
 ifeq ($(UNPROVED),1)
 library:
@@ -116,18 +118,20 @@ install: proved build library
 	install -m 755 crates/omf_link/out/omf_link $(DESTDIR)$(PREFIX)/bin/omf-link
 	install -m 755 crates/omf_dump/out/omf_dump $(DESTDIR)$(PREFIX)/bin/omf-dump
 	install -m 755 crates/omf_lib/out/omf_lib $(DESTDIR)$(PREFIX)/bin/omf-lib
+	install -m 755 crates/omf_find/out/omf_find $(DESTDIR)$(PREFIX)/bin/omf-find
 	install -m 644 man/omf.1 $(DESTDIR)$(PREFIX)/share/man/man1/omf.1
 	install -m 644 man/omf-place.1 $(DESTDIR)$(PREFIX)/share/man/man1/omf-place.1
 	install -m 644 man/omf-link.1 $(DESTDIR)$(PREFIX)/share/man/man1/omf-link.1
 	install -m 644 man/omf-dump.1 $(DESTDIR)$(PREFIX)/share/man/man1/omf-dump.1
 	install -m 644 man/omf-lib.1 $(DESTDIR)$(PREFIX)/share/man/man1/omf-lib.1
+	install -m 644 man/omf-find.1 $(DESTDIR)$(PREFIX)/share/man/man1/omf-find.1
 	install -m 644 include/omf.h $(DESTDIR)$(PREFIX)/include/omf.h
 	install -m 644 build/libomf.a $(DESTDIR)$(PREFIX)/lib/libomf.a
 	install -m 755 build/libomf.so $(DESTDIR)$(PREFIX)/lib/libomf.so
 	sed 's|@PREFIX@|$(PREFIX)|; s|@VERSION@|$(VERSION)|' include/omf.pc.in > $(DESTDIR)$(PREFIX)/lib/pkgconfig/omf.pc
 
 dist: proved build library page
-	dist/pack.sh omf=crates/omf/out/omf omf-place=crates/omf_place/out/omf_place omf-link=crates/omf_link/out/omf_link omf-dump=crates/omf_dump/out/omf_dump omf-lib=crates/omf_lib/out/omf_lib
+	dist/pack.sh omf=crates/omf/out/omf omf-place=crates/omf_place/out/omf_place omf-link=crates/omf_link/out/omf_link omf-dump=crates/omf_dump/out/omf_dump omf-lib=crates/omf_lib/out/omf_lib omf-find=crates/omf_find/out/omf_find
 
 vendor:
 	@test -n "$(DEST)" || { echo "usage: make vendor DEST=DIR [CRATES='omf_check ..']"; exit 2; }

@@ -11,7 +11,7 @@ nothing, and where none is done.
 MINUTES      for each target of tests/fuzz (10; 0 leaves them out). The inputs that broke a promise are in build/release-fuzz
 MODULES      folders of more modules, for the stages that take some; examples/ is always there
 PLANTED=1    runs tests/planted.sh too, which takes the prover for an hour or more
-OMF, OMF_PLACE, OMF_LINK, OMF_DUMP, OMF_LIB, LIBRARY, LIBOMF, PAGE    name other files than crates/*/out and build/ have"""
+OMF, OMF_PLACE, OMF_LINK, OMF_DUMP, OMF_LIB, OMF_FIND, LIBRARY, LIBOMF, PAGE    name other files than crates/*/out and build/ have"""
 import collections
 import os
 import pathlib
@@ -25,7 +25,7 @@ import time
 
 ROOT = pathlib.Path(__file__).resolve().parent.parent
 LOG, BROKEN = ROOT / "build" / "release.log", ROOT / "build" / "release-fuzz"
-PROGRAMS = {it.upper(): (f"crates/{it}/out/{it}", "make build") for it in ("omf", "omf_place", "omf_link", "omf_dump", "omf_lib")}
+PROGRAMS = {it.upper(): (f"crates/{it}/out/{it}", "make build") for it in ("omf", "omf_place", "omf_link", "omf_dump", "omf_lib", "omf_find")}
 BUILT = PROGRAMS | {"LIBRARY": ("build/libomf.a", "make library"), "LIBOMF": ("build/libomf.so", "make library"), "PAGE": ("build/omf.html", "make page")}
 FILES = {name: pathlib.Path(os.environ.get(name) or ROOT / path).absolute() for name, (path, _) in BUILT.items()}
 MINUTES = float(os.environ.get("MINUTES") or 10)

@@ -3,7 +3,7 @@
 #
 # A command is a line `$ ..` in a block ```console of the page; the lines after it, up to the next command or the end of the
 # block, are what it must print. Bytes that the block shows before its first command must be in the file that the command reads.
-# OMF, OMF_PLACE, OMF_LINK, OMF_DUMP and OMF_LIB name the programs (omf, omf-place, omf-link, omf-dump and omf-lib, if not set), and LIBOMF
+# OMF, OMF_PLACE, OMF_LINK, OMF_DUMP, OMF_LIB and OMF_FIND name the programs (omf, omf-place, omf-link, omf-dump, omf-lib and omf-find, if not set), and LIBOMF
 # the shared library (build/libomf.so). Where there is no omf, or OMF is empty, `rt try` runs it from its sources, without any proof; commands
 # that need the system's own files or another program are then left out. So are commands whose tools are not installed, and those on files
 # that are not part of the repository. The last line has how many were left out.
@@ -40,6 +40,7 @@ lacks_tool() {
     grep -q 'omf-link\|examples/link/run\|examples/pair/run' <<< "$1" && ! command -v omf-link > /dev/null && return
     grep -q 'omf-dump' <<< "$1" && ! command -v omf-dump > /dev/null && return
     grep -q 'omf-lib' <<< "$1" && ! command -v omf-lib > /dev/null && return
+    grep -q 'omf-find\|examples/find/run' <<< "$1" && ! command -v omf-find > /dev/null && return
     grep -q '/srv/\|FOLDER\|< slow' <<< "$1" && return
     grep -q 'pkg-config\|\./show' <<< "$1" && ! pkg-config --exists omf 2> /dev/null && return
     grep -q 'build/libomf' <<< "$1" && ! [ -e "$library" ] && return
@@ -67,6 +68,7 @@ link_program omf-place "${OMF_PLACE:-omf-place}" || true
 link_program omf-link "${OMF_LINK:-omf-link}" || true
 link_program omf-dump "${OMF_DUMP:-omf-dump}" || true
 link_program omf-lib "${OMF_LIB:-omf-lib}" || true
+link_program omf-find "${OMF_FIND:-omf-find}" || true
 [ -z "${LIBOMF:-}" ] || ! [ -e "$library" ] || install_library
 if link_program omf "$omf"; then
     collects=no

@@ -1,0 +1,3 @@
+mod GatheredLaws
+mod MzLaws
+mod RowLaws

@@ -1,0 +1,8 @@
+use Rattle.std.proofs.Common.{◌≡◌, ◌++◌, take}
+use Rattle.std.specs.Prelude.{flat_map}
+use Rattle.omf_find.specs.Fields.{name_byte}
+use Rattle.omf_find.proofs.fields.put_name_bytes.Given as goal
+
+-- the bytes so far
+abbrev pub invariant-loop-byte : goal.invariant-loop-byte
+invariant-loop-byte l = l.text.items ≡ l.fn.text.items ++ flat_map (name_byte l.format) (take l.byte-index l.name)

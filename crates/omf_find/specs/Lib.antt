@@ -1,0 +1,11 @@
+pub mod Marks
+pub mod Mz
+pub mod Loaded
+pub mod Gathered
+pub mod Fields
+pub mod Origin
+pub mod NameRow
+pub mod Rows
+pub mod Map
+pub mod Symbols
+pub mod Output

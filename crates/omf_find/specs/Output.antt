@@ -1,0 +1,15 @@
+-- What is written of findings (this profile's rule): a map, or the symbols of a tool.
+use Rattle.std.specs.Prelude.{ℕ, List, Option, unwrap_or}
+use Rattle.omf_finding.specs.declared.findings.Verdict.{Verdict}
+use Rattle.omf_find.specs.Map.{IsMap}
+use Rattle.omf_find.specs.Symbols.{AreSymbols, usual_load}
+use Rattle.omf_find.specs.declared.asked.Output.{Output}
+use Rattle.omf_find.specs.declared.asked.Output.TheVariants as output
+use Rattle.omf_find.specs.declared.fields.Format.TheVariants as format
+use Rattle.omf_find.specs.declared.loading.Kind.{Kind}
+use Rattle.omf_find.specs.declared.reading.Gathered.{Gathered}
+
+abbrev pub IsOutput : Output → Option ℕ → Kind → List (List ℕ) → Gathered → List Verdict → List ℕ → Type 0
+IsOutput output.Text load kind files g vs text = IsMap format.Text files g vs text
+IsOutput output.Json load kind files g vs text = IsMap format.Json files g vs text
+IsOutput (output.Symbols tool) load kind files g vs text = AreSymbols tool (unwrap_or load (usual_load tool kind)) g vs text

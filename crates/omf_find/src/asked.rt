@@ -1,0 +1,193 @@
+//! The arguments of `omf-find`.
+
+use omf_check::Profile;
+use omf_placement::hexadecimal;
+use std::alloc::{AllocError, Global};
+
+/// The tools for which symbols are written.
+#[derive(Clone, Copy, Debug, PartialEq, Eq)]
+pub enum Tool {
+    Ghidra,
+    Ida,
+    Radare,
+    Nm,
+}
+
+/// What is written.
+#[derive(Clone, Copy, Debug, PartialEq, Eq)]
+pub enum Output {
+    /// A map, as text.
+    Text,
+    /// A map, an object of JSON on each line.
+    Json,
+    /// The names that are found, for a tool.
+    Symbols(Tool),
+}
+
+/// What the arguments ask for.
+#[derive(Drop)]
+pub struct Asked {
+    pub output: Output,
+    pub profile: Profile,
+    /// The address of the first byte of a raw image; None for an MZ or a .COM file.
+    pub base: Option<u32>,
+    /// The selectors that a raw image uses.
+    pub selectors: Vec<u16>,
+    /// What a tool adds to the addresses of the program; None for what it usually adds.
+    pub load: Option<u32>,
+    /// The number of bytes from which on one place of them is enough.
+    pub least: usize,
+    /// Whether the places that are only possible are shown.
+    pub shows_possible: bool,
+    /// The names of the program and of the files; `-` is the standard input.
+    pub files: Vec<String>,
+}
+
+impl Asked {
+    /// A map of a program, as text.
+    fn new(alloc: Global) -> Asked {
+        Asked {
+            output: Output::Text,
+            profile: Profile {
+                refuse_vendor_comments: false,
+            },
+            base: None,
+            selectors: Vec::new(alloc),
+            load: None,
+            least: 16,
+            shows_possible: false,
+            files: Vec::new(alloc),
+        }
+    }
+}
+
+/// What one argument is.
+#[derive(Clone, Copy)]
+enum Word {
+    Json,
+    /// The name of a tool follows as the next argument.
+    Symbols,
+    /// An address follows.
+    Base,
+    /// A selector follows.
+    Frame,
+    /// An address follows.
+    Load,
+    /// A number follows.
+    Least,
+    Possible,
+    RefuseVendorComments,
+    File,
+    Unknown,
+}
+
+/// What an argument is: an option; a file's name, which does not begin with a dash unless it is `-` alone; or neither.
+fn word_of(argument: &str) -> Word {
+    match argument {
+        "--json" => Word::Json,
+        "--symbols" => Word::Symbols,
+        "--base" => Word::Base,
+        "--frame" => Word::Frame,
+        "--load" => Word::Load,
+        "--least" => Word::Least,
+        "--possible" => Word::Possible,
+        "--refuse-vendor-comments" => Word::RefuseVendorComments,
+        "-" => Word::File,
+        _ if argument.starts_with('-') => Word::Unknown,
+        _ => Word::File,
+    }
+}
+
+/// The tool that an argument names.
+fn tool_of(argument: &str) -> Option<Tool> {
+    match argument {
+        "ghidra" => Some(Tool::Ghidra),
+        "ida" => Some(Tool::Ida),
+        "r2" => Some(Tool::Radare),
+        "nm" => Some(Tool::Nm),
+        _ => None,
+    }
+}
+
+/// The address that an argument is: hexadecimal digits.
+fn address_of(argument: &str) -> Option<u32> {
+    hexadecimal(argument.as_bytes(), 8)
+}
+
+/// The selector that an argument is: hexadecimal digits.
+fn selector_of(argument: &str) -> Option<u16> {
+    let number = hexadecimal(argument.as_bytes(), 4)?;
+    u16::try_from(number).ok()
+}
+
+/// Takes an option without a value. Returns whether it is one.
+fn take_flag(asked: &mut Asked, word: Word) -> bool {
+    match word {
+        Word::Json => asked.output = Output::Json,
+        Word::Possible => asked.shows_possible = true,
+        Word::RefuseVendorComments => asked.profile.refuse_vendor_comments = true,
+        _ => return false,
+    }
+    true
+}
+
+/// Takes the value of an option. Returns whether it is one.
+fn take_value(asked: &mut Asked, word: Word, value: &str) -> Result<bool, AllocError> {
+    match word {
+        Word::Symbols => match tool_of(value) {
+            Some(tool) => asked.output = Output::Symbols(tool),
+            None => return Ok(false),
+        },
+        Word::Frame => match selector_of(value) {
+            Some(selector) => asked.selectors.push(selector)?,
+            None => return Ok(false),
+        },
+        Word::Least => match value.parse::<usize>() {
+            Ok(least) => asked.least = least,
+            Err(_) => return Ok(false),
+        },
+        Word::Base => match address_of(value) {
+            Some(base) => asked.base = Some(base),
+            None => return Ok(false),
+        },
+        Word::Load => match address_of(value) {
+            Some(load) => asked.load = Some(load),
+            None => return Ok(false),
+        },
+        _ => return Ok(false),
+    }
+    Ok(true)
+}
+
+/// Takes the value of an option, if there is one.
+fn take_next(asked: &mut Asked, word: Word, value: Option<String>) -> Result<bool, AllocError> {
+    match value {
+        Some(value) => take_value(asked, word, value.as_str()),
+        None => Ok(false),
+    }
+}
+
+/// What the arguments ask for, without the program's own name; None if they are not understood.
+///
+/// # Errors
+///
+/// `AllocError` if memory ran out.
+pub fn read_arguments(alloc: Global, arguments: Vec<String>) -> Result<Option<Asked>, AllocError> {
+    let mut asked = Asked::new(alloc);
+    let mut words = arguments.into_iter();
+    while let Some(argument) = words.next() {
+        match word_of(argument.as_str()) {
+            Word::File => asked.files.push(argument)?,
+            Word::Unknown => return Ok(None),
+            word => {
+                if !take_flag(&mut asked, word) && !take_next(&mut asked, word, words.next())? {
+                    return Ok(None);
+                }
+            }
+        }
+    }
+    if asked.base.is_none() && !asked.selectors.is_empty() {
+        return Ok(None);
+    }
+    Ok(Some(asked))
+}

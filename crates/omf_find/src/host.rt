@@ -1,0 +1,267 @@
+//! The program on the arguments, the files, the standard output and the standard error of its process.
+
+ghost use Rattle.std.specs.Prelude.{◌≡◌, ℕ, List, IfOk, map, string_bytes, unwrap_or};
+ghost use Rattle.omf_finding.specs.declared.findings.Findings.{Findings};
+ghost use Rattle.omf_host.specs.Ending.{IsPut};
+ghost use Rattle.omf_find.specs.Output.{IsOutput};
+ghost use Rattle.omf_find.specs.Symbols.{usual_load};
+
+use crate::asked::{Asked, Output, Tool, read_arguments};
+use crate::fields::Format;
+use crate::lines::{fault_line, note_line};
+use crate::loading::{Kind, LoadFault, Loaded, load};
+use crate::reading::Gathered;
+use crate::report::{Shown, map_text};
+use crate::source::Source;
+use crate::symbols::{symbols_text, usual_load};
+use omf_finding::{FindOptions, Findings, find};
+use omf_frame::{Sink, Writing};
+use omf_host::{
+    About, Status, arguments, end, explain, misused, misused_by, out_of_memory, put, put_unread,
+    question_in, read_input,
+};
+use std::alloc::{AllocError, Global};
+use std::io;
+use std::process::ExitCode;
+
+/// What the program shows of itself.
+const ABOUT: About = About {
+    name: "omf-find",
+    usage: "usage: omf-find [--symbols TOOL] [--load ADDRESS] [--json] [--possible]
+       [--least N] [--base ADDRESS] [--frame SELECTOR]
+       [--refuse-vendor-comments] PROGRAM FILE ..
+",
+    details: "
+Finds the modules of object files (.OBJ) and libraries (.LIB) in a DOS program
+(.EXE, .COM) or in a raw image, and prints where their segments and names are.
+
+  --symbols TOOL            only the names, as a tool imports them: ghidra, ida,
+                            r2 or nm
+  --load ADDRESS            add this to the addresses of symbols, in place of
+                            10000 for ghidra and ida where they load an .EXE
+  --json                    one object of JSON on each line
+  --possible                also where a module may be, and why it is not sure
+  --least N                 take a segment by its bytes alone from N bytes on,
+                            in place of 16
+  --base ADDRESS            the program is a raw image from this address on
+  --frame SELECTOR          a segment register of a raw image has this value;
+                            without it, that of its first byte
+  --refuse-vendor-comments  refuse comments of the classes C0H to FFH
+
+Addresses and selectors are hexadecimal. omf-find(1) and docs/FIND.md have more.
+",
+};
+
+/// The line for a file that could not be read.
+fn unread(alloc: Global, name: &str, error: &io::Error) -> Result<Vec<u8>, AllocError> {
+    let mut line = String::new(alloc);
+    put_unread(&mut line, name, error)?;
+    Ok(line.into_bytes())
+}
+
+/// Why nothing is searched: the line to write, and the status.
+#[derive(Drop)]
+struct Refusal {
+    line: Vec<u8>,
+    status: Status,
+}
+
+/// The bytes of a file; or why it could not be read.
+fn bytes_of(rt: &HostRuntime, name: &str) -> Result<Result<Vec<u8>, Refusal>, AllocError> {
+    match read_input(rt, name) {
+        Ok(bytes) => Ok(Ok(bytes)),
+        Err(error) => Ok(Err(Refusal {
+            line: unread(rt.alloc(), name, &error)?,
+            status: Status::Failed,
+        })),
+    }
+}
+
+/// The selectors of a raw image: those that are given, or else that of its first byte.
+fn selectors_of(asked: &Asked) -> Result<Vec<u16>, AllocError> {
+    let mut selectors = asked.selectors.clone()?;
+    if let Some(base) = asked.base
+        && selectors.is_empty()
+        && let Ok(selector) = u16::try_from(base / 16)
+    {
+        selectors.push(selector)?;
+    }
+    Ok(selectors)
+}
+
+/// The program; or why it is not searched.
+fn program_of(
+    rt: &HostRuntime,
+    asked: &Asked,
+    name: &str,
+) -> Result<Result<Loaded, Refusal>, AllocError> {
+    let file = match bytes_of(rt, name)? {
+        Ok(file) => file,
+        Err(refusal) => return Ok(Err(refusal)),
+    };
+    let selectors = selectors_of(asked)?;
+    match load(rt.alloc(), asked.base, selectors, name, file) {
+        Ok(loaded) => Ok(Ok(loaded)),
+        Err(LoadFault::Memory) => Err(AllocError),
+        Err(fault) => Ok(Err(Refusal {
+            line: fault_line(rt.alloc(), name, fault)?,
+            status: Status::Refused,
+        })),
+    }
+}
+
+/// The modules of the files; or why one of these could not be read.
+fn modules_of(
+    rt: &HostRuntime,
+    asked: &Asked,
+    files: &[String],
+) -> Result<Result<Gathered, Refusal>, AllocError> {
+    let mut gathered = Gathered::new(rt.alloc());
+    for (number, name) in files.iter().enumerate() {
+        match bytes_of(rt, name.as_str())? {
+            Ok(bytes) => gathered.take_file(asked.profile, number, name.as_str(), &bytes)?,
+            Err(refusal) => return Ok(Err(refusal)),
+        }
+    }
+    Ok(Ok(gathered))
+}
+
+/// What is added to the addresses of symbols.
+fn load_of(asked: Option<u32>, tool: Tool, kind: Kind) -> u32
+    ensures { result ≡ unwrap_or asked (usual_load tool kind) }
+{
+    match asked {
+        Some(load) => load,
+        None => usual_load(tool, kind),
+    }
+}
+
+/// What is written of findings.
+fn text_of(
+    alloc: Global,
+    asked: &Asked,
+    loaded: &Loaded,
+    source: Source<'_>,
+    findings: &Findings,
+) -> Result<Vec<u8>, AllocError>
+    ensures { IfOk result (λ text. IsOutput asked.now.output asked.now.load loaded.now.kind (map string_bytes source.entry.files.now) source.entry.gathered.now findings.now.verdicts.items text.items) }
+{
+    let shown = Shown {
+        program: &loaded.program,
+        findings,
+        shows_possible: asked.shows_possible,
+    };
+    match asked.output {
+        Output::Text => map_text(alloc, Format::Text, source, shown),
+        Output::Json => map_text(alloc, Format::Json, source, shown),
+        Output::Symbols(tool) => {
+            let load = load_of(asked.load, tool, loaded.kind);
+            symbols_text(alloc, tool, load, source, findings)
+        }
+    }
+}
+
+/// Writes what a search finds.
+fn search<K: Sink>(
+    alloc: Global,
+    writer: &mut K,
+    asked: &Asked,
+    loaded: &Loaded,
+    source: Source<'_>,
+) -> Result<Status, AllocError>
+    ensures { IfOk result (λ status. (f : Findings) × (text : List ℕ) × IsOutput asked.now.output asked.now.load loaded.now.kind (map string_bytes source.entry.files.now) source.entry.gathered.now f.verdicts.items text × IsPut (K.seen writer.old) (K.seen writer.new) text status) }
+{
+    let options = FindOptions {
+        least: asked.least,
+        most: 64,
+    };
+    let findings = find(alloc, source.modules(), &loaded.program, &options)?;
+    let text = text_of(alloc, asked, loaded, source, &findings)?;
+    Ok(put(writer, &text))
+}
+
+/// Writes the notes on the program and on what is left out of the files to the standard error. Returns the status.
+fn note(
+    rt: &HostRuntime,
+    name: &str,
+    loaded: &Loaded,
+    gathered: &Gathered,
+) -> Result<Status, AllocError> {
+    if let Some(packer) = loaded.packer {
+        let line = note_line(rt.alloc(), name, packer)?;
+        let _ = eprint!(rt; "{line}");
+    }
+    let left_out = gathered.left_out.as_str();
+    let _ = eprint!(rt; "{left_out}");
+    if left_out.is_empty() {
+        Ok(Status::Done)
+    } else {
+        Ok(Status::Refused)
+    }
+}
+
+/// Writes why nothing is searched. Returns the status.
+fn refuse<K: Sink>(writer: &mut K, refusal: &Refusal) -> Status {
+    refusal.status.worst(put(writer, &refusal.line))
+}
+
+/// Searches a program for the modules of files. Returns the status.
+fn act_on<K: Sink>(
+    rt: &HostRuntime,
+    writer: &mut K,
+    asked: &Asked,
+    name: &str,
+    files: &[String],
+) -> Result<Status, AllocError> {
+    let loaded = match program_of(rt, asked, name)? {
+        Ok(loaded) => loaded,
+        Err(refusal) => return Ok(refuse(writer, &refusal)),
+    };
+    let gathered = match modules_of(rt, asked, files)? {
+        Ok(gathered) => gathered,
+        Err(refusal) => return Ok(refuse(writer, &refusal)),
+    };
+    let noted = note(rt, name, &loaded, &gathered)?;
+    let source = Source {
+        files,
+        gathered: &gathered,
+    };
+    let status = search(rt.alloc(), writer, asked, &loaded, source)?;
+    Ok(status.worst(noted))
+}
+
+/// Writes that a file is missing after the program. Returns `Misused`.
+fn without_file<K: Sink>(rt: &HostRuntime, writer: &mut K) -> Status {
+    let _ = eprint!(rt; "omf-find: there is no \"FILE\"\n");
+    let about = &ABOUT;
+    misused(writer, about.usage.as_bytes())
+}
+
+/// Does what the arguments ask for. Returns the status.
+fn act<K: Sink>(rt: &HostRuntime, writer: &mut K) -> Result<Status, AllocError> {
+    let Some(words) = arguments(rt)? else {
+        return misused_by(rt, writer, &ABOUT);
+    };
+    if let Some(question) = question_in(&words) {
+        return explain(rt.alloc(), writer, question, &ABOUT);
+    }
+    let Some(asked) = read_arguments(rt.alloc(), words)? else {
+        return misused_by(rt, writer, &ABOUT);
+    };
+    match asked.files.as_slice() {
+        [] => misused_by(rt, writer, &ABOUT),
+        [_] => Ok(without_file(rt, writer)),
+        [program, files @ ..] => act_on(rt, writer, &asked, program.as_str(), files),
+    }
+}
+
+/// Runs the program. Returns the exit status: 0 done, 1 the program or a part of a file is refused, 2 the arguments are not understood, 3 a file
+/// could not be read, the output could not be written, or memory ran out.
+pub fn run(rt: &HostRuntime) -> ExitCode {
+    let mut output = Writing::new(rt.stdout());
+    let status = match act(rt, &mut output) {
+        Ok(status) => status,
+        Err(AllocError) => out_of_memory(&mut output),
+    };
+    end(&mut output, status)
+}

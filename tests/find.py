@@ -1,0 +1,216 @@
+#!/usr/bin/env python3
+"""Tries omf-find: find.py
+
+On programs that omf-link makes of the examples, whose addresses its map has: of given modules and of libraries, as .EXE, as .COM and as a raw
+image. Each segment that is found must be where the map has it, and all segments with code must be found. And on files that are no programs, or
+are packed, and with parts of files that are refused. OMF_FIND, OMF_LINK and OMF_LIB name the programs (omf-find, omf-link and omf-lib, if not
+set). The last line has how much was tried."""
+import json
+import os
+import pathlib
+import re
+import struct
+import subprocess
+import sys
+import tempfile
+
+ROOT = pathlib.Path(__file__).resolve().parent.parent
+EXAMPLES = ROOT / "examples"
+FIND, LINK, LIB = (os.environ.get(name.replace("-", "_").upper()) or name for name in ("omf-find", "omf-link", "omf-lib"))
+# The task of omf-link and the modules of a program.
+PROGRAMS = [("exe", ["exe/main.obj", "exe/show.obj", "exe/report.obj"]), ("com", ["com/hello.obj", "com/say.obj"]), ("exe", ["order/main.obj", "order/show.obj"])]
+tried, failed = 0, 0
+
+
+def fails(what, *more):
+    global failed
+    failed += 1
+    print("failed:", what, *more)
+
+
+def run(*words, folder):
+    """The status, the standard output and the standard error of a program."""
+    done = subprocess.run([str(it) for it in words], cwd=folder, stdin=subprocess.DEVNULL, capture_output=True, timeout=60)
+    return done.returncode, done.stdout.decode("latin-1"), done.stderr.decode("latin-1")
+
+
+def lines_of(folder, *words):
+    """The lines of JSON of a run that must end with the status 0."""
+    global tried
+    tried += 1
+    status, output, error = run(FIND, "--json", *words, folder=folder)
+    if status or error:
+        fails("status", status, words, error)
+    return [json.loads(it) for it in output.splitlines()]
+
+
+def mapped(text):
+    """The address of each segment of a map, by the number of its module and its own; and the segments of a class of code."""
+    found = re.findall(r'^segment (\d+) (\d+) ([0-9A-F]{8}) ([0-9A-F]{8}) "[^"]*" "([^"]*)"$', text, re.M)
+    places = {(int(module), int(index)): int(address, 16) for module, index, address, _, _ in found}
+    return places, {(int(module), int(index)) for module, index, _, length, name in found if name.endswith("CODE") and int(length, 16)}
+
+
+def compare(what, lines, places, code, number_of):
+    """Compares the segments that are found with a map. `number_of` gives the number of a module in the map by its file and member."""
+    found = {}
+    for line in lines:
+        if "segment" in line:
+            found[number_of(line["file"], line["member"]), line["index"]] = line["segment"]
+    for key, address in found.items():
+        if places.get(key) != address:
+            fails(what, "segment", key, "is found at", hex(address), "and not at", places.get(key))
+    missing = {it for it in code if it not in found}
+    if missing:
+        fails(what, "not found:", sorted(missing))
+    return found
+
+
+def linked(folder):
+    """Programs of given modules, of a library, and of modules that are not in them."""
+    for task, names in PROGRAMS:
+        files = [EXAMPLES / it for it in names]
+        program = f"prog.{task}"
+        status, output, error = run(LINK, task, "-o", program, "--map", "prog.map", *files, folder=folder)
+        if status:
+            fails(names, output, error)
+            continue
+        places, code = mapped((folder / "prog.map").read_text())
+        first = max((int(it) for it in re.findall(r"^module (\d+) file ", (folder / "prog.map").read_text(), re.M)), default=0) - len(files)
+        numbers = {(str(path), 0): first + 1 + k for k, path in enumerate(files)}
+        lines = lines_of(folder, program, *files)
+        found = compare(names, lines, places, code, lambda file, member: numbers[file, member])
+        if [it["found"] for it in lines if "program" in it] != [len(files)]:
+            fails(names, "not all modules are found")
+        (folder / "rt.lib").unlink(missing_ok=True)
+        run(LIB, "make", "-o", "rt.lib", *files[1:], folder=folder)
+        lines = lines_of(folder, program, "rt.lib")
+        compare([*names, "library"], lines, places, {it for it in code if it[0] > first + 1}, lambda file, member: first + 2 + member)
+        if task == "com":
+            lines = lines_of(folder, "--base", "100", "--frame", "0", program, *files)
+            compare([*names, "raw"], lines, places, code, lambda file, member: numbers[file, member])
+        others = [EXAMPLES / it for _, them in PROGRAMS for it in them if them is not names and not it.endswith("main.obj")]
+        wrong = [it for it in lines_of(folder, program, *others) if "segment" in it and it["class"].endswith("CODE")]
+        if wrong:
+            fails(names, "found though it is not there:", wrong)
+        symbols(folder, program, files, lines_of(folder, program, *files), task)
+        if not found:
+            fails(names, "nothing is found")
+
+
+# Each tool: what is added to the addresses of an .EXE, and what a line of a symbol looks like.
+FORMS = {"ghidra": (0x10000, r"(?P<name>\S+) 0x(?P<address>[0-9A-F]{8}) [fl]"), "ida": (0x10000, r'  set_name\(0x(?P<address>[0-9A-F]{8}), "(?P<name>[^"]+)", SN_NOCHECK \| SN_NOWARN\);'),
+         "r2": (0, r"f sym\.(?P<name>[A-Za-z0-9._]+) 1 0x(?P<address>[0-9A-F]{8})"), "nm": (0, r"(?P<address>[0-9A-F]{8}) [TD] (?P<name>\S+)")}
+
+
+def symbols(folder, program, files, lines, task):
+    """The symbols of each form are the publics of the map."""
+    global tried
+    wanted = [(it["name"], it["public"]) for it in lines if "public" in it]
+    for tool, (load, form) in FORMS.items():
+        tried += 1
+        load = load if task == "exe" or tool == "ida" else 0
+        status, output, error = run(FIND, "--symbols", tool, program, *files, folder=folder)
+        text = output.splitlines()
+        if tool == "ida":
+            if text[:2] != ["#include <idc.idc>", "static main() {"] or text[-1:] != ["}"]:
+                fails(tool, "the script", text)
+            text = text[2:-1]
+        found = [re.fullmatch(form, it) for it in text]
+        if status or error or not all(found) or [(it["name"], int(it["address"], 16) - load) for it in found] != wanted:
+            fails(tool, program, status, output, error, wanted)
+        _, moved, _ = run(FIND, "--symbols", tool, "--load", "20000", program, *files, folder=folder)
+        if [int(it["address"], 16) - 0x20000 for it in map(re.compile(form).fullmatch, moved.splitlines()) if it] != [address for _, address in wanted]:
+            fails(tool, "--load")
+
+
+def header(image=b"", last=None, pages=None, count=0, paragraphs=2, start=(0, 0), table=28):
+    """An MZ file: 28 bytes of header, 4 of padding, and the image."""
+    size = 16 * paragraphs + len(image)
+    words = [0x5A4D, size % 512 if last is None else last, (size + 511) // 512 if pages is None else pages, count, paragraphs, 0, 0xFFFF, 0, 256, 0, start[1], start[0], table, 0]
+    return struct.pack("<14H", *words) + bytes(16 * paragraphs - 28) + image
+
+
+def with_mark(at, mark, size=80):
+    """An MZ file with bytes at an offset."""
+    file = bytearray(header(bytes(size - 32)))
+    file[at:at + len(mark)] = mark
+    return bytes(file)
+
+
+def stub(mark):
+    """An MZ file whose bytes 60 to 63 are the offset of another header."""
+    return with_mark(60, struct.pack("<I", 64) + mark)
+
+
+UNKNOWN = "neither an MZ file nor named .com; --base takes it as a raw image"
+OTHER = " after an MZ stub; write the bytes of a segment to a file and search that with --base"
+# A name, a file, and why it is refused.
+REFUSED = [("x.bin", b"\x90" * 16, UNKNOWN), ("x.exe", b"", UNKNOWN), ("x.exe", b"MZ", "the header is cut"), ("x.exe", header()[:27], "the header is cut"),
+           ("x.exe", header(last=512), "by its header the last page has more than 511 bytes: 512"), ("x.exe", header(bytes(16), pages=2), "it has fewer bytes than its header gives: 560"),
+           ("x.exe", header(bytes(16))[:-1], "it has fewer bytes than its header gives: 48"), ("x.exe", header(bytes(16), paragraphs=2)[:8] + b"\x04\0" + header(bytes(16))[10:], "the header is longer than the file: 64 bytes"),
+           ("x.exe", header(bytes(16), count=6), "the relocation table passes the end of the file: it ends at 52"),
+           ("x.exe", header(bytes(16), count=1, table=32), None), ("x.exe", header(struct.pack("<HH", 3, 0), count=1, table=32), "a relocation word is outside the image: 00000003"),
+           ("x.com", bytes(65281), "longer than 65280 bytes, so no .COM file"), ("x.exe", stub(b"NE"), "an NE file (16-bit Windows, OS/2)" + OTHER),
+           ("x.exe", stub(b"LE"), "an LE file (OS/2, a DOS extender, a driver of Windows)" + OTHER), ("x.exe", stub(b"LX"), "an LX file (OS/2)" + OTHER),
+           ("x.exe", stub(b"PE\0\0"), "a PE file (Windows)" + OTHER), ("x.exe", stub(b"PE\0\1"), None), ("X.COM", b"\x90" * 16, None), ("x.exe", header(bytes(16)).replace(b"MZ", b"ZM"), None)]
+PACKED = [("LZEXE", with_mark(28, b"LZ09")), ("LZEXE", with_mark(28, b"LZ91")), ("PKLITE", with_mark(30, b"PKLITE Copr.")), ("EXEPACK", header(bytes(14) + b"RB" + bytes(8), start=(0, 16))),
+          ("EXEPACK", header(bytes(32) + b"RB" + bytes(8), start=(1, 18))), (None, header(bytes(14) + b"RB" + bytes(8), start=(0, 17))), (None, with_mark(29, b"LZ09"))]
+
+
+def files(folder):
+    """Files that are no programs, and packed ones."""
+    global tried
+    module = EXAMPLES / "com" / "say.obj"
+    for name, file, why in REFUSED:
+        tried += 1
+        (folder / name).write_bytes(file)
+        status, output, error = run(FIND, name, module, folder=folder)
+        wanted = (1, f'program "{name}": {why}\n', "") if why else (0, output, "")
+        if (status, output, error) != wanted or (not why and "nothing found" not in output):
+            fails(name, status, output, error, wanted)
+    for packer, file in PACKED:
+        tried += 1
+        (folder / "x.exe").write_bytes(file)
+        status, output, error = run(FIND, "x.exe", module, folder=folder)
+        wanted = f'program "x.exe" is packed by {packer}: unpack it first, or its modules are not found\n' if packer else ""
+        if status or error != wanted or "nothing found" not in output:
+            fails(packer, status, output, error)
+
+
+def parts(folder):
+    """Parts of files that are refused are left out, and named; the rest is searched."""
+    global tried
+    obj = (EXAMPLES / "com" / "say.obj").read_bytes()
+    (folder / "x.com").write_bytes(b"\x90" * 16)
+    (folder / "two.obj").write_bytes(obj + b"\x1A\x1A" + obj)
+    (folder / "rest.obj").write_bytes(obj + b"\x1A" + b"text")
+    (folder / "bad.obj").write_bytes(obj + obj[:-1] + b"\xFF" + obj)
+    (folder / "cut.lib").write_bytes((EXAMPLES / "library" / "small.lib").read_bytes()[:40])
+    tries = [("two.obj", 0, 2, ""), ("rest.obj", 1, 1, f'left out: file "rest.obj" from {len(obj) + 1} on, neither a module nor padding\n'),
+             ("bad.obj", 1, 1, 'left out: file "bad.obj" member 1 "say.asm", refused 6 Checksum record '), ("cut.lib", 1, 1, 'left out: file "cut.lib" from ')]
+    for name, status, count, line in tries:
+        tried += 1
+        done, output, error = run(FIND, "--json", "x.com", name, folder=folder)
+        counts = [json.loads(it)["modules"] for it in output.splitlines() if it.startswith('{"program"')]
+        if done != status or counts != [count] or not error.startswith(line) or (not line and error):
+            fails(name, done, output, error)
+    for words, status in ((["x.com"], 2), (["--frame", "0", "x.com", "two.obj"], 2), (["--symbols", "gdb", "x.com", "two.obj"], 2), (["no.exe", "two.obj"], 3), (["x.com", "no.obj"], 3)):
+        tried += 1
+        done, output, error = run(FIND, *words, folder=folder)
+        if done != status or (status == 3 and not output.startswith("read no.")):
+            fails(words, done, output, error)
+
+
+def main():
+    with tempfile.TemporaryDirectory() as work:
+        folder = pathlib.Path(work)
+        files(folder)
+        parts(folder)
+        linked(folder)
+    print(f"{tried} runs, {failed} failed")
+    return 1 if failed else 0
+
+
+if __name__ == "__main__":
+    sys.exit(main())
