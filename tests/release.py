@@ -103,6 +103,8 @@ def stages():
     yield Stage("system calls", ["tests/devices/system_calls.py"], " ".join(PROGRAMS), "strace", 3600, r"(\d+) calls failed in turn")
     yield Stage("full disk", ["tests/devices/disk.py"], "OMF_LIB OMF_LINK", "", 1800, r"killed (?:at each of )?(\d+) ")
     yield Stage("outputs", ["tests/devices/outputs.py"], "OMF_LIB OMF_LINK", "", 600, r"(\d+) runs")
+    yield Stage("find", ["tests/find.py"], "OMF_FIND OMF_LINK OMF_LIB", "", 600, r"^(\d+) runs")
+    yield Stage("example find", ["examples/find/run.sh"], "OMF_FIND OMF_LINK OMF_LIB", "", 60, r"^each segment is where")
     yield from examples()
     pages = ["README.md", *sorted(str(it.relative_to(ROOT)) for it in (ROOT / "docs").glob("*.md"))]
     yield Stage("shown commands", ["tests/shown.sh", *pages], " ".join([*PROGRAMS, "LIBOMF"]), "", 1800, r"^(\d+) commands, \d+ failed, (\d+) left out")
