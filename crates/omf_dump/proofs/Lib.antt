@@ -11,4 +11,5 @@ pub mod RowLaws
 pub mod StreamLaws
 pub mod SubrecordLaws
 pub mod TextLaws
+pub mod VerdictLaws
 pub mod WalkLaws

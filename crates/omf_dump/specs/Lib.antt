@@ -10,5 +10,6 @@ pub mod Dump
 pub mod Later
 pub mod Refused
 pub mod Library
+pub mod Verdict
 pub mod Rows
 pub mod Inner

@@ -12,7 +12,7 @@ use omf_frame::Width;
 use std::alloc::AllocError;
 
 /// A name after its length byte, and the bytes after it.
-fn counted(bytes: &[u8]) -> Option<(&[u8], &[u8])>
+pub(crate) fn counted(bytes: &[u8]) -> Option<(&[u8], &[u8])>
     ensures { option_map (λ p. (p.0.now, p.1.now)) result ≡ counted bytes.now }
 {
     match bytes {

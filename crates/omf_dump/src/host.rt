@@ -3,8 +3,9 @@
 use crate::answer::dump_input;
 use crate::fault::DumpFault;
 use crate::format::Format;
-use crate::options::{Asked, read_arguments};
+use crate::options::{Asked, Task, read_arguments};
 use crate::value::put_quoted;
+use crate::verdict::judge_input;
 use omf_frame::{Sink, Writing};
 use omf_host::{
     About, Status, arguments, end, explain, misused_by, out_of_memory, put, put_title, put_unread,
@@ -17,12 +18,15 @@ use std::process::ExitCode;
 /// What the program shows of itself.
 const ABOUT: About = About {
     name: "omf-dump",
-    usage: "usage: omf-dump [--json] [--data N] [--refuse-vendor-comments] [FILE ..]\n",
+    usage: "usage: omf-dump [--json] [--data N] [--refuse-vendor-comments] [FILE ..]
+       omf-dump --verdict [--json] [--refuse-vendor-comments] [FILE ..]
+",
     details: "
 Prints every field of each record of an object module (.OBJ), or of all members of
 a library (.LIB). Without a file, or where it is -, it reads the standard input.
 
-  --json                    one line of JSON for each record
+  --verdict                 a line for each module: OK, or why it is refused
+  --json                    one line of JSON for each record, or for each module
   --data N                  at most N bytes of data for each record
   --refuse-vendor-comments  refuse comments of the classes C0H to FFH
 
@@ -75,7 +79,11 @@ fn show_input<K: Sink>(rt: &HostRuntime, asked: &Asked, name: &str, writer: &mut
             return Status::Failed;
         }
     };
-    match dump_input(rt.alloc(), writer, asked.mode, &input) {
+    let shown = match asked.task {
+        Task::Records => dump_input(rt.alloc(), writer, asked.mode, &input),
+        Task::Verdict => judge_input(rt.alloc(), writer, asked.mode, name.as_bytes(), &input),
+    };
+    match shown {
         Ok(true) => Status::Refused,
         Ok(false) => Status::Done,
         Err(DumpFault::Memory) => {
@@ -104,8 +112,11 @@ fn title(alloc: Global, format: Format, name: &str) -> Result<Vec<u8>, AllocErro
     }
 }
 
-/// Shows one of several inputs, after its name. Returns the status.
+/// Shows one of several inputs, its records after its name. Returns the status.
 fn show_titled<K: Sink>(rt: &HostRuntime, asked: &Asked, name: &str, writer: &mut K) -> Status {
+    if asked.task == Task::Verdict {
+        return show_input(rt, asked, name, writer);
+    }
     let titled = match title(rt.alloc(), asked.mode.style.format, name) {
         Ok(text) => put(writer, &text),
         Err(AllocError) => Status::Failed,

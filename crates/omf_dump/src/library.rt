@@ -34,7 +34,7 @@ fn next_page(page: usize, at: usize) -> usize
 }
 
 /// The contents of the record at the front, as far as they are present.
-fn front_contents(bytes: &[u8]) -> &[u8]
+pub(crate) fn front_contents(bytes: &[u8]) -> &[u8]
     ensures { result.now ≡ (front_record bytes.now).body }
 {
     match bytes {
@@ -217,7 +217,7 @@ fn next_at(page: usize, bytes: &[u8], rest: &[u8]) -> usize
 }
 
 /// Whether one of two is.
-fn is_either(one: bool, other: bool) -> bool
+pub(crate) fn is_either(one: bool, other: bool) -> bool
     ensures { result ≡ (one || other) }
 {
     one || other

@@ -31,6 +31,7 @@ mod rows;
 mod spot;
 mod subrecord;
 mod value;
+mod verdict;
 mod walk;
 mod words;
 

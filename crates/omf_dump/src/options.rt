@@ -4,18 +4,29 @@ use crate::format::{Format, Mode, Style};
 use omf_check::Profile;
 use std::alloc::{AllocError, Global};
 
+/// What is shown of each input.
+#[derive(Clone, Copy, Debug, PartialEq, Eq)]
+pub enum Task {
+    /// Each record.
+    Records,
+    /// The verdict on each module.
+    Verdict,
+}
+
 /// What the arguments ask for.
 #[derive(Drop)]
 pub struct Asked {
+    pub task: Task,
     pub mode: Mode,
     /// The names of the files; `-` is the standard input.
     pub files: Vec<String>,
 }
 
 impl Asked {
-    /// Text of all of the standard input.
+    /// Text of all records of the standard input.
     fn new(alloc: Global) -> Asked {
         Asked {
+            task: Task::Records,
             mode: Mode {
                 profile: Profile {
                     refuse_vendor_comments: false,
@@ -33,6 +44,7 @@ impl Asked {
 /// What one argument is.
 enum Word {
     Json,
+    Verdict,
     /// The most bytes of data follow as the next argument.
     Data,
     RefuseVendorComments,
@@ -44,6 +56,7 @@ enum Word {
 fn word_of(argument: &str) -> Word {
     match argument {
         "--json" => Word::Json,
+        "--verdict" => Word::Verdict,
         "--data" => Word::Data,
         "--refuse-vendor-comments" => Word::RefuseVendorComments,
         "-" => Word::File,
@@ -71,6 +84,7 @@ pub fn read_arguments(alloc: Global, arguments: Vec<String>) -> Result<Option<As
     while let Some(argument) = words.next() {
         match word_of(argument.as_str()) {
             Word::Json => asked.mode.style.format = Format::Json,
+            Word::Verdict => asked.task = Task::Verdict,
             Word::Data => match number_of(words.next()) {
                 Some(most) => asked.mode.style.most = most,
                 None => return Ok(None),

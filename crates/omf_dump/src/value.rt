@@ -77,7 +77,7 @@ fn put_escaped(text: &mut Vec<u8>, format: Format, byte: u8) -> Result<(), Alloc
 }
 
 /// Appends the bytes of a name, each as it is or by its digits.
-fn put_name(text: &mut Vec<u8>, format: Format, bytes: &[u8]) -> Result<(), AllocError>
+pub(crate) fn put_name(text: &mut Vec<u8>, format: Format, bytes: &[u8]) -> Result<(), AllocError>
     ensures { AddsText result text.old.items text.new.items (flat_map (escaped format) bytes.now) }
 {
     for byte in bytes {
