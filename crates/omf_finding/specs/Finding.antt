@@ -1,4 +1,4 @@
--- What a search tells of modules.
+-- The verdicts of a search on modules.
 use Rattle.std.specs.Prelude.{⊤}
 use Rattle.omf_check.specs.Module.{Module, recs_of}
 use Rattle.omf_finding.specs.declared.findings.Found.{Found}
@@ -11,7 +11,7 @@ use Rattle.omf_finding.specs.Found.{IsFoundInPart}
 abbrev pub IsHeld : Program → Module → Found → Type 0
 IsHeld program m found = IsFoundInPart (recs_of m.bytes) found.placement found.absent.items program.bytes.items program.base
 
--- A module that is told as found is in the program. Of others nothing is claimed.
+-- A module with the verdict Found is in the program. Of others nothing is claimed.
 abbrev pub IsTold : Program → Module → Verdict → Type 0
 IsTold program m (verdict.Found found) = IsHeld program m found
 IsTold program m (verdict.Possible candidates) = ⊤

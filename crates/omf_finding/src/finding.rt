@@ -137,7 +137,7 @@ impl<'a> Search<'a> {
         false
     }
 
-    /// Why none of the places of a segment is told as found.
+    /// Why none of the places of a segment is sure.
     fn why(&self, part: &Part, number: usize, singles: &Singles) -> Why {
         if let [address] = part.places.as_slice() {
             if let Some(other) = singles.other(*address, number) {
@@ -254,7 +254,7 @@ fn verdicts(
     Ok(verdicts)
 }
 
-/// Searches a program for modules. What it tells as found is found: `is_found_in_part` says so of its placement and its absent segments.
+/// Searches a program for modules. A verdict Found is right: `is_found_in_part` answers true for its placement and its absent segments.
 ///
 /// A segment is searched for by its closed bytes if four of them are in a row. One that is at one place with at least `least` closed bytes,
 /// alone, is placed there; so is the segment of a module's start, at the program's. Others are placed by the fixups of segments that have a

@@ -25,9 +25,9 @@ pub struct Found {
 /// Why a place of a segment is only a possible one.
 #[derive(Clone, Copy, Debug, PartialEq, Eq)]
 pub enum Why {
-    /// The segment has fewer closed bytes than `least`, and no reference leads to it.
+    /// The segment has fewer closed bytes than `least`, and no reference points to it.
     FewBytes,
-    /// Its closed bytes are at several places, and no reference leads to one of them.
+    /// Its closed bytes are at several places, and no reference points to one of them.
     SeveralPlaces,
     /// Its closed bytes are at the same place as those of a segment of this module of the list.
     SameBytes(u32),
@@ -46,7 +46,7 @@ pub struct Candidate {
     pub addresses: Vec<u32>,
     /// Whether there are more.
     pub more: bool,
-    /// Why none of them is told as found.
+    /// Why none of them is sure.
     pub why: Why,
 }
 

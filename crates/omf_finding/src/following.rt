@@ -11,7 +11,7 @@ use omf_records::{Kind, Rec};
 use std::alloc::{AllocError, Global};
 use std::collections::BTreeMap;
 
-/// The number of frames that are tried at most, where nothing says which one it is.
+/// The number of frames that are tried at most, where nothing shows which one it is.
 const MOST_FRAMES: usize = 64;
 
 /// The number of times that all references are followed at most.
@@ -348,7 +348,7 @@ impl<'a> Search<'a> {
         }
     }
 
-    /// Notes the frame that a fixup's offset of a place says, if the place is sure enough.
+    /// Notes the frame that follows from a fixup's offset to a place, if the place is sure enough.
     fn learn_from(
         &mut self,
         module: usize,

@@ -76,7 +76,7 @@ fn has_byte(image: &Image, segment: u16) -> bool
     }
 }
 
-/// Whether an image has a byte of one of so many segments that is not absent.
+/// Whether an image has a byte in one of n segments that is not absent.
 fn some_compared(image: &Image, count: usize, absent: &[u16]) -> bool
     requires { count ≤ 65535 }
     ensures { result ≡ true → SomeCompared image.now absent.now }

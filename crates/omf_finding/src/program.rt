@@ -12,7 +12,7 @@ pub struct Program {
     /// The address of the first byte.
     pub base: u32,
     /// The addresses of the words that the loader changes, in ascending order: the relocation table of an MZ file; of a .COM file none.
-    /// `None` if nothing says which words they are, as of a raw image.
+    /// `None` if nothing shows which words they are, as for a raw image.
     pub relocated: Option<Vec<u32>>,
     /// CS and IP at the start, if they are known.
     pub start: Option<(u16, u16)>,

@@ -94,7 +94,7 @@ impl Draft {
         }
     }
 
-    /// What a self-relative fixup says: its target, and that its frame begins at or before both ends.
+    /// What follows from a self-relative fixup: its target, and that its frame begins at or before both ends.
     fn take_relative(&mut self, search: &Search<'_>, segment: u32, fix: &Fix) {
         let [first, _second] = search.relative_targets(segment, fix);
         self.set_address(&fix.target, first);
@@ -107,8 +107,8 @@ impl Draft {
         }
     }
 
-    /// What a fixup in a segment at this address says of the entries that it names. If `frame` is set, it is that of a frame that nothing
-    /// says.
+    /// What follows from a fixup in a segment at this address for the entries that it names. If `frame` is set, it is taken for a frame that
+    /// nothing shows.
     fn take(&mut self, search: &Search<'_>, segment: u32, fix: &Fix, frame: Option<u16>) {
         let entry = fix.frame_entry();
         if let Some(selector) = fix.selector(search.program, segment) {
@@ -221,7 +221,7 @@ impl<'a> Search<'a> {
         })
     }
 
-    /// Reads what the fixups of segments with a place say.
+    /// Reads the fixups of segments with a place.
     fn read_present(&self, draft: &mut Draft, fixes: &[Fix], frame: Option<u16>) {
         for fix in fixes {
             let index = usize::from(fix.segment).wrapping_sub(1);
@@ -252,7 +252,7 @@ impl<'a> Search<'a> {
         }
     }
 
-    /// The frame that is taken where nothing says which one it is: of a group, or else of a segment.
+    /// The frame that is taken where nothing shows which one it is: of a group, or else of a segment.
     fn usual_frame(&self, draft: &Draft) -> u16 {
         for known in &draft.groups {
             if let Some(selector) = known.selector {
@@ -267,7 +267,7 @@ impl<'a> Search<'a> {
         0
     }
 
-    /// The place of an entry, where this frame is taken if nothing says which one it is.
+    /// The place of an entry, where this frame is taken if nothing shows which one it is.
     fn placed(&self, known: &Known, frame: u16) -> Placed {
         let selector = match (known.selector, known.top) {
             (Some(selector), _) => selector,

@@ -3,7 +3,7 @@
 use crate::shapes::Part;
 use std::alloc::{AllocError, Global};
 
-/// The segments whose closed bytes, at least so many, are at one place of the program: the address, and the number of the segment; in
+/// The segments whose closed bytes, at least n, are at one place of the program: the address, and the number of the segment; in
 /// ascending order.
 #[derive(Drop)]
 pub(crate) struct Singles {
