@@ -72,7 +72,7 @@ def linked(folder):
     for task, names in PROGRAMS:
         files = [EXAMPLES / it for it in names]
         program = f"prog.{task}"
-        status, output, error = run(LINK, task, "-o", program, "--map", "prog.map", *files, folder=folder)
+        status, output, error = run(LINK, task, "-o", program, "--map", "prog.map", "--order", "dos", *files, folder=folder)
         if status:
             fails(names, output, error)
             continue
@@ -185,7 +185,7 @@ def parts(folder):
     (folder / "two.obj").write_bytes(obj + b"\x1A\x1A" + obj)
     (folder / "rest.obj").write_bytes(obj + b"\x1A" + b"text")
     (folder / "bad.obj").write_bytes(obj + obj[:-1] + b"\xFF" + obj)
-    (folder / "cut.lib").write_bytes((EXAMPLES / "library" / "small.lib").read_bytes()[:40])
+    (folder / "cut.lib").write_bytes((EXAMPLES / "library" / "small.lib").read_bytes()[:100])
     tries = [("two.obj", 0, 2, ""), ("rest.obj", 1, 1, f'left out: file "rest.obj" from {len(obj) + 1} on, neither a module nor padding\n'),
              ("bad.obj", 1, 1, 'left out: file "bad.obj" member 1 "say.asm", refused 6 Checksum record '), ("cut.lib", 1, 1, 'left out: file "cut.lib" from ')]
     for name, status, count, line in tries:
