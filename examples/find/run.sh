@@ -14,7 +14,7 @@ work=$(mktemp -d)
 trap 'rm -rf "$work"' EXIT
 from=$PWD/../exe
 
-"$lib" make -o "$work/rt.lib" "$from/show.obj" "$from/report.obj"
+"$lib" make -o "$work/rt.lib" "$from/show.obj" "$from/report.obj" > /dev/null
 (cd "$work" && "$link" exe -o prog.exe --map prog.map "$from/main.obj" rt.lib)
 (cd "$work" && "$find" prog.exe rt.lib) > "$work/said"
 cmp "$work/said" said.txt
