@@ -8,8 +8,8 @@ ROOT = pathlib.Path(__file__).resolve().parent.parent.parent
 # Seconds of the clock for one run.
 TIMEOUT = float(os.environ.get("TIMEOUT", "60"))
 # What `omf-link` lets pass with these options, and its lines of that on standard error.
-ALLOW_ALL = [it for kind in ("overlap", "align", "group", "twice") for it in ("--allow", kind)]
-ALLOWED = re.compile(rb'(?:(?:(?:overlap|align|group): |twice ").*\n)*')
+ALLOW_ALL = [it for kind in ("overlap", "align", "group", "frame", "near", "twice") for it in ("--allow", kind)]
+ALLOWED = re.compile(rb'(?:(?:(?:overlap|align|group|frame|near): |twice ").*\n)*')
 NAME = rb'"((?:[ !#-\[\]-~]|\\x[0-9A-F]{2})*)"'
 
 
