@@ -1,11 +1,14 @@
-"""Packs the folder omf as a wheel, with nothing but the standard library, so that `pip install .` needs no network."""
+"""Packs the folder omf as a wheel, with nothing but the standard library, so that `pip install .` needs no network. If libomf.so is in the folder,
+it is in the wheel too, which is then for Linux on x86-64."""
 import base64
 import hashlib
 import os
 import re
 import zipfile
 
-NAME = "omf"
+NAME, PLAIN = "omf", "py3-none-any"
+SUMMARY = "Object modules in OMF (TIS OMF 1.1): check, list, relocate, link, compare"
+ABOUT = {"Metadata-Version": "2.1", "Name": NAME, "Summary": SUMMARY, "Author": "Yuccayore maintainers", "License": "MIT OR Apache-2.0", "Requires-Python": ">=3.8"}
 
 
 def _version():
@@ -25,8 +28,8 @@ def _files(kind):
         if os.path.isfile(path):
             with open(path, "rb") as file:
                 files[f"{NAME}/{name}"] = file.read()
-    about = f"Metadata-Version: 2.1\nName: {NAME}\nVersion: {_version()}\nRequires-Python: >=3.8\n"
-    wheel = f"Wheel-Version: 1.0\nGenerator: wheel_of\nRoot-Is-Purelib: true\nTag: {kind}\n"
+    about = "".join(f"{field}: {value}\n" for field, value in {**ABOUT, "Version": _version()}.items())
+    wheel = f"Wheel-Version: 1.0\nGenerator: wheel_of\nRoot-Is-Purelib: {str(kind == PLAIN).lower()}\nTag: {kind}\n"
     folder = f"{NAME}-{_version()}.dist-info"
     files[f"{folder}/METADATA"] = about.encode()
     files[f"{folder}/WHEEL"] = wheel.encode()
@@ -36,7 +39,7 @@ def _files(kind):
 
 
 def build_wheel(wheel_directory, config_settings=None, metadata_directory=None):
-    kind = "py3-none-any"
+    kind = "py3-none-linux_x86_64" if os.path.isfile(os.path.join(NAME, "libomf.so")) else PLAIN
     name = f"{NAME}-{_version()}-{kind}.whl"
     with zipfile.ZipFile(os.path.join(wheel_directory, name), "w", zipfile.ZIP_DEFLATED) as wheel:
         for path, data in _files(kind).items():

@@ -10,8 +10,8 @@
     (Run(segment=1, offset=0, data=b'\\xb8 \\x00\\x90'),)
 
 Sizes and offsets are in bytes. An index counts from 1, as in the records; 0 is none. A name is a str of its bytes as Latin-1, so
-name.encode("latin-1") has the bytes. The library is the file that the environment variable LIBOMF names, else libomf.so in this package's
-folder, else the system's libomf.
+name.encode("latin-1") gives the bytes. The library is the file that the environment variable LIBOMF names, else libomf.so in this package's
+folder, else the system's libomf; find_library() says which. It is loaded at the first call.
 """
 from __future__ import annotations
 
@@ -27,7 +27,7 @@ __version__ = "1.0.0"
 __all__ = [
     "Module", "Segment", "Group", "External", "Communal", "Public", "Fixup", "Method", "LOCATIONS", "Run", "Image", "Library", "Member",
     "link", "link_exe", "Error", "Refused", "NoLibrary", "NotLinked", "PlacementLine", "PlacementTooLong", "Unreachable", "reason_name",
-    "reason_sentence",
+    "reason_sentence", "find_library",
 ]
 
 Data = Union[bytes, bytearray, memoryview]
@@ -58,9 +58,14 @@ _TABLES = {"segments": _Segment, "groups": _Group, "group_members": _Member, "ex
 _DONE, _MEMORY, _REFUSED, _LINE, _TOO_LONG, _REACH, _ROOM, _NO_LIBRARY, _NOT_LINKED = 0, 1, 4, 5, 6, 7, 8, 9, 10
 
 
-def _load() -> ctypes.CDLL:
+def find_library() -> Optional[str]:
+    """The file or the name of the library that the first call loads, or None if there is none."""
     beside = os.path.join(os.path.dirname(__file__), "libomf.so")
-    path = os.environ.get("LIBOMF") or (beside if os.path.exists(beside) else ctypes.util.find_library("omf"))
+    return os.environ.get("LIBOMF") or (beside if os.path.exists(beside) else ctypes.util.find_library("omf"))
+
+
+def _load() -> ctypes.CDLL:
+    path = find_library()
     if not path:
         raise ImportError("there is no libomf: install it (make install), or name it in LIBOMF")
     library = ctypes.CDLL(path)
@@ -77,7 +82,15 @@ def _load() -> ctypes.CDLL:
     return library
 
 
-_library = _load()
+class _Calls:
+    """The library's calls. The first one loads it, so an import does not need it."""
+
+    def __getattr__(self, name: str) -> Any:
+        self.__dict__["_loaded"] = library = self.__dict__.get("_loaded") or _load()
+        return getattr(library, name)
+
+
+_library = _Calls()
 
 
 def _filled(call: Any, row: Any, *arguments: Any) -> Tuple[Any, Any]:

@@ -1,5 +1,6 @@
 """The package against modules that are written out by hand. Run: LIBOMF=build/libomf.so python3 -m unittest discover -s python/tests"""
 import os
+import subprocess
 import sys
 import unittest
 
@@ -41,6 +42,17 @@ TABLES = b"".join([
     record(0x8A, "00"),
 ])
 
+
+
+class Loading(unittest.TestCase):
+    """A process without a library: the import succeeds, and the first call says what is missing."""
+
+    def test_the_first_call_loads(self):
+        code = "import omf; print(omf.find_library()); omf.reason_name(1)"
+        words = {**os.environ, "LIBOMF": "/nowhere/libomf.so", "PYTHONPATH": os.path.join(os.path.dirname(__file__), "..")}
+        made = subprocess.run([sys.executable, "-c", code], env=words, capture_output=True, text=True, check=False)
+        self.assertEqual(made.stdout, "/nowhere/libomf.so\n")
+        self.assertIn("OSError: /nowhere/libomf.so", made.stderr)
 
 
 class Tables(unittest.TestCase):
