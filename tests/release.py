@@ -38,6 +38,8 @@ Stage = collections.namedtuple("Stage", "name command files tools limit tried va
 
 
 def is_installed(tool):
+    if tool == "python3-unicorn":
+        return subprocess.run(["tests/executed.py", "--count", "0"], cwd=ROOT, capture_output=True, check=False).returncode == 0
     return any(shutil.which(it) for it in tool.split("|"))
 
 
@@ -103,6 +105,7 @@ def stages():
     yield Stage("system calls", ["tests/devices/system_calls.py"], " ".join(PROGRAMS), "strace", 3600, r"(\d+) calls failed in turn")
     yield Stage("full disk", ["tests/devices/disk.py"], "OMF_LIB OMF_LINK", "", 1800, r"killed (?:at each of )?(\d+) ")
     yield Stage("outputs", ["tests/devices/outputs.py"], "OMF_LIB OMF_LINK", "", 600, r"(\d+) runs")
+    yield Stage("executed", ["tests/executed.py", "--count", "300"], "OMF_LINK OMF_LIB", "nasm python3-unicorn", 1800, r"^(\d+) programs")
     yield Stage("find", ["tests/find.py"], "OMF_FIND OMF_LINK OMF_LIB", "", 600, r"^(\d+) runs")
     yield Stage("example find", ["examples/find/run.sh"], "OMF_FIND OMF_LINK OMF_LIB", "", 60, r"^each segment is where")
     yield from examples()
