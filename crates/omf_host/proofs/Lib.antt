@@ -1,2 +1,1 @@
-mod Hexadecimal
 mod Padded

@@ -15,7 +15,8 @@ use Rattle.omf_layout.specs.declared.options.Options.{Options}
 use Rattle.omf_layout.specs.Layout.{Laid, all_laid, segment_at, segment_laid, segments_laid, group_frame, group_frames, external_laid, externals_laid, spare, behind_communals, LaidOut, laid_out, layout_of}
 use Rattle.omf_layout.specs.Laws.{LayoutsKeepAlignments}
 use Rattle.omf_layout.specs.Wants.{bytes_aligned, alignments, rooms}
-use Rattle.omf_layout.proofs.TableLaws.{length-alignments, length-rooms, entry-at}
+use Rattle.omf_layout.proofs.TableLaws.{length-alignments, length-rooms}
+use Rattle.omf_placement.proofs.ListLaws.{entry-at}
 
 pub map_some : {A B P : Type 0} (f : A → B) (o : Option A) (y : B) → option_map f o ≡ Some y → ((x : A) → o ≡ Some x → f x ≡ y → P) → P
 map_some f None y h k = absurd (none-some y h)

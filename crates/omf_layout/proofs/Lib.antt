@@ -1,12 +1,10 @@
 pub mod Gathered
 pub mod TableLaws
 pub mod LaidLaws
-pub mod Lines
 pub mod FitLaws
 pub mod ApartLaws
 pub mod CommunalLaws
 pub mod Printed
-pub mod DigitLaws
 pub mod SaidLaws
 pub mod TextLaws
 pub mod LineLaws

@@ -1,6 +1,6 @@
 -- The lines of a draft, each an entry with a comment.
-use Rattle.std.proofs.Common.{◌≡◌, ℕ, zero, suc, ◌-◌, true, not, ◌&&◌, nat_le, ◌==◌, List, [], ◌∷◌, ◌++◌, length, refl, ap, ap₂, ◌∙◌, arith, codes, inl, inr}
-use Rattle.std.specs.Prelude.{flat_map, replicate, Option, Some, None, unwrap_or, option_map, decimal}
+use Rattle.std.proofs.Common.{◌≡◌, ℕ, ◌-◌, true, ◌==◌, List, [], ◌∷◌, ◌++◌, length, refl, ap, ap₂, ◌∙◌, arith, codes, inl, inr}
+use Rattle.std.specs.Prelude.{Option, Some, None, unwrap_or, option_map, decimal}
 use Rattle.std.proofs.lemmas.Bool.{cond_both, and_from, and_parts, eqb-true, false≢true}
 use Rattle.omf_records.specs.Values.{Rec, GroupItem}
 use Rattle.omf_check.specs.Tables.{names, entry}
@@ -15,12 +15,13 @@ use Rattle.omf_layout.specs.declared.alignment.Alignment.{Alignment}
 use Rattle.omf_layout.specs.declared.options.Frames.{Frames}
 use Rattle.omf_layout.specs.declared.options.Frames.TheVariants.{Real, Flat}
 use Rattle.omf_layout.specs.Draft.{line, placed_entry, is_same_frame, segment_entry, alignment_text, segment_comment, segment_line, frame_entry, frame_or_real, group_entry, group_line, room_text, external_line}
-use Rattle.omf_placement.specs.Quoted.{number, hex, is_plain, escaped, quoted, named}
+use Rattle.omf_placement.specs.Quoted.{number, quoted, named}
 use Rattle.omf_layout.specs.Reading.{IsShortFrame, IsShortPlace, unless_by_members, frame_given}
 use Rattle.omf_layout.specs.Wants.{bytes_aligned}
-use Rattle.omf_layout.proofs.DigitLaws.{is_mark, eight-digits, four-digits, marks-number, marks-decimal}
+use Rattle.omf_text.proofs.DigitLaws.{is_mark, eight-digits, four-digits, marks-number}
 use Rattle.omf_layout.proofs.TextLaws.{IsLineOf}
-use Rattle.omf_layout.proofs.SaidLaws.{Passes, both-pass, pass-more, is_printed, mark-printed, IsWord, IsTight, tight-word, tight-two, is-said}
+use Rattle.omf_layout.proofs.SaidLaws.{IsWord, IsTight, tight-word, tight-two, is-said}
+use Rattle.omf_text.proofs.PrintedLaws.{Passes, both-pass, is_printed, printed-decimal, printed-quoted}
 
 -- Comments have printed bytes only, since each of their fields has.
 abbrev pub ArePrinted : List (List ℕ) → Type 0
@@ -31,28 +32,6 @@ pub printed-words : (ws : List (List ℕ)) → ArePrinted ws → Passes is_print
 printed-words [] h = refl
 printed-words (w ∷ []) h = h.0
 printed-words (w ∷ v ∷ ws) h = both-pass is_printed w (32 ∷ in_words (v ∷ ws)) h.0 (printed-words (v ∷ ws) h.1)
-
-pub marks-printed : (cs : List ℕ) → Passes is_mark cs → Passes is_printed cs
-marks-printed cs h = pass-more is_mark is_printed mark-printed cs h
-
-pub printed-decimal : (n : ℕ) → Passes is_printed (decimal n)
-printed-decimal n = marks-printed (decimal n) (marks-decimal n)
-
-zeros : (k : ℕ) → Passes is_printed (replicate k 48)
-zeros zero = refl
-zeros (suc k) = zeros k
-
-printed-escaped : (c : ℕ) → Passes is_printed (escaped c)
-printed-escaped c = cond_both (is_plain c) (c ∷ []) (92 ∷ 120 ∷ hex 2 c) (Passes is_printed)
-    (λ e. and_from (is_printed c) true (and_parts (nat_le 0x20 c) (nat_le c 0x7E && (not (c == 34) && not (c == 92))) e).0 refl)
-    (λ e. both-pass is_printed (replicate (2 - length (number c)) 48) (number c) (zeros (2 - length (number c))) (marks-printed (number c) (marks-number c)))
-
-printed-name : (cs : List ℕ) → Passes is_printed (flat_map escaped cs)
-printed-name [] = refl
-printed-name (c ∷ cs) = both-pass is_printed (escaped c) (flat_map escaped cs) (printed-escaped c) (printed-name cs)
-
-pub printed-quoted : (cs : List ℕ) → Passes is_printed (quoted cs)
-printed-quoted cs = both-pass is_printed (34 ∷ flat_map escaped cs) (34 ∷ []) (printed-name cs) refl
 
 printed-named : (table : List (List ℕ)) (i : ℕ) → Passes is_printed (named table i)
 printed-named table i = by (entry table i) where

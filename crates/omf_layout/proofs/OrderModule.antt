@@ -17,8 +17,7 @@ use Rattle.omf_check.specs.Tables.{externals, entry}
 use Rattle.omf_check.specs.WellFormed.{recs}
 use Rattle.omf_placement.proofs.Filling.{Adds}
 use Rattle.omf_layout.specs.Own.Written.{framed, written}
-use Rattle.omf_layout.proofs.SeveralLaws.LowLaws.{next-at}
-use Rattle.omf_layout.proofs.TableLaws.{entry-at}
+use Rattle.omf_placement.proofs.ListLaws.{next-at, entry-at}
 use Rattle.omf_layout.specs.Own.Order.{IsNameTable, asks_dos_order, asks_for, classes_in, has_name, is_dosseg}
 
 -- The classes in DGROUP of numbered records, by the tables of a module.

@@ -16,7 +16,8 @@ use Rattle.omf_layout.specs.Own.Communals.{far_segment, fars, is_dgroup, is_grou
 use Rattle.omf_layout.specs.Own.Shared.{Shared}
 use Rattle.omf_layout.specs.Own.Written.{framed, written}
 use Rattle.omf_layout.specs.Several.Portions.{Named, name_at}
-use Rattle.omf_layout.proofs.SeveralLaws.LowLaws.{next-at, next-group}
+use Rattle.omf_layout.proofs.SeveralLaws.LowLaws.{next-group}
+use Rattle.omf_placement.proofs.ListLaws.{next-at}
 
 -- The claims of numbered records.
 abbrev pub claims-by : List (Place × Rec) → List (Named Claim)

@@ -8,7 +8,7 @@ use Rattle.std.proofs.lemmas.List.{append-nil, drop_all}
 use Rattle.std.proofs.lemmas.Option.{slice_get_within, slice_get-get_or, get_or_from_slice_get, none-some, same_Some}
 use Rattle.omf_records.specs.Values.{Contents, Group, GroupItem}
 use Rattle.omf_check.specs.Tables.{entry}
-use Rattle.omf_layout.proofs.TableLaws.{entry-at}
+use Rattle.omf_placement.proofs.ListLaws.{entry-at}
 
 pub record ArePrinted {A : Type 0} (f : ℕ × A → List ℕ) (xs : List A) (i : ℕ) (old now : List ℕ) : Type 0 where
   pub whole : now ++ flat_map f (enumerate_from (i + 1) (drop i xs)) ≡ old ++ flat_map f (enumerate_from 1 xs)

@@ -25,7 +25,8 @@ use Rattle.omf_layout.specs.Laws.{DraftsAreRead}
 use Rattle.omf_layout.specs.Reading.{IsShortFrame, IsShortPlace, AreShort, unless_by_members, frame_given, draft_entries}
 use Rattle.omf_layout.proofs.FitLaws.{groups-given, segment-count, group-count, external-count, alignment-count, room-count}
 use Rattle.omf_layout.proofs.LineLaws.{entry_read, IsLine, segment-is-line, group-is-line, external-is-line}
-use Rattle.omf_layout.proofs.TextLaws.{parts_of, told_from, each-line}
+use Rattle.omf_layout.proofs.TextLaws.{parts_of, each-line}
+use Rattle.omf_placement.proofs.ListLaws.{told_from}
 
 -- ---- lines, one after another
 

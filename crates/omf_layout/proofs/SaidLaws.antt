@@ -1,22 +1,11 @@
 -- The fields of a line with an entry and a comment.
 use Rattle.std.proofs.Common.{◌≡◌, ℕ, suc, ◌+◌, ◌<◌, Bool, true, cond, eqb, not, nat_le, ◌==◌, List, [], ◌∷◌, ◌++◌, length, reverse, take, refl, sym, ap, subst, ◌∙◌, append_assoc, append-nil, arith, codes}
 use Rattle.std.specs.List.{list_all, before_first, prefix_len}
-use Rattle.std.proofs.lemmas.Bool.{le-leb, ne_eqb, and_from, and_parts, cond-false}
+use Rattle.std.proofs.lemmas.Bool.{ne_eqb, and_from, and_parts, cond-false}
 use Rattle.std.proofs.lemmas.List.{reverse-reverse, length-reverse, reverse-append}
-use Rattle.std.proofs.lemmas.List.Folds.{list_all-append}
 use Rattle.omf_placement.specs.Entries.{without_return, without_spaces, said}
-use Rattle.omf_layout.proofs.DigitLaws.{is_mark, mark-low}
-
--- Tests that hold of a list.
-abbrev pub Passes : (ℕ → Bool) → List ℕ → Type 0
-Passes test cs = list_all test cs ≡ true
-
-pub both-pass : (test : ℕ → Bool) (xs ys : List ℕ) → Passes test xs → Passes test ys → Passes test (xs ++ ys)
-both-pass test xs ys h k = list_all-append test xs ys ∙ and_from (list_all test xs) (list_all test ys) h k
-
-pub pass-more : (test wider : ℕ → Bool) → ((c : ℕ) → test c ≡ true → wider c ≡ true) → (xs : List ℕ) → Passes test xs → Passes wider xs
-pass-more test wider f [] h = refl
-pass-more test wider f (c ∷ xs) h = let k = and_parts (test c) (list_all test xs) h in and_from (wider c) (list_all wider xs) (f c k.0) (pass-more test wider f xs k.1)
+use Rattle.omf_text.proofs.DigitLaws.{is_mark, mark-low}
+use Rattle.omf_text.proofs.PrintedLaws.{Passes, both-pass, pass-more, is_printed, mark-printed}
 
 reverse-onto : (test : ℕ → Bool) (xs : List ℕ) → Passes test xs → Passes test (reverse xs)
 reverse-onto test [] h = refl
@@ -24,15 +13,8 @@ reverse-onto test (c ∷ xs) h =
     let k = and_parts (test c) (list_all test xs) h in
     subst (Passes test) (sym (reverse-append (c ∷ []) xs)) (both-pass test (reverse xs) (c ∷ []) (reverse-onto test xs k.1) (and_from (test c) true k.0 refl))
 
--- A printed byte; one that begins no comment.
-abbrev pub is_printed : ℕ → Bool
-is_printed c = nat_le 32 c
-
 abbrev pub is_plain : ℕ → Bool
 is_plain c = not (c == 59)
-
-pub mark-printed : (c : ℕ) → is_mark c ≡ true → is_printed c ≡ true
-mark-printed c h = let low = mark-low c h in le-leb 32 c (omega arith)
 
 mark-plain : (c : ℕ) → is_mark c ≡ true → is_plain c ≡ true
 mark-plain c h = (and_parts (nat_le 33 c) (not (c == 59)) h).1

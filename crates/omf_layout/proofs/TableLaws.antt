@@ -1,33 +1,12 @@
 -- There are as many attributes and alignments as segments, and as many lengths as externals.
-use Rattle.std.proofs.Common.{◌≡◌, ℕ, zero, suc, ◌+◌, ◌<◌, List, [], ◌∷◌, ◌++◌, length, drop, refl, sym, ap, ap₂, ◌∙◌, arith, length-append, append_assoc, get_or, ◌≤◌, ◌-◌}
-use Rattle.std.proofs.Math.Seq.{drop-nil}
-use Rattle.std.specs.Prelude.{map, filter_map, Option, Some, None, slice_get, cond}
-use Rattle.std.specs.List.{cons_option, zip, range_with_len}
-use Rattle.std.proofs.lemmas.Bool.{le-leb}
+use Rattle.std.proofs.Common.{◌≡◌, ℕ, zero, suc, ◌+◌, ◌<◌, List, [], ◌∷◌, ◌++◌, length, refl, sym, ap, ap₂, ◌∙◌, arith, length-append, append_assoc, ◌≤◌, ◌-◌}
+use Rattle.std.specs.Prelude.{map, filter_map, Option, Some, None, slice_get}
+use Rattle.std.specs.List.{cons_option, range_with_len}
 use Rattle.std.proofs.lemmas.List.{length-map}
-use Rattle.std.proofs.lemmas.Option.{none-some, same_Some, slice_get-get_or}
 use Rattle.omf_records.specs.Values.{Rec, Contents, Header, Comment, Names, Segment, Group, Externs, Publics, Communals, Plain, Iterated, Fixups, ModEnd, Carried, alignment}
-use Rattle.omf_check.specs.Tables.{attributes, attributes_in, segments, externals, entry, defined_segments, defined_externals}
+use Rattle.omf_check.specs.Tables.{attributes, segments, externals, defined_externals}
 use Rattle.omf_layout.specs.Wants.{alignment_named, alignments, rooms, rooms_in, room_of}
-
-one-attribute : (kind : ℕ) (c : Contents) → length (attributes_in c) ≡ length (defined_segments kind c)
-one-attribute kind (Segment s) = refl
-one-attribute kind (Header n) = refl
-one-attribute kind (Comment a b t) = refl
-one-attribute kind (Names ns) = refl
-one-attribute kind (Group g) = refl
-one-attribute kind (Externs es) = refl
-one-attribute kind (Publics p) = refl
-one-attribute kind (Communals cs) = refl
-one-attribute kind (Plain d) = refl
-one-attribute kind (Iterated d) = refl
-one-attribute kind (Fixups fs) = refl
-one-attribute kind (ModEnd b s) = refl
-one-attribute kind (Carried bs) = refl
-
-pub length-attributes : (m : List Rec) → length (attributes m) ≡ length (segments m)
-length-attributes [] = refl
-length-attributes (r ∷ m) = length-append (attributes_in r.contents) (attributes m) ∙ ap₂ (λ a b. a + b) (one-attribute r.kind r.contents) (length-attributes m) ∙ sym (length-append (defined_segments r.kind r.contents) (segments m))
+use Rattle.omf_placement.proofs.AttributeLaws.{length-attributes}
 
 pub length-alignments : (m : List Rec) → length (alignments m) ≡ length (segments m)
 length-alignments m = length-map (attributes m) (λ a. alignment_named (alignment a)) ∙ length-attributes m
@@ -50,31 +29,6 @@ some-rooms (Carried bs) = refl
 pub length-rooms : (m : List Rec) → length (rooms m) ≡ length (externals m)
 length-rooms [] = refl
 length-rooms (r ∷ m) = length-append (rooms_in r.contents) (rooms m) ∙ ap₂ (λ a b. a + b) (some-rooms r.contents) (length-rooms m) ∙ sym (length-append (defined_externals r.contents) (externals m))
-
--- The entry of an index from 1, by its position.
-pub entry-at : {A : Type 0} (xs : List A) (j : ℕ) → entry xs (j + 1) ≡ slice_get xs j
-entry-at xs j = let back : j + 1 - 1 ≡ j = omega arith in ap₂ (λ b k. cond b (slice_get xs k) None) (le-leb 1 (j + 1) (omega arith)) back
-
--- Each segment has an attribute, by its index.
-pub attribute-there : (m : List Rec) (i : ℕ) → 1 ≤ i → i ≤ length (segments m) → entry (attributes m) i ≡ None → ⊥
-attribute-there m i low high e =
-    let same : i ≡ i - 1 + 1 = omega (arith, low) in
-    none-some (get_or (attributes m) (i - 1) 0) (sym e ∙ ap (entry (attributes m)) same ∙ entry-at (attributes m) (i - 1) ∙ slice_get-get_or (attributes m) (i - 1) 0 (omega (arith, low, high, length-attributes m)))
-
--- The next pair of two lists.
-pub next-pair : {A B : Type 0} (xs : List A) (ys : List B) (j : ℕ) (x : A) (y : B) → slice_get xs j ≡ Some x → slice_get ys j ≡ Some y → drop j (zip xs ys) ≡ (x, y) ∷ drop (j + 1) (zip xs ys)
-next-pair [] ys j x y e g = absurd (none-some x e)
-next-pair (a ∷ xs) [] j x y e g = absurd (none-some y g)
-next-pair (a ∷ xs) (b ∷ ys) zero x y e g = ap₂ (λ u v. (u, v) ∷ zip xs ys) (same_Some a x e) (same_Some b y g)
-next-pair (a ∷ xs) (b ∷ ys) (suc j) x y e g =
-    let same : suc (j + 1) ≡ suc j + 1 = omega arith in
-    next-pair xs ys j x y e g ∙ ap (λ n. (x, y) ∷ drop n (zip (a ∷ xs) (b ∷ ys))) same
-
-pub no-pair : {A B : Type 0} (xs : List A) (ys : List B) (j : ℕ) → length xs ≤ j → drop j (zip xs ys) ≡ []
-no-pair [] ys j h = drop-nil j
-no-pair (x ∷ xs) [] j h = drop-nil j
-no-pair (x ∷ xs) (y ∷ ys) zero h = absurd (omega arith)
-no-pair (x ∷ xs) (y ∷ ys) (suc j) h = no-pair xs ys j (omega arith)
 
 -- One more number of a range.
 pub one-more : {A : Type 0} (g : ℕ → A) (old new all : List A) (x : A) (k n : ℕ) → k < n → x ≡ g k → new ≡ old ++ x ∷ [] → old ++ map g (range_with_len k (n - k)) ≡ all → new ++ map g (range_with_len (k + 1) (n - (k + 1))) ≡ all

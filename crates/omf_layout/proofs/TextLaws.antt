@@ -5,7 +5,8 @@ use Rattle.std.specs.List.{enumerate_from, slice_split, list_all}
 use Rattle.std.proofs.lemmas.Bool.{ne_eqb, leb-true, and_parts}
 use Rattle.std.proofs.lemmas.List.Elements.{All-nil, All-cons, All-head, All-tail}
 use Rattle.std.proofs.lemmas.List.Splits.{slice_split_at}
-use Rattle.omf_layout.proofs.SaidLaws.{Passes, is_printed}
+use Rattle.omf_text.proofs.PrintedLaws.{Passes, is_printed}
+use Rattle.omf_placement.proofs.ListLaws.{told_from, told-append}
 
 no-feed : (cs : List ℕ) → Passes is_printed cs → All (λ c. eqb c 10 ≡ false) cs
 no-feed [] h = All-nil (λ c. eqb c 10 ≡ false)
@@ -28,15 +29,6 @@ module _ {E : Type 0} (read : List ℕ → Option E) where
   -- Lines from a number on, with what each is parsed to; and values, each on a line of its own.
   abbrev pub read_from : ℕ → List (List ℕ) → List (ℕ × Option E)
   read_from n lines = map (λ l. (l.0, read l.1)) (enumerate_from n lines)
-
-abbrev pub told_from : {E : Type 0} → ℕ → List E → List (ℕ × Option E)
-told_from n es = map (λ l. (l.0, Some l.1)) (enumerate_from n es)
-
-pub told-append : {E : Type 0} (n : ℕ) (xs ys : List E) → told_from n (xs ++ ys) ≡ told_from n xs ++ told_from (n + length xs) ys
-told-append n [] ys = let none : n ≡ n + 0 = omega arith in ap (λ k. told_from k ys) none
-told-append n (x ∷ xs) ys =
-    let next : n + 1 + length xs ≡ n + length (x ∷ xs) = omega arith in
-    ap (λ ls. (n, Some x) ∷ ls) (told-append (n + 1) xs ys ∙ ap (λ k. told_from (n + 1) xs ++ told_from k ys) next)
 
 module _ {E : Type 0} (read : List ℕ → Option E) where
   -- A text is whole lines that are parsed to these, whatever follows it.

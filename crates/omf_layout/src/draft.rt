@@ -17,13 +17,14 @@ use crate::alignment::Alignment;
 use crate::laying::Layout;
 use crate::options::{Frames, Options};
 use crate::printing::{
-    print_external_entry, print_group_entry, print_index, print_name, print_quoted, print_room,
-    print_segment_entry, print_segment_room,
+    print_external_entry, print_group_entry, print_index, print_room, print_segment_entry,
+    print_segment_room,
 };
 use omf_check::{Checked, SegInfo, entry_of};
 use omf_frame::Name;
 use omf_placement::{Frame, Placed, Placement, real_group};
 use omf_records::Rec;
+use omf_text::{print_name, print_quoted};
 use std::alloc::{AllocError, Global};
 
 /// Prints the name of an index in double quotes, or a dash for index 0.

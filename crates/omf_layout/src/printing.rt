@@ -1,14 +1,12 @@
 //! Lines of a placement text with comments.
 
-ghost use Rattle.std.specs.Prelude.{◌≡◌, ◌++◌, ◌∷◌, [], string_bytes, codes, decimal, unwrap_or, option_map, Some, ◌<◌};
+ghost use Rattle.std.specs.Prelude.{◌≡◌, ◌++◌, ◌∷◌, [], string_bytes, codes, decimal, Some, ◌<◌};
 ghost use Rattle.omf_frame.specs.Bytes.{AddsText};
 ghost use Rattle.omf_placement.specs.Placement.{real_frame};
 ghost use Rattle.omf_layout.specs.Draft.{placed_entry, is_same_frame, segment_entry, frame_entry, frame_or_real, alignment_text, room_text};
-ghost use Rattle.omf_placement.specs.Quoted.{number, hex, is_plain, escaped, quoted};
 
 use crate::alignment::Alignment;
 use crate::options::Frames;
-use omf_frame::Name;
 use omf_placement::{Frame, Placed};
 use std::alloc::AllocError;
 use std::fmt::Write;
@@ -82,52 +80,6 @@ pub fn print_index(text: &mut String, index: u16) -> Result<(), AllocError>
     ensures { AddsText result (string_bytes text.old) (string_bytes text.new) (codes " ; " ++ decimal index ++ 32 ∷ []) }
 {
     write!(text, " ; {index} ")
-}
-
-/// Returns whether a byte of a name is printed as itself: 20H to 7EH except the quote and the backslash.
-fn is_plain(byte: u8) -> bool
-    ensures { result ≡ is_plain byte }
-{
-    byte >= 0x20 && byte <= 0x7E && byte != b'"' && byte != b'\\'
-}
-
-/// Prints a byte as `\x` and two hexadecimal digits.
-fn print_digits(text: &mut String, byte: u8) -> Result<(), AllocError>
-    ensures { AddsText result (string_bytes text.old) (string_bytes text.new) (92 ∷ 120 ∷ hex 2 byte) }
-{
-    write!(text, "\\x{byte:02X}")
-}
-
-/// Prints a byte of a name.
-fn print_escaped(text: &mut String, byte: u8) -> Result<(), AllocError>
-    ensures { AddsText result (string_bytes text.old) (string_bytes text.new) (escaped byte) }
-{
-    if is_plain(byte) {
-        text.push(char::from(byte))
-    } else {
-        print_digits(text, byte)
-    }
-}
-
-/// Prints a name in double quotes.
-pub fn print_quoted(text: &mut String, name: &[u8]) -> Result<(), AllocError>
-    ensures { AddsText result (string_bytes text.old) (string_bytes text.new) (quoted name.now) }
-{
-    text.push_str("\"")?;
-    for byte in name {
-        print_escaped(text, *byte)?;
-    }
-    text.push_str("\"")
-}
-
-/// Prints a name in double quotes, or a dash for none.
-pub fn print_name(text: &mut String, name: Option<Name<'_>>) -> Result<(), AllocError>
-    ensures { AddsText result (string_bytes text.old) (string_bytes text.new) (unwrap_or (option_map quoted name.entry) (codes "-")) }
-{
-    match name {
-        Some(name) => print_quoted(text, name.0),
-        None => text.push_str("-"),
-    }
 }
 
 /// Prints a segment's alignment in bytes, or that it is absolute, its length, and the end of the line.

@@ -11,7 +11,8 @@ use Rattle.omf_placement.specs.declared.frame.Placed.{Placed}
 use Rattle.omf_placement.specs.Placement.{Places}
 use Rattle.omf_layout.specs.declared.options.Frames.{Frames}
 use Rattle.omf_layout.specs.Reading.{AreShort}
-use Rattle.omf_layout.proofs.TextLaws.{no-lines, more-lines, told-append}
+use Rattle.omf_layout.proofs.TextLaws.{no-lines, more-lines}
+use Rattle.omf_placement.proofs.ListLaws.{told-append}
 use Rattle.omf_linking.specs.Locator.Drafted.{HasEntries, all_lines, labels, labels_from, module_lines, told_from, told_places}
 use Rattle.omf_linking.specs.Locator.Items.{items_after}
 use Rattle.omf_linking.specs.Locator.LinkEntries.{Blank, LinkEntry, bad_line, link_entry_on, link_lines}

@@ -22,9 +22,10 @@ use Rattle.omf_layout.specs.declared.options.Frames.TheVariants.{Real, Flat}
 use Rattle.omf_layout.specs.Draft.{alignment_text, is_same_frame, room_text}
 use Rattle.omf_layout.specs.Reading.{IsShortFrame, IsShortPlace, AreShort}
 use Rattle.omf_layout.specs.Wants.{alignments, bytes_aligned, rooms}
-use Rattle.omf_layout.proofs.DigitLaws.{eight-digits, four-digits, marks-number}
-use Rattle.omf_layout.proofs.LineLaws.{printed-decimal, printed-quoted, printed-room}
-use Rattle.omf_layout.proofs.SaidLaws.{IsWord, Passes, both-pass, is_printed, tight-two, tight-word}
+use Rattle.omf_text.proofs.DigitLaws.{eight-digits, four-digits, marks-number}
+use Rattle.omf_layout.proofs.LineLaws.{printed-room}
+use Rattle.omf_text.proofs.PrintedLaws.{printed-decimal, printed-quoted, Passes, both-pass, is_printed}
+use Rattle.omf_layout.proofs.SaidLaws.{IsWord, tight-two, tight-word}
 use Rattle.omf_layout.proofs.TableLaws.{length-alignments}
 use Rattle.omf_layout.proofs.TextLaws.{IsLineOf, SpellsLines, no-lines, one-line, more-lines, each-line}
 use Rattle.omf_linking.specs.Locator.Drafted.{HasEntries, blanks, group_lines_of, labels, module_lines, segment_lines_of}

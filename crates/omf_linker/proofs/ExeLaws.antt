@@ -21,7 +21,7 @@ use Rattle.omf_output.specs.Exe.Derived.{AreMovers, all_based, based, lows, move
 use Rattle.omf_output.specs.Exe.Members.{Member}
 use Rattle.omf_output.specs.Exe.Moved.{Movers}
 use Rattle.omf_output.proofs.DerivingLaws.{derived-many}
-use Rattle.omf_output.proofs.LowLaws.{next-at}
+use Rattle.omf_placement.proofs.ListLaws.{next-at}
 use Rattle.omf_linker.specs.Drafting.Fit.{FitsSoFar}
 use Rattle.omf_linker.specs.Exe.Program.{AreLaid, IsExternalFault, at_0, members_from, weak_of}
 use Rattle.omf_linker.proofs.FitLaws.{places-fit}

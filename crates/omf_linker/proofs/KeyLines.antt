@@ -13,8 +13,9 @@ use Rattle.std.proofs.lemmas.List.Splits.{length-slice_split, slice_split_at, sl
 use Rattle.omf_placement.specs.Entries.{said, without_return, without_spaces}
 use Rattle.omf_placement.specs.Inner.EntryReading.{words_of}
 use Rattle.omf_placement.specs.Quoted.{escaped, hex, is_plain as is_shown, number}
-use Rattle.omf_layout.proofs.DigitLaws.{is_mark, marks-decimal}
-use Rattle.omf_layout.proofs.SaidLaws.{IsTight, IsWord, Passes, both-pass, is-said, is_plain, is_printed, pass-more, tight-two, tight-word}
+use Rattle.omf_text.proofs.DigitLaws.{is_mark, marks-decimal}
+use Rattle.omf_layout.proofs.SaidLaws.{IsTight, IsWord, is-said, is_plain, tight-two, tight-word}
+use Rattle.omf_text.proofs.PrintedLaws.{Passes, both-pass, is_printed, pass-more}
 use Rattle.omf_linking.specs.Locator.KeyForms.{key_words}
 use Rattle.omf_linking.specs.Locator.LinkEntries.{Blank, Key, Named, Numbered, OfClass, classed_entry, entry_by, entry_of_parts, has_comment, if_short, is_printed as in_name, link_entry_on, name_entry, named_entry, number_of, numbered_entry, unnamed_entry, words_in}
 

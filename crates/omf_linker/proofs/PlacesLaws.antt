@@ -14,7 +14,7 @@ use Rattle.omf_placement.specs.Placement.{Places}
 use Rattle.omf_layout.specs.declared.options.Options.{Options}
 use Rattle.omf_layout.specs.Layout.{Laid}
 use Rattle.omf_layout.specs.Reading.{IsShortFrame, IsShortPlace, AreShort}
-use Rattle.omf_layout.proofs.TableLaws.{entry-at}
+use Rattle.omf_placement.proofs.ListLaws.{entry-at}
 use Rattle.omf_linking.specs.Locator.Sparse.{sparse}
 use Rattle.omf_linking.specs.Placing.{places_of}
 use Rattle.omf_layout.specs.Several.Laws.{PlacedLieApart}

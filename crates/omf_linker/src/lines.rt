@@ -15,11 +15,11 @@ use crate::spot::{Spot, external_at, spot_of};
 use omf_check::Checked;
 use omf_cmd::{RunFault, fault_line};
 use omf_frame::{Name, Place};
-use omf_layout::printing::print_quoted;
 use omf_linking::locator::entry_name;
 use omf_linking::space::Owner;
 use omf_output::near::Stray;
 use omf_reloc::{Cause, Kind, ReachFault};
+use omf_text::print_quoted;
 use std::alloc::{AllocError, Global};
 use std::fmt::Write;
 

@@ -16,7 +16,7 @@ use Rattle.omf_placement.specs.declared.frame.Frame.{Frame}
 use Rattle.omf_placement.specs.declared.frame.Placed.{Placed}
 use Rattle.omf_placement.specs.Placement.{Places}
 use Rattle.omf_reloc.specs.declared.fault.Kind.TheVariants as kinds
-use Rattle.omf_layout.proofs.TextLaws.{told-append}
+use Rattle.omf_placement.proofs.ListLaws.{told-append}
 use Rattle.omf_linking.specs.Locator.Items.{Item, Nothing, Opened, Given, opened, current, segment_given, group_given, external_given, given_to, segment_place, group_frame, external_place, item_in, item_of, items_after, module_at, unless_again}
 use Rattle.omf_linking.specs.Locator.Keys.{count_from, entry_named}
 use Rattle.omf_linking.specs.Locator.LinkEntries.{Key, Target, SegmentPlace, GroupFrame, LinkEntry, Blank, Opens, Gives, Line}

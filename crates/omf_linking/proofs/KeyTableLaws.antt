@@ -13,8 +13,7 @@ use Rattle.std.proofs.lemmas.List.Elements.{filter-append, filter_agree}
 use Rattle.std.proofs.lemmas.Map.Text.{is_eq-slice_cmp}
 use Rattle.std.proofs.lemmas.Slice.Eq.{bytes_eq-Decides}
 use Rattle.omf_records.specs.Values.{Rec}
-use Rattle.omf_layout.proofs.LineLaws.{printed-quoted}
-use Rattle.omf_layout.proofs.SaidLaws.{Passes, is_printed}
+use Rattle.omf_text.proofs.PrintedLaws.{printed-quoted, Passes, is_printed}
 use Rattle.omf_placement.specs.Quoted.{escaped}
 use Rattle.omf_reloc.specs.declared.fault.Kind.{Kind}
 use Rattle.omf_reloc.specs.declared.fault.Kind.TheVariants as kinds

@@ -12,7 +12,6 @@ pub mod TurnLaws
 pub mod TogetherLaws
 pub mod InputLaws
 pub mod DecimalLaws
-pub mod HexLaws
 pub mod NamingLaws
 pub mod SparseLaws
 pub mod LineLaws

@@ -14,7 +14,7 @@ use Rattle.omf_placement.specs.Inner.EntryReading.{words_of}
 use Rattle.omf_placement.specs.Inner.Parsing.{parts_after}
 use Rattle.std.specs.Fmt.{digit_glyph}
 use Rattle.omf_placement.specs.Quoted.{escaped, hex, is_plain}
-use Rattle.omf_linking.proofs.HexLaws.{hex_two}
+use Rattle.omf_placement.proofs.HexadecimalLaws.{hex_two}
 use Rattle.omf_linking.specs.Locator.Keys.{header_name, module_name}
 use Rattle.omf_linking.specs.Locator.LinkEntries.{Key, Named, class_after, classed_entry, entry_of_parts, frame_in, has_comment, name_entry, named_entry, opens, place_in}
 use Rattle.omf_placement.specs.Entries.{said}

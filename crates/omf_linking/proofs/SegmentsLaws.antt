@@ -13,7 +13,7 @@ use Rattle.omf_check.specs.Module.{Module, records_in}
 use Rattle.omf_check.specs.Tables.{attributes, entry, segments}
 use Rattle.omf_check.specs.WellFormed.{recs}
 use Rattle.omf_placement.specs.Derive.{PlacedModule, placed_modules}
-use Rattle.omf_layout.proofs.TableLaws.{length-attributes}
+use Rattle.omf_placement.proofs.AttributeLaws.{length-attributes}
 use Rattle.omf_linking.specs.declared.space.segment.PlacedSegment.{PlacedSegment}
 use Rattle.omf_image.specs.Overlay.{Laid}
 use Rattle.omf_linking.specs.declared.space.fault.MemoryFault.{MemoryFault}

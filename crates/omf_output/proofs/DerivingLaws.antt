@@ -1,12 +1,12 @@
 -- The bases of modules, at which their externals are derived.
 use Rattle.omf_placement.specs.declared.several.fault.DeriveFault.{DeriveFault}
 use Rattle.omf_placement.specs.declared.several.fault.DeriveFault.TheVariants as fault
-use Rattle.std.proofs.Common.{◌≡◌, ℕ, zero, suc, ◌+◌, ◌<◌, ◌≤◌, ◌∙◌, List, [], ◌∷◌, ◌++◌, length, drop, get_or, Bool, refl, sym, ap, ap₂, arith, inl, inr, true, false}
+use Rattle.std.proofs.Common.{◌≡◌, ℕ, zero, suc, ◌+◌, ◌<◌, ◌∙◌, List, [], ◌∷◌, ◌++◌, length, drop, get_or, Bool, refl, sym, ap, ap₂, inl, inr, true, false}
 use Rattle.std.proofs.Math.Seq.{drop-nil}
 use Rattle.std.specs.Prelude.{map, filter_map, zip, Some, None, Ok, slice_get, Err, Result, IsOk, ◌⊎◌}
 use Rattle.std.specs.List.{AllZip}
 use Rattle.std.proofs.lemmas.List.{length-map}
-use Rattle.std.proofs.lemmas.Option.{none-some, same_Some, slice_get-get_or}
+use Rattle.std.proofs.lemmas.Option.{none-some, slice_get-get_or}
 use Rattle.omf_records.specs.Values.{Rec}
 use Rattle.omf_check.specs.Module.{Module, records_in, typed_modules}
 use Rattle.omf_check.specs.Tables.{groups, segments}
@@ -22,7 +22,8 @@ use Rattle.omf_output.specs.Exe.Based.{is_movable, segments_moving}
 use Rattle.omf_output.specs.Exe.Derived.{AreMovers, Named, all_movers, based, based_by, bases_in, completed, frame_at, low_of, lows, marked, movers_in, name_at, name_moves, names_moving, place_at, IsMoversFault, derived_at}
 use Rattle.omf_output.specs.Exe.Moved.{Movers}
 use Rattle.omf_placement.specs.declared.frame.Placed.{Placed}
-use Rattle.omf_output.proofs.LowLaws.{more-of, next-at}
+use Rattle.omf_output.proofs.LowLaws.{more-of}
+use Rattle.omf_placement.proofs.ListLaws.{next-at}
 
 pub bases-are-places : (up : Bool) (ls : List Named) (ms : List (List Rec)) → AllZip IsPlaceOf ms (map (based up ls) ms)
 bases-are-places up ls [] = tt
@@ -33,22 +34,6 @@ bases-are-places up ls (m ∷ ms) = (
   },
   bases-are-places up ls ms,
 )
-
--- The next of three lists, and none.
-zip-at : {A B : Type 0} (xs : List A) (ys : List B) (j : ℕ) (x : A) (y : B) → slice_get xs j ≡ Some x → slice_get ys j ≡ Some y → slice_get (zip xs ys) j ≡ Some (x, y)
-zip-at [] ys j x y e g = absurd (none-some x e)
-zip-at (a ∷ xs) [] j x y e g = absurd (none-some y g)
-zip-at (a ∷ xs) (b ∷ ys) zero x y e g = ap₂ (λ u v. Some (u, v)) (same_Some a x e) (same_Some b y g)
-zip-at (a ∷ xs) (b ∷ ys) (suc j) x y e g = zip-at xs ys j x y e g
-
-pub next-pair : {A B : Type 0} (xs : List A) (ys : List B) (j : ℕ) (x : A) (y : B) → slice_get xs j ≡ Some x → slice_get ys j ≡ Some y → drop j (zip xs ys) ≡ (x, y) ∷ drop (j + 1) (zip xs ys)
-next-pair xs ys j x y e g = next-at (zip xs ys) j (x, y) (zip-at xs ys j x y e g)
-
-pub no-pair : {A B : Type 0} (xs : List A) (ys : List B) (j : ℕ) → length xs ≤ j → drop j (zip xs ys) ≡ []
-no-pair [] ys j h = drop-nil j
-no-pair (x ∷ xs) [] j h = drop-nil j
-no-pair (x ∷ xs) (y ∷ ys) zero h = absurd (omega arith)
-no-pair (x ∷ xs) (y ∷ ys) (suc j) h = no-pair xs ys j (omega arith)
 
 pub none-paired : {A B : Type 0} (xs : List A) (ys : List B) (j : ℕ) → slice_get ys j ≡ None → drop j (zip xs ys) ≡ []
 none-paired [] ys j h = drop-nil j

@@ -10,7 +10,7 @@ use Rattle.omf_check.specs.Tables.{entry, segments}
 use Rattle.std.proofs.Math.ListN.{drop_of_length-le}
 use Rattle.omf_check.specs.Threads.{same}
 use Rattle.omf_output.specs.Exe.Based.{is_movable, same_flags, segments_moving}
-use Rattle.omf_output.proofs.LowLaws.{entry-at, next-at}
+use Rattle.omf_placement.proofs.ListLaws.{entry-at, next-at}
 
 -- Lists of different lengths are not the same.
 pub flags-differ : (bs cs : List Bool) → length bs ≢ length cs → same_flags bs cs ≡ false

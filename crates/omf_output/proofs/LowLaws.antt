@@ -1,11 +1,11 @@
 -- The lowest members of groups of one name, group by group.
-use Rattle.std.proofs.Common.{◌≡◌, ℕ, zero, suc, ◌+◌, ◌<◌, ◌-◌, true, false, List, [], ◌∷◌, ◌++◌, drop, refl, sym, ap, ap₂, ◌∙◌, subst, inl, inr, append-nil, append_assoc, arith, Bor}
-use Rattle.std.specs.Prelude.{map, filter_map, cond, Option, Some, None, slice_get, nat_le, bytes_eq}
+use Rattle.std.proofs.Common.{◌≡◌, ℕ, suc, ◌+◌, ◌<◌, ◌-◌, true, false, List, [], ◌∷◌, ◌++◌, drop, refl, sym, ap, ◌∙◌, subst, inl, inr, append-nil, append_assoc, arith, Bor}
+use Rattle.std.specs.Prelude.{map, filter_map, cond, Option, Some, None, bytes_eq}
 use Rattle.std.specs.List.{cons_option, range_with_len}
 use Rattle.std.specs.BTreeMap.{BTreeMap, get_by, is_at}
 use Rattle.std.specs.Map.{lookup}
-use Rattle.std.proofs.lemmas.Bool.{cond-true, cond-false, cases_Bool, le-leb, lt-leb, false_from_ne_true}
-use Rattle.std.proofs.lemmas.Bool.Decides.{leb_tells, not_from_Decides}
+use Rattle.std.proofs.lemmas.Bool.{cond-true, cond-false, cases_Bool, false_from_ne_true}
+use Rattle.std.proofs.lemmas.Bool.Decides.{not_from_Decides}
 use Rattle.std.proofs.lemmas.List.Elements.{filter_map-append}
 use Rattle.std.proofs.lemmas.Option.{none-some, same_Some}
 use Rattle.std.proofs.lemmas.Slice.Eq.{bytes_eq-Decides}
@@ -17,9 +17,9 @@ use Rattle.std.specs.Prelude.{option_map}
 use Rattle.omf_placement.specs.declared.frame.Placed.{Placed}
 use Rattle.omf_placement.specs.Inner.Lowest.{lower_than}
 use Rattle.omf_placement.specs.Placement.{lowest}
-use Rattle.omf_placement.specs.Inner.Names.{lower}
-use Rattle.omf_placement.proofs.GroupLaws.{if_low, if_high}
 use Rattle.omf_output.specs.Exe.Derived.{HasMore, IsLowTable, Named, low_of, of_name, value_of}
+use Rattle.omf_placement.proofs.LowerLaws.{lowest-more}
+use Rattle.omf_placement.proofs.ListLaws.{next-at, entry-at}
 
 abbrev pub Name : Type 0
 Name = List ℕ
@@ -43,28 +43,6 @@ of-other ls x p y e =
     filter_map-append (value_of y) ls ((x, p) ∷ [])
     ∙ ap (λ b. of_name ls y ++ cons_option (cond b (Some p) None) []) e
     ∙ append-nil (of_name ls y)
-
-lower-grouped : (p q r : Placed) → lower p (Some (lower q (Some r))) ≡ lower (lower p (Some q)) (Some r)
-lower-grouped p q r = elim (leb_tells p.address q.address) [
-  | inl a ↦ elim (leb_tells q.address r.address) [
-    | inl b ↦
-        let k : nat_le p.address r.address ≡ true = le-leb p.address r.address (omega (arith, a.1, b.1)) in
-        ap (λ x. lower p (Some x)) (if_low q r b.0) ∙ if_low p q a.0 ∙ sym (if_low p r k) ∙ ap (λ x. lower x (Some r)) (sym (if_low p q a.0))
-    | inr b ↦ ap (λ x. lower p (Some x)) (if_high q r b.0) ∙ ap (λ x. lower x (Some r)) (sym (if_low p q a.0))
-  ]
-  | inr a ↦ elim (leb_tells q.address r.address) [
-    | inl b ↦ ap (λ x. lower p (Some x)) (if_low q r b.0) ∙ if_high p q a.0 ∙ sym (if_low q r b.0) ∙ ap (λ x. lower x (Some r)) (sym (if_high p q a.0))
-    | inr b ↦ ap (λ x. lower p (Some x)) (if_high q r b.0) ∙ if_high p r (lt-leb p.address r.address (omega (arith, a.1, b.1))) ∙ sym (if_high q r b.0) ∙ ap (λ x. lower x (Some r)) (sym (if_high p q a.0))
-  ]
-]
-
-after : (q p : Placed) (o : Option Placed) → lower q (Some (lower_than o p)) ≡ lower_than (Some (lower q o)) p
-after q p None = refl
-after q p (Some r) = lower-grouped q r p
-
-lowest-more : (ps : List Placed) (p : Placed) → lowest (ps ++ p ∷ []) ≡ Some (lower_than (lowest ps) p)
-lowest-more [] p = refl
-lowest-more (q ∷ ps) p = ap (λ o. Some (lower q o)) (lowest-more ps p) ∙ ap Some (after q p (lowest ps))
 
 abbrev pub Map : Type 0
 Map = BTreeMap (Bor (List ℕ)) Placed
@@ -91,16 +69,6 @@ none-more m xs e = subst (HasMore m m) (sym e) (λ ls h. subst (IsLowTable m) (s
 -- An empty map is the table of no groups.
 pub fill-empty : (m n : Map) (all : List Named) → m.entries ≡ [] → HasMore m n all → IsLowTable n all
 fill-empty m n all e g = g [] (λ name. ap (lookup (is_at (λ k. name_cmp name k.now))) e)
-
--- The next of a list.
-pub next-at : {A : Type 0} (xs : List A) (j : ℕ) (x : A) → slice_get xs j ≡ Some x → drop j xs ≡ x ∷ drop (j + 1) xs
-next-at [] j x e = absurd (none-some x e)
-next-at (y ∷ ys) zero x e = ap (λ z. z ∷ ys) (same_Some y x e)
-next-at (y ∷ ys) (suc j) x e = let same : suc (j + 1) ≡ suc j + 1 = omega arith in next-at ys j x e ∙ ap (λ n. x ∷ drop n (y ∷ ys)) same
-
--- The entry of an index from 1, by its position.
-pub entry-at : {A : Type 0} (xs : List A) (j : ℕ) → entry xs (j + 1) ≡ slice_get xs j
-entry-at xs j = let back : j + 1 - 1 ≡ j = omega arith in ap₂ (λ b k. cond b (slice_get xs k) None) (le-leb 1 (j + 1) (omega arith)) back
 
 pub next-entry : {A : Type 0} (xs : List A) (j : ℕ) (x : A) → entry xs (j + 1) ≡ Some x → drop j xs ≡ x ∷ drop (j + 1) xs
 next-entry xs j x e = next-at xs j x (sym (entry-at xs j) ∙ e)

@@ -19,3 +19,7 @@ pub mod LinkageLaws
 pub mod LinkedLaws
 pub mod SearchLaws
 pub mod WeakLaws
+pub mod ListLaws
+pub mod AttributeLaws
+pub mod LowerLaws
+pub mod HexadecimalLaws

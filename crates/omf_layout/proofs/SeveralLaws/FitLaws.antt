@@ -13,7 +13,8 @@ use Rattle.omf_layout.specs.Layout.{Laid}
 use Rattle.omf_layout.specs.declared.options.Frames.{Frames}
 use Rattle.omf_layout.specs.declared.options.Options.{Options}
 use Rattle.omf_layout.proofs.FitLaws.{map_some}
-use Rattle.omf_layout.proofs.TableLaws.{HaveAll, entry-at, kept-at, length-kept}
+use Rattle.omf_layout.proofs.TableLaws.{HaveAll, kept-at, length-kept}
+use Rattle.omf_placement.proofs.ListLaws.{entry-at}
 use Rattle.omf_layout.specs.declared.several.portion.Portion.{Portion}
 use Rattle.omf_layout.specs.Several.Laws.{ArrangedAsTold, IsPlaced, IsPlacedAt, PlacedLieApart, PlacesLieApart}
 use Rattle.omf_layout.specs.Several.Laying.{Lying, laid, arranged}

@@ -9,7 +9,8 @@ use Rattle.omf_check.specs.Tables.{attributes, segments, entry}
 use Rattle.omf_check.specs.declared.segment.SegInfo.{SegInfo}
 use Rattle.omf_layout.specs.Layout.{Laid}
 use Rattle.omf_layout.specs.declared.options.Options.{Options}
-use Rattle.omf_layout.proofs.TableLaws.{entry-at, length-attributes}
+use Rattle.omf_placement.proofs.ListLaws.{entry-at}
+use Rattle.omf_placement.proofs.AttributeLaws.{length-attributes}
 use Rattle.omf_layout.specs.declared.several.portion.Combination.{Combination}
 use Rattle.omf_layout.specs.declared.several.portion.Combination.TheVariants.{Joined, Common, Alone}
 use Rattle.omf_layout.specs.declared.several.portion.Portion.{Portion}

@@ -1,13 +1,12 @@
 -- The lowest members of groups of one name, group by group.
-use Rattle.std.proofs.Common.{◌≡◌, ℕ, zero, suc, ◌+◌, ◌<◌, ◌≤◌, true, List, [], ◌∷◌, ◌++◌, length, drop, get_or, refl, sym, ap, ap₂, ◌∙◌, subst, inl, inr, append-nil, append_assoc, arith, Bor, Vec, Global}
+use Rattle.std.proofs.Common.{◌≡◌, ℕ, zero, suc, ◌+◌, ◌<◌, ◌≤◌, List, [], ◌∷◌, ◌++◌, length, drop, get_or, refl, sym, ap, ap₂, ◌∙◌, subst, inl, inr, append-nil, append_assoc, arith, Bor, Vec, Global}
 use Rattle.std.proofs.Math.Seq.{drop-nil}
-use Rattle.std.specs.Prelude.{map, zip, filter_map, Option, Some, None, slice_get, nat_le, bytes_eq}
+use Rattle.std.specs.Prelude.{map, zip, filter_map, Option, Some, None, bytes_eq}
 use Rattle.std.specs.List.{cons_option}
 use Rattle.std.specs.BTreeMap.{BTreeMap, get_by, is_at}
 use Rattle.std.specs.Map.{lookup}
-use Rattle.std.proofs.lemmas.Bool.{cond-true, cond-false, cases_Bool, le-leb, lt-leb}
-use Rattle.std.proofs.lemmas.Bool.Decides.{leb_tells}
-use Rattle.std.proofs.lemmas.Option.{none-some, same_Some, slice_get-get_or}
+use Rattle.std.proofs.lemmas.Bool.{cond-true, cond-false, cases_Bool}
+use Rattle.std.proofs.lemmas.Option.{slice_get-get_or}
 use Rattle.omf_names.specs.Names.{name_cmp}
 use Rattle.omf_names.proofs.NameTables.{IsUpdated}
 use Rattle.omf_records.specs.Values.{Rec, GroupItem}
@@ -17,37 +16,14 @@ use Rattle.omf_check.specs.WellFormed.{recs}
 use Rattle.omf_placement.specs.declared.frame.Placed.{Placed}
 use Rattle.omf_placement.specs.Inner.Lowest.{lower_than}
 use Rattle.omf_placement.specs.Placement.{lowest}
-use Rattle.omf_placement.specs.Inner.Names.{lower}
-use Rattle.omf_placement.proofs.GroupLaws.{if_low, if_high}
-use Rattle.omf_layout.proofs.TableLaws.{entry-at}
+use Rattle.omf_placement.proofs.ListLaws.{entry-at, next-at}
 use Rattle.omf_layout.specs.Several.Gathered.{of_name}
 use Rattle.std.specs.List.{enumerate_from}
 use Rattle.omf_layout.specs.Several.Laying.{Lying}
 use Rattle.omf_layout.specs.Several.Placing.{HasMore, IsLowTable, low_of, segments_in}
 use Rattle.omf_layout.specs.Several.Portions.{Named}
 use Rattle.omf_layout.proofs.SeveralLaws.GatherLaws.{Name, same, back, of-this, of-other}
-
-lower-grouped : (p q r : Placed) → lower p (Some (lower q (Some r))) ≡ lower (lower p (Some q)) (Some r)
-lower-grouped p q r = elim (leb_tells p.address q.address) [
-  | inl a ↦ elim (leb_tells q.address r.address) [
-    | inl b ↦
-        let k : nat_le p.address r.address ≡ true = le-leb p.address r.address (omega (arith, a.1, b.1)) in
-        ap (λ x. lower p (Some x)) (if_low q r b.0) ∙ if_low p q a.0 ∙ sym (if_low p r k) ∙ ap (λ x. lower x (Some r)) (sym (if_low p q a.0))
-    | inr b ↦ ap (λ x. lower p (Some x)) (if_high q r b.0) ∙ ap (λ x. lower x (Some r)) (sym (if_low p q a.0))
-  ]
-  | inr a ↦ elim (leb_tells q.address r.address) [
-    | inl b ↦ ap (λ x. lower p (Some x)) (if_low q r b.0) ∙ if_high p q a.0 ∙ sym (if_low q r b.0) ∙ ap (λ x. lower x (Some r)) (sym (if_high p q a.0))
-    | inr b ↦ ap (λ x. lower p (Some x)) (if_high q r b.0) ∙ if_high p r (lt-leb p.address r.address (omega (arith, a.1, b.1))) ∙ sym (if_high q r b.0) ∙ ap (λ x. lower x (Some r)) (sym (if_high p q a.0))
-  ]
-]
-
-behind : (q p : Placed) (o : Option Placed) → lower q (Some (lower_than o p)) ≡ lower_than (Some (lower q o)) p
-behind q p None = refl
-behind q p (Some r) = lower-grouped q r p
-
-lowest-more : (ps : List Placed) (p : Placed) → lowest (ps ++ p ∷ []) ≡ Some (lower_than (lowest ps) p)
-lowest-more [] p = refl
-lowest-more (q ∷ ps) p = ap (λ o. Some (lower q o)) (lowest-more ps p) ∙ ap Some (behind q p (lowest ps))
+use Rattle.omf_placement.proofs.LowerLaws.{lowest-more}
 
 abbrev pub Map : Type 0
 Map = BTreeMap (Bor (List ℕ)) Placed
@@ -74,12 +50,6 @@ none-more m xs e = subst (HasMore m m) (sym e) (λ ls h. subst (IsLowTable m) (s
 -- An empty map is the table of no groups.
 pub fill-empty : (m n : Map) (all : List (Named Placed)) → m.entries ≡ [] → HasMore m n all → IsLowTable n all
 fill-empty m n all e g = g [] (λ name. ap (lookup (is_at (λ k. name_cmp name k.now))) e)
-
--- The next of a list.
-pub next-at : {A : Type 0} (xs : List A) (j : ℕ) (x : A) → slice_get xs j ≡ Some x → drop j xs ≡ x ∷ drop (j + 1) xs
-next-at [] j x e = absurd (none-some x e)
-next-at (y ∷ ys) zero x e = ap (λ z. z ∷ ys) (same_Some y x e)
-next-at (y ∷ ys) (suc j) x e = let same : suc (j + 1) ≡ suc j + 1 = omega arith in next-at ys j x e ∙ ap (λ n. x ∷ drop n (y ∷ ys)) same
 
 pub next-group : (m : List Rec) (j : ℕ) (g : GroupItem) → entry (groups m) (j + 1) ≡ Some g → drop j (groups m) ≡ g ∷ drop (j + 1) (groups m)
 next-group m j g e = next-at (groups m) j g (sym (entry-at (groups m) j) ∙ e)

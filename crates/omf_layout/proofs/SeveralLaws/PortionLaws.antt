@@ -1,7 +1,7 @@
 -- The segments of modules, one more at a time.
-use Rattle.std.proofs.Common.{◌≡◌, ℕ, zero, suc, ◌+◌, ◌<◌, ◌≤◌, List, [], ◌∷◌, ◌++◌, length, drop, get_or, refl, sym, ap, ap₂, ◌∙◌, arith, append_assoc, append-nil}
+use Rattle.std.proofs.Common.{◌≡◌, ℕ, zero, suc, ◌+◌, ◌<◌, ◌≤◌, List, [], ◌∷◌, length, drop, get_or, sym, ap, ap₂, ◌∙◌, arith}
 use Rattle.std.proofs.Math.Seq.{drop-nil}
-use Rattle.std.specs.Prelude.{map, Some, slice_get}
+use Rattle.std.specs.Prelude.{Some, slice_get}
 use Rattle.std.specs.List.{zip, enumerate_from}
 use Rattle.std.proofs.lemmas.Option.{none-some, same_Some}
 use Rattle.omf_check.specs.Module.{Module, records_in, typed_modules}
@@ -26,20 +26,6 @@ none-numbered k [] ys j h = drop-nil j
 none-numbered k (x ∷ xs) [] j h = drop-nil j
 none-numbered k (x ∷ xs) (y ∷ ys) zero h = absurd (omega arith)
 none-numbered k (x ∷ xs) (y ∷ ys) (suc j) h = none-numbered (k + 1) xs ys j (omega arith)
-
-map-end : {A B : Type 0} (f : A → B) (xs : List A) (x : A) → map f (xs ++ x ∷ []) ≡ map f xs ++ f x ∷ []
-map-end f [] x = refl
-map-end f (y ∷ ys) x = ap (λ zs. f y ∷ zs) (map-end f ys x)
-
--- One more at the end.
-pub more-mapped : {A B C : Type 0} (seen : A → C) (f : B → C) (old new : List A) (x : A) (left rest : List B) (y : B) (all : List C) → new ≡ old ++ x ∷ [] → left ≡ y ∷ rest → seen x ≡ f y
-    → map seen old ++ map f left ≡ all → map seen new ++ map f rest ≡ all
-more-mapped seen f old new x left rest y all e g s h =
-    ap (λ zs. map seen zs ++ map f rest) e ∙ ap (λ zs. zs ++ map f rest) (map-end seen old x) ∙ append_assoc (map seen old) (seen x ∷ []) (map f rest)
-    ∙ ap (λ z. map seen old ++ z ∷ map f rest) s ∙ ap (λ zs. map seen old ++ map f zs) (sym g) ∙ h
-
-pub all-mapped : {A B C : Type 0} (seen : A → C) (f : B → C) (old : List A) (left : List B) (all : List C) → left ≡ [] → map seen old ++ map f left ≡ all → map seen old ≡ all
-all-mapped seen f old left all e h = sym (append-nil (map seen old)) ∙ ap (λ zs. map seen old ++ map f zs) (sym e) ∙ h
 
 -- The next module.
 pub next-module : (k : ℕ) (ms : List Module) (j : ℕ) (m : Module) → m ≡ get_or ms j m → j < length ms

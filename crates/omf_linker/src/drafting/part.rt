@@ -19,13 +19,14 @@ ghost use Rattle.omf_linker.specs.Drafting.Text.{external_by, full_place, group_
 
 use crate::drafting::names::NameTable;
 use omf_check::{Checked, SegInfo, entry_of};
-use omf_layout::printing::{print_name, print_quoted, print_room, print_segment_room};
+use omf_layout::printing::{print_room, print_segment_room};
 use omf_layout::wants::{alignments_of, rooms_of};
 use omf_layout::{Alignment, Frames};
 use omf_linking::locator::forms::{KeyForm, Keys, print_key};
 use omf_linking::locator::module_name;
 use omf_placement::{Frame, Placed, Placement};
 use omf_reloc::Kind;
+use omf_text::{print_name, print_quoted};
 use std::alloc::{AllocError, Global};
 use std::fmt::Write;
 

@@ -5,8 +5,8 @@ ghost use Rattle.omf_library.specs.Needed.{has_name};
 ghost use Rattle.omf_linker.specs.Exe.Libraries.{sought};
 
 use omf_check::Checked;
-use omf_layout::printing::print_quoted;
 use omf_library::needed::default_libraries;
+use omf_text::print_quoted;
 use std::alloc::{AllocError, Global};
 
 /// Whether a name is known.

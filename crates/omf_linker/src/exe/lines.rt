@@ -14,7 +14,6 @@ use omf_check::Checked;
 use omf_cmd::{RunFault, fault_line};
 use omf_frame::Place;
 use omf_layout::own::{CommunalReason, CommunalsFault, OrderFault};
-use omf_layout::printing::print_quoted;
 use omf_library::LibraryFault;
 use omf_linking::space::Owner;
 use omf_output::exe::{ComFault, ExeFault, FarAddress};
@@ -23,6 +22,7 @@ use omf_output::stacks::Interval;
 use omf_placement::DeriveFault;
 use omf_records::Rec;
 use omf_reloc::{Cause, ReachFault};
+use omf_text::print_quoted;
 use std::alloc::{AllocError, Global};
 use std::fmt::Write;
 

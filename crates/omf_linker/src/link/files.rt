@@ -13,8 +13,8 @@ use crate::link::running::modules_shown;
 use crate::link::words::Task;
 use omf_cmd::Fault;
 use omf_frame::Sink;
-use omf_layout::printing::print_quoted;
 use omf_linking::{InputFile, LinkFault};
+use omf_text::print_quoted;
 use std::alloc::{AllocError, Global};
 
 /// The front of the line of a file's fault: the word `file` and the name in quotes, with `\xHH` for bytes that are not plain.

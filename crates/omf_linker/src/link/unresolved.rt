@@ -15,8 +15,8 @@ use crate::drafting::names::NameTable;
 use crate::link::by_name::{ByName, External, Spot, external_at};
 use crate::link::settled::{Settled, all_settled, is_settled};
 use omf_check::Checked;
-use omf_layout::printing::print_quoted;
 use omf_linking::locator::Sparse;
+use omf_text::print_quoted;
 use std::alloc::{AllocError, Global};
 use std::fmt::Write;
 

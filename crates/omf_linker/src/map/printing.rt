@@ -6,7 +6,6 @@ ghost use Rattle.omf_placement.specs.Quoted.{hex, quoted};
 ghost use Rattle.omf_linker.specs.Map.MapText.{address_or_dash, line};
 
 use omf_frame::Name;
-use omf_layout::printing;
 use std::alloc::AllocError;
 use std::fmt::Write;
 
@@ -55,7 +54,7 @@ fn print_quoted(text: &mut String, name: &[u8]) -> Result<(), AllocError>
     ensures { AddsText result (string_bytes text.old) (string_bytes text.new) (32 ∷ quoted name.now) }
 {
     text.push_str(" ")?;
-    printing::print_quoted(text, name)
+    omf_text::print_quoted(text, name)
 }
 
 /// Prints a space and a name in double quotes, or a dash for none.

@@ -5,11 +5,11 @@ use crate::seen::finding::{Finding, Range};
 use crate::seen::frames::Framed;
 use crate::seen::wide::FarMember;
 use omf_check::Checked;
-use omf_layout::printing::print_quoted;
 use omf_linking::space::Owner;
 use omf_placement::Frame;
 use omf_records::Rec;
 use omf_reloc::Kind;
+use omf_text::print_quoted;
 use std::alloc::AllocError;
 use std::fmt::Write;
 

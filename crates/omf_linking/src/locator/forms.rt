@@ -16,9 +16,9 @@ ghost use Rattle.omf_linking.specs.declared.locator.forms.KeyForm.TheVariants.{O
 use crate::locator::keys::{class_name, entry_count, entry_name, module_name};
 use omf_check::{Checked, entry_of};
 use omf_frame::Name;
-use omf_layout::printing::{print_name, print_quoted};
 use omf_names::NameKey;
 use omf_reloc::Kind;
+use omf_text::{print_name, print_quoted};
 use std::alloc::{AllocError, Global};
 use std::collections::BTreeMap;
 use std::fmt::Write;

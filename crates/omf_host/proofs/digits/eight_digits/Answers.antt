@@ -1,5 +1,5 @@
 use Rattle.std.proofs.Common.{arith}
-use Rattle.omf_host.proofs.Hexadecimal.{hex_eight}
+use Rattle.omf_placement.proofs.HexadecimalLaws.{hex_eight}
 use Rattle.omf_host.proofs.digits.eight_digits.Goals as goal
 
 pub returns : goal.returns

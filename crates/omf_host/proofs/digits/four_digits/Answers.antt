@@ -1,5 +1,5 @@
 use Rattle.std.proofs.Common.{arith}
-use Rattle.omf_host.proofs.Hexadecimal.{hex_four}
+use Rattle.omf_placement.proofs.HexadecimalLaws.{hex_four}
 use Rattle.omf_host.proofs.digits.four_digits.Goals as goal
 
 pub returns : goal.returns

@@ -1,5 +1,5 @@
 use Rattle.std.proofs.Common.{arith}
-use Rattle.omf_host.proofs.Hexadecimal.{hex_two}
+use Rattle.omf_placement.proofs.HexadecimalLaws.{hex_two}
 use Rattle.omf_host.proofs.digits.two_digits.Goals as goal
 
 pub returns : goal.returns

@@ -7,7 +7,7 @@ use Rattle.omf_layout.specs.Layout.{segment_laid, segments_laid}
 use Rattle.omf_layout.specs.Inner.Spots.{segments_alone, spot_laid}
 use Rattle.omf_layout.specs.Wants.{alignments}
 use Rattle.omf_layout.proofs.LaidLaws.{next-laid, not-laid, are-laid}
-use Rattle.omf_layout.proofs.TableLaws.{entry-at, next-pair, no-pair}
+use Rattle.omf_placement.proofs.ListLaws.{entry-at, next-pair, no-pair}
 use Rattle.omf_layout.proofs.LaidLaws.{alone-same}
 use Rattle.omf_layout.proofs.laying.lay_segments.Goals as goal
 

@@ -6,8 +6,9 @@ use Rattle.omf_records.specs.Values.{alignment}
 use Rattle.omf_layout.specs.Wants.{alignment_named, alignments}
 use Rattle.omf_layout.proofs.Gathered.{more-given, all-given}
 use Rattle.std.proofs.lemmas.List.{drop_all}
-use Rattle.omf_layout.proofs.SeveralLaws.LowLaws.{next-at}
-use Rattle.omf_layout.proofs.TableLaws.{attribute-there, entry-at, length-alignments, length-attributes}
+use Rattle.omf_placement.proofs.ListLaws.{next-at, entry-at}
+use Rattle.omf_layout.proofs.TableLaws.{length-alignments}
+use Rattle.omf_placement.proofs.AttributeLaws.{attribute-there, length-attributes}
 use Rattle.omf_layout.proofs.wants.alignments_of.Goals as goal
 
 pub unreachable-requires : goal.unreachable-requires

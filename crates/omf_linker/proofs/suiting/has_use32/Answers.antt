@@ -3,8 +3,8 @@ use Rattle.omf_check.specs.Module.{records_in}
 use Rattle.omf_check.specs.Tables.{attributes}
 use Rattle.omf_check.specs.WellFormed.{recs}
 use Rattle.std.proofs.lemmas.List.{drop_all}
-use Rattle.omf_layout.proofs.SeveralLaws.LowLaws.{next-at}
-use Rattle.omf_layout.proofs.TableLaws.{attribute-there, entry-at, length-attributes}
+use Rattle.omf_placement.proofs.ListLaws.{next-at, entry-at}
+use Rattle.omf_placement.proofs.AttributeLaws.{attribute-there, length-attributes}
 use Rattle.omf_records.specs.Values.{is_use32}
 use Rattle.omf_linker.proofs.SuitingLaws.{any_found, any_later, any_none}
 use Rattle.omf_linker.proofs.suiting.has_use32.Goals as goal

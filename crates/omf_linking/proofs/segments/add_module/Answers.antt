@@ -3,9 +3,7 @@ use Rattle.std.specs.List.{enumerate_from}
 use Rattle.omf_check.specs.Module.{records_in}
 use Rattle.omf_check.specs.WellFormed.{recs}
 use Rattle.std.proofs.lemmas.List.{drop_all}
-use Rattle.omf_layout.proofs.SeveralLaws.LowLaws.{next-at}
-use Rattle.omf_layout.proofs.SeveralLaws.PortionLaws.{more-mapped, all-mapped}
-use Rattle.omf_layout.proofs.TableLaws.{entry-at}
+use Rattle.omf_placement.proofs.ListLaws.{next-at, more-mapped, all-mapped, entry-at}
 use Rattle.omf_linking.specs.Segments.{commons, image_bytes, module_segment}
 use Rattle.omf_linking.specs.Space.Segments.{segment_at}
 use Rattle.omf_linking.proofs.SegmentsLaws.{length_commons}

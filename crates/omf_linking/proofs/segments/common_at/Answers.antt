@@ -3,7 +3,7 @@ use Rattle.std.specs.Prelude.{Some, option_map}
 use Rattle.omf_check.specs.Module.{records_in}
 use Rattle.omf_check.specs.Tables.{attributes}
 use Rattle.omf_check.specs.WellFormed.{recs}
-use Rattle.omf_layout.proofs.TableLaws.{attribute-there}
+use Rattle.omf_placement.proofs.AttributeLaws.{attribute-there}
 use Rattle.omf_linking.specs.Segments.{is_common}
 use Rattle.omf_linking.proofs.SegmentsLaws.{entry_mapped}
 use Rattle.omf_linking.proofs.segments.common_at.Goals as goal

@@ -2,9 +2,10 @@ use Rattle.std.proofs.Common.{◌≡◌, ◌+◌, ◌∙◌, ap, sym, arith}
 use Rattle.omf_check.specs.Module.{records_in}
 use Rattle.omf_check.specs.Tables.{attributes, segments}
 use Rattle.omf_check.specs.WellFormed.{recs}
-use Rattle.omf_layout.proofs.TableLaws.{attribute-there, entry-at}
+use Rattle.omf_placement.proofs.AttributeLaws.{attribute-there}
+use Rattle.omf_placement.proofs.ListLaws.{entry-at, more-mapped, all-mapped}
 use Rattle.omf_layout.specs.Several.Portions.{classed, name_at, portion, with_names}
-use Rattle.omf_layout.proofs.SeveralLaws.PortionLaws.{next-numbered, none-numbered, more-mapped, all-mapped}
+use Rattle.omf_layout.proofs.SeveralLaws.PortionLaws.{next-numbered, none-numbered}
 use Rattle.omf_layout.proofs.several.portion.add_portions.Goals as goal
 
 pub unreachable-requires-in_default-attribute : goal.unreachable-requires-in_default-attribute

@@ -1,4 +1,4 @@
-use Rattle.omf_layout.proofs.Lines.{zeros_first}
+use Rattle.omf_text.proofs.ZeroLaws.{zeros_first}
 use Rattle.omf_linker.proofs.map.printing.print_digits.Goals as goal
 
 pub returns : goal.returns

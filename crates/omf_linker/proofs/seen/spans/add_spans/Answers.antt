@@ -2,8 +2,9 @@ use Rattle.std.proofs.Common.{◌≡◌, ◌+◌, ◌∙◌, ap, sym, arith}
 use Rattle.omf_check.specs.Module.{records_in}
 use Rattle.omf_check.specs.Tables.{attributes, segments}
 use Rattle.omf_check.specs.WellFormed.{recs}
-use Rattle.omf_layout.proofs.TableLaws.{attribute-there, entry-at}
-use Rattle.omf_layout.proofs.SeveralLaws.PortionLaws.{next-numbered, none-numbered, more-mapped, all-mapped}
+use Rattle.omf_placement.proofs.AttributeLaws.{attribute-there}
+use Rattle.omf_placement.proofs.ListLaws.{entry-at, more-mapped, all-mapped}
+use Rattle.omf_layout.proofs.SeveralLaws.PortionLaws.{next-numbered, none-numbered}
 use Rattle.omf_linker.specs.Seen.Lying.{lying, seen}
 use Rattle.omf_linker.proofs.seen.spans.add_spans.Goals as goal
 

@@ -6,7 +6,7 @@ use Rattle.omf_check.specs.Tables.{segments}
 use Rattle.omf_check.specs.WellFormed.{recs}
 use Rattle.omf_placement.specs.Derive.{placed_modules}
 use Rattle.omf_records.specs.Values.{Rec}
-use Rattle.omf_layout.proofs.TableLaws.{entry-at}
+use Rattle.omf_placement.proofs.ListLaws.{entry-at}
 use Rattle.omf_linking.specs.Space.Segments.{segment_at}
 use Rattle.omf_linking.specs.Segments.{ModuleBytes, all_segments, commons, image_bytes, module_segment, module_segments, with_images}
 use Rattle.omf_linking.proofs.SegmentsLaws.{next_module, next_of, no_module, segment_here, segment_later, some_left, placed_same}

@@ -2,8 +2,9 @@ use Rattle.std.proofs.Common.{◌++◌, ◌∙◌, List, Bool, ap, append-nil, s
 use Rattle.std.specs.Prelude.{map, zip}
 use Rattle.std.proofs.lemmas.Option.{slice_get-get_or}
 use Rattle.omf_output.specs.Exe.Derived.{marked}
-use Rattle.omf_output.proofs.LowLaws.{entry-at, more-of}
-use Rattle.omf_output.proofs.DerivingLaws.{next-pair, no-pair, none-paired}
+use Rattle.omf_output.proofs.LowLaws.{more-of}
+use Rattle.omf_placement.proofs.ListLaws.{entry-at, next-pair, no-pair}
+use Rattle.omf_output.proofs.DerivingLaws.{none-paired}
 use Rattle.omf_output.proofs.exe.groups.marks.Goals as goal
 
 pub loop-before-preserved : goal.loop-before-preserved

@@ -1,0 +1,3 @@
+pub mod ZeroLaws
+pub mod DigitLaws
+pub mod PrintedLaws
