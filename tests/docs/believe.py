@@ -16,8 +16,8 @@ from tree import CRATES, ROOT, code_files
 
 BELIEVE = ROOT / "docs" / "BELIEVE.md"
 REFUSALS = ROOT / "docs" / "REFUSALS.md"
-# A definition with one equation is written on one line up to this length.
-WIDE = 180
+# A definition with one equation is written on one line up to this length, and text on lines up to the second.
+WIDE, LONG = 180, 400
 HEAD = """# What to believe
 
 > {promise}
@@ -455,6 +455,19 @@ def refusals(pages):
     return "\n".join(parts).rstrip() + "\n"
 
 
+def broken(page):
+    """A page whose long lines of text are broken after sentences."""
+    lines, inside = [], False
+    for line in page.splitlines():
+        inside ^= line.startswith("```")
+        while len(line) > LONG and not inside and not line.startswith(("|", ">")):
+            at = line.rindex(". ", 0, LONG) + 1
+            lines.append(line[:at])
+            line = line[at + 1 :]
+        lines.append(line)
+    return "\n".join(lines) + "\n"
+
+
 def unexplained(pages):
     """The words of the kit that the pages use and the key has not."""
     explained = {word for row in KEY for words, _, _ in row for word in words.split()}
@@ -482,7 +495,7 @@ def main():
     if sys.argv[1:] == ["--marks"]:
         marks(pages)
         return
-    made = {BELIEVE: believe(pages), REFUSALS: refusals(pages)}
+    made = {BELIEVE: broken(believe(pages)), REFUSALS: broken(refusals(pages))}
     if sys.argv[1:] == ["--check"]:
         for path, text in made.items():
             if not path.exists() or path.read_text(encoding="utf-8") != text:
