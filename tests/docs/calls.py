@@ -6,14 +6,14 @@ its specs/; a clause that cites none is shown itself. What a program promises is
 definitions of its usage, statuses and lines are shown with them. Laws and worked examples are listed by name.
 
 calls.py          writes the page
-calls.py --check  compares it with the sources, and the calls, clauses and laws of the phrase table of docs/PROOFS.md with those that there are:
-                  status 1 where one differs
+calls.py --check  compares it with the sources, and docs/PROOFS.md with what there is: the calls, clauses, laws and files of its phrase table, and
+                  each other name in code quotes. Status 1 where one differs
 """
 import re
 import sys
 
 import believed
-from tree import ROOT, code_files, crates, exported, first_sentence, is_for_tests, root_file, spec_files, words_of
+from tree import CRATES, ROOT, code_files, crates, exported, first_sentence, is_for_tests, root_file, spec_files, words_of
 
 PAGE = ROOT / "docs" / "CALLS.md"
 PROOFS, PHRASES = ROOT / "docs" / "PROOFS.md", "## The headline, phrase by phrase\n"
@@ -204,12 +204,15 @@ def phrase_parts():
 
 
 def phrase_faults(clauses, laws):
-    """What the phrase table names and the sources do not have: a call, a clause of a call, or a law. Definitions in specs/ are not looked at."""
+    """What the phrase table names and the sources do not have: a call, a clause of a call, a law, or a file in specs/."""
     calls = 0
     for part, names in phrase_parts():
         if part.startswith("law"):
             yield from (f"there is no law {it}" for it in names if it not in laws)
-        elif not names[0].startswith("specs/"):
+        elif names[0].startswith("specs/"):
+            crate = re.search(r" of (omf_\w+)$", part)
+            yield from (f"there is no {it} of a crate that is named" for it in names if not crate or not (CRATES / crate[1] / f"{it}.antt").exists())
+        else:
             call, calls = re.sub(r"^omf_\w+::", "", names[0]), calls + 1
             if call not in clauses:
                 yield f"there is no call {call}"
@@ -219,12 +222,24 @@ def phrase_faults(clauses, laws):
         yield "it names no call"
 
 
+def name_faults():
+    """The names in code quotes of docs/PROOFS.md that no source has."""
+    known = {"malloc", "realloc", "free"}
+    for crate in crates():
+        for path in [*code_files(crate), *(it for _, it in spec_files(crate))]:
+            known.update(re.findall(r"\w+", path.read_text(encoding="utf-8")))
+    for name in dict.fromkeys(re.findall(r"`(\w+(?:::\w+)*)`", PROOFS.read_text(encoding="utf-8"))):
+        if not known.issuperset(name.split("::")):
+            yield f"no source has {name}"
+
+
 def main():
     made, clauses, laws = page()
     if sys.argv[1:] == ["--check"]:
         kept = PAGE.read_text(encoding="utf-8") if PAGE.exists() else ""
         faults = ["docs/CALLS.md differs from the sources: run tests/docs.py --write"] if kept != made else []
         faults += [f"docs/PROOFS.md, {PHRASES[3:-1]}: {it}" for it in phrase_faults(clauses, laws)]
+        faults += [f"docs/PROOFS.md: {it}" for it in name_faults()]
         if faults:
             sys.exit("\n".join(faults))
         return
