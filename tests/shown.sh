@@ -6,7 +6,7 @@
 # OMF, OMF_PLACE, OMF_LINK, OMF_DUMP, OMF_LIB and OMF_FIND name the programs (omf, omf-place, omf-link, omf-dump, omf-lib and omf-find, if not set), and LIBOMF
 # the shared library (build/libomf.so). Where there is no omf, or OMF is empty, `rt try` runs it from its sources, without any proof; commands
 # that need the system's own files or another program are then left out. So are commands whose tools are not installed, and those on files
-# that are not part of the repository. The last line has how many were left out.
+# that are not part of the repository. Each of these is named in a line `not run: ..`; the last line shows how many they are.
 set -euo pipefail
 cd "$(dirname "$0")/.."
 omf=${OMF-omf}
@@ -62,6 +62,12 @@ install_library() {
     export PKG_CONFIG_PATH=$work/lib/pkgconfig LD_LIBRARY_PATH=$work/lib
 }
 
+# leave_out: counts and names a command that is not run.
+leave_out() {
+    left_out=$((left_out + 1))
+    echo "not run: $(cat "$work/$number.command")"
+}
+
 commands=$(find "$work" -maxdepth 1 -name '*.command' | wc -l)
 failed=0 left_out=0
 link_program omf-place "${OMF_PLACE:-omf-place}" || true
@@ -93,12 +99,12 @@ for number in $(seq "$commands"); do
         fi
     fi
     if lacks_tool "$(cat "$work/$number.command")"; then
-        left_out=$((left_out + 1))
+        leave_out
         continue
     elif [ $collects = no ]; then
         bash -c "$command" > "$work/got" 2>&1 || true
     elif grep -q '/dev/full\|< examples$\|check examples/\|omf-\|libomf\|\./list\|run\.sh' <<< "$command"; then
-        left_out=$((left_out + 1))
+        leave_out
         continue
     elif grep -q omf <<< "$command" && ! grep -q '^cat [^|]*$' <<< "$command"; then
         CASE=$number bash -c "$command" > /dev/null
@@ -108,7 +114,7 @@ for number in $(seq "$commands"); do
         bash -c "$command" > "$work/got" 2>&1 || true
     fi
     if head -n 1 "$work/got" | grep -q '^skipped: '; then
-        left_out=$((left_out + 1))
+        leave_out
     elif ! cmp -s "$work/got" "$work/$number.said"; then
         echo "not as shown: $command"
         diff "$work/$number.said" "$work/got" || true
