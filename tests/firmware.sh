@@ -32,6 +32,9 @@ for address, found in runs:
 (work / "first").write_text(str(first))
 END
 
+for tool in objcopy srec_cat; do
+    command -v "$tool" > /dev/null || echo "no $tool here: not compared with it"
+done
 failed=0 compared=0
 # compares TOOL FILE READ: whether the tool read the memory.
 compares() {

@@ -6,7 +6,7 @@ that builds it. Where a stage's tool is not installed the stage is left out. STA
 
 Each stage has a line: done, failed or left out; its name; seconds; what was tried, or why not. The end of the output of a stage that failed is
 below its line, and so is what a stage left out. All output is in build/release.log. The status is 1 where a stage failed, where one that ran tried
-nothing, and where none is done.
+nothing, and where none is done; 2 where a name is of no stage. --help lists the stages, with their commands.
 
 MINUTES      for each target of tests/fuzz (10; 0 leaves them out). The inputs that broke a promise are in build/release-fuzz
 MODULES      folders of more modules, for the stages that take some; examples/ is always there
@@ -31,7 +31,11 @@ FILES = {name: pathlib.Path(os.environ.get(name) or ROOT / path).absolute() for 
 MINUTES = float(os.environ.get("MINUTES") or 10)
 FOLDERS = ["examples", *os.environ.get("MODULES", "").split()]
 # What a script prints of a part that it left out.
-PARTLY = re.compile(r"^(?:no .* here: .*|.* missing: passed over|there is no .*: .* passed over|not run: .*|skipped: .*|.*(?<!\b0) left out\b.*)$", re.M)
+PARTLY = re.compile(
+    r"^(?:no .* here: .*|.* missing: passed over|there is no .*: .* passed over|not run: .*|skipped: .*|.*: not tried from growth .*"
+    r"|OK \(skipped=.*|.*[1-9]\d* (?:cannot|not run)\b.*|.*(?<!\b0) left out\b.*)$",
+    re.M,
+)
 # A stage: its command, the files and tools that it needs (of tools with a bar between, one), its limit in seconds, what a try looks like in its
 # output (the number in it counts, less the second one), and variables.
 Stage = collections.namedtuple("Stage", "name command files tools limit tried variables", defaults=({},))
@@ -102,6 +106,7 @@ def stages():
     yield from peers()
     for folder in FOLDERS:
         yield Stage(f"modules {folder}", ["tests/modules.py", folder, "--", "--real"], "OMF OMF_PLACE", "", 1800, r"^(\d+) modules")
+    yield Stage("growths", ["tests/devices/growths.sh"], "OMF OMF_PLACE OMF_LINK OMF_DUMP OMF_LIB", "cc", 3600, r"^(\d+) growths refused", {"LIMIT": "3000"})
     yield Stage("system calls", ["tests/devices/system_calls.py"], " ".join(PROGRAMS), "strace", 3600, r"(\d+) calls failed in turn")
     yield Stage("full disk", ["tests/devices/disk.py"], "OMF_LIB OMF_LINK", "", 1800, r"killed (?:at each of )?(\d+) ")
     yield Stage("outputs", ["tests/devices/outputs.py"], "OMF_LIB OMF_LINK", "", 600, r"(\d+) runs")
@@ -178,6 +183,14 @@ def outcome(stage, log):
 
 
 def main(asked):
+    if {"-h", "--help"} & {*asked}:
+        print(__doc__ + "\n\nThe stages:\n")
+        print("\n".join(f"{it.name:22} {shlex.join(it.command)}" for it in stages()))
+        return 0
+    for name in asked:
+        if not any(it.name.startswith(name) for it in stages()):
+            print(f"there is no stage {name}: --help lists them", file=sys.stderr)
+            return 2
     counts = collections.Counter()
     signal.signal(signal.SIGTERM, lambda number, frame: sys.exit(128 + number))
     LOG.parent.mkdir(exist_ok=True)

@@ -6,7 +6,7 @@
 #   OMF_LINK, OMF_PLACE, OMF_DUMP and OMF_LIB name other ones. What is not there is skipped, or with --all is a failure.
 #
 # It needs a C compiler; without one it tries nothing. After LIMIT seconds (120) it begins no other run, and prints what was not tried.
-# Its status is 0 where every run passed.
+# Its status is 0 where every run passed, and some growth was refused.
 set -uo pipefail
 root=$(cd "$(dirname "$0")/../.." && pwd)
 needed=${1:-}
@@ -39,6 +39,12 @@ skips() {
     else
         echo "skipped: $1"
     fi
+}
+
+# counts NAME NUMBER: prints how many growths were refused, and keeps the number.
+counts() {
+    echo "$1: $2 growths"
+    echo "$2" >> "$work/counts"
 }
 
 # refusing NUMBER COMMAND..: runs it with that growth refused. Its output is in the file out, its status in status; it is false where no
@@ -87,7 +93,7 @@ refuse_each_of_test() {
         fi
         [ $refused -eq 0 ] || break
     done
-    echo "$name $test: $((number - 1)) growths"
+    counts "$name $test" $((number - 1))
 }
 
 # is_memory: whether a run ended for lack of memory. omf-dump and omf-lib may have written a beginning of their text before that; the other
@@ -128,7 +134,7 @@ refuse_each_of_run() {
         cat "$here/out"
     done
     cmp -s "$here/out" "$here/wanted" || fails "$name: the run that meets no refusal"
-    echo "$name: $((number - 1)) growths"
+    counts "$name" $((number - 1))
 }
 
 # has_whole_members COUNT: whether the folder `taken` has that many files or fewer, each a member byte for byte.
@@ -165,7 +171,7 @@ refuse_each_of_get() {
         cat "$here/out"
     done
     diff -r "$here/members" "$here/taken" > "$here/different" || fails "omf_lib get: the run that meets no refusal"
-    echo "omf_lib get of $(basename "$input"): $((number - 1)) growths"
+    counts "omf_lib get of $(basename "$input")" $((number - 1))
 }
 
 # are_whole: whether each file of the folder `made` is the one of the folder `whole`.
@@ -199,7 +205,7 @@ refuse_each_of_made() {
         cat out
     done
     diff -r whole made > different || fails "$name: the run that meets no refusal"
-    echo "$name: $((number - 1)) growths"
+    counts "$name" $((number - 1))
 }
 
 # input NAME HEX TEXT: a module, written in hexadecimal, and the text after it.
@@ -272,4 +278,8 @@ done
 for one in "${running[@]}"; do
     wait "$one" || failed=1
 done
+touch "$work/counts"
+total=$(awk '{ total += $1 } END { print total + 0 }' "$work/counts")
+echo "$total growths refused in $(wc -l < "$work/counts") runs"
+[ "$total" -gt 0 ] || fails "no growth was refused (programs built without proofs do not take memory in this way)"
 exit $failed
