@@ -31,6 +31,8 @@ WORDS = {
     "leads to": ("points to", r"\bleads to\b"),
     "turn over": ("convert", r"\bturn(?:s|ed)? .{0,20}\bover\b"),
 }
+# The same of the documents alone.
+DOCUMENTS = {"that of": ("the noun again, or another verb", r"\b(?:that|those) of\b")}
 COMMENT = re.compile(r"(?:^|\s)(?:///|//!|//|--)\s(.*)")
 # What is read of a file of code: its comments.
 CODE = {".sh": r"(?:^|\s)#\s(.*)", ".py": r"(?:^|\s)(?:#\s|\"\"\")(.*)|^([A-Z][^=]*)$", ".c": r"(?:^|\s)(?:/?\*)\s(.*)", ".asm": r";\s(.*)"}
@@ -70,7 +72,7 @@ def texts():
 def counts(show=False):
     found = {}
     for part, path, number, text in texts():
-        for word, (_, pattern) in WORDS.items():
+        for word, (_, pattern) in (WORDS | (DOCUMENTS if part == "documents" else {})).items():
             times = len(re.findall(pattern, text, re.I))
             if times:
                 found[part, word] = found.get((part, word), 0) + times
@@ -98,7 +100,7 @@ def main():
     before = stored()
     grown = [(it, before.get(it, 0), now[it]) for it in sorted(now) if now[it] > before.get(it, 0)]
     for (part, word), old, new in grown:
-        print(f"{part}: '{word}' {new} times, {old} before; write: {WORDS[word][0]}")
+        print(f"{part}: '{word}' {new} times, {old} before; write: {(WORDS | DOCUMENTS)[word][0]}")
     if grown:
         sys.exit("tests/docs.py words --show names the places")
 
