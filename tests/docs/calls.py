@@ -19,9 +19,9 @@ PAGE = ROOT / "docs" / "CALLS.md"
 PROOFS, PHRASES = ROOT / "docs" / "PROOFS.md", "## The headline, phrase by phrase\n"
 HEAD = """# The calls and their clauses
 
-Made from the sources by `tests/docs.py calls`; the gate compares. docs/PROOFS.md has the headline phrase by phrase, and what is only tested.
+Made from the sources by `tests/docs.py calls`; the gate compares. docs/PROOFS.md explains the headline phrase by phrase, and lists what is only tested.
 
-The row of a call has the first sentence of its comment. Then each clause of its contract has a row: the clause's name (a dash if it has none);
+The row of a call shows the first sentence of its comment. A row for each clause of its contract follows: the clause's name (a dash if it has none);
 the definition that it cites first, with the first sentence of that definition's comment; or the clause itself, if it cites no definition of
 `specs/`. A definition is in `crates/CRATE/specs/FILE.antt`, as shown. A row `requires` is what the caller must have.
 

@@ -106,7 +106,7 @@ def layers():
 
 def files():
     """Each file of specs/ with the first sentence of its head, but for Inner, laws and worked examples."""
-    table = ["| Crate | File of specs/ | Has |", "|---|---|---|"]
+    table = ["| Crate | File of specs/ | What it defines |", "|---|---|---|"]
     for crate in crates():
         for module, path in spec_files(crate):
             head = []
