@@ -19,6 +19,7 @@ OMF and OMF_PLACE name the programs. A module for which something does not hold 
 folder has no module."""
 import os
 import pathlib
+import re
 import subprocess
 import sys
 
@@ -91,6 +92,8 @@ class Check(Job):
         status, verdict = omf("check", module)
         if status == 0:
             yield "check accepts it, and list refuses it"
+        elif not re.fullmatch(rb"refused \d+ \w+ record \d+ at \d+ within \d+\n", verdict):
+            yield f"its verdict is no refusal: {verdict[:200]}"
         else:
             print(f"{path}: {verdict.decode('latin-1').strip()}")
 
