@@ -3,6 +3,7 @@ use Rattle.std.specs.Prelude.{◌≡◌, ◌≢◌, ⊤, ℕ, ◌+◌, ◌<◌, 
 use Rattle.std.specs.Global.{Global}
 use Rattle.omf_frame.specs.Framing.{is_header}
 use Rattle.omf_image.specs.Limits.{profile_limits}
+-- computed: readings_meet_layouts and contents_are_typed_once of omf_records.
 use Rattle.omf_records.specs.Inner.Reading.{contents_or, read_body}
 use Rattle.omf_records.specs.Values.{Contents, Publics}
 use Rattle.omf_check.specs.Checking.{Decides}
