@@ -85,7 +85,6 @@ fn with_origins(
 /// # Errors
 ///
 /// The first needed member of a library that is refused; or out of memory.
-#[tactic(auto, using(crate::proofs::JoiningLaws::refused_needed))]
 fn all_of(alloc: Global, files: &[InputFile], input: Input) -> Result<ProgramModules, Refusal>
     ensures files { (files : List FileModel) → AllGive files input.given.items input.members.items → IfOk result (λ p. AreOfFiles files p.modules) }
     ensures folded { (files : List FileModel) (given : List Module) (members : List LibraryMember) → AllGive files given members → AllZip IsFolded given input.given.items → AllZip IsMemberFolded members input.members.items → IfOk result (λ p. AreOfFolded files p.modules) }
