@@ -65,7 +65,7 @@ no-right : (b c : Bool) → (b || c) ≡ false → c ≡ false
 no-right true c e = absurd cc
 no-right false c e = e
 
-none-defines : (ms : List Linkage) (name : List ℕ) → is_defined ms name ≡ false → (k : ℕ) (d : Linkage) → k < length ms → has_name (get_or ms k d).publics name ≡ false
+pub none-defines : (ms : List Linkage) (name : List ℕ) → is_defined ms name ≡ false → (k : ℕ) (d : Linkage) → k < length ms → has_name (get_or ms k d).publics name ≡ false
 none-defines [] name e k d h = absurd (omega (arith, h))
 none-defines (m ∷ ms) name e zero d h = no-left (has_name m.publics name) (is_defined ms name) e
 none-defines (m ∷ ms) name e (suc k) d h = none-defines ms name (no-right (has_name m.publics name) (is_defined ms name) e) k d (omega (arith, h))
@@ -77,7 +77,7 @@ not-defined (m ∷ ms) name h = ap (λ b. b || is_defined ms name) (h 0 m (omega
 none-contained : (ms : List Linkage) (name : List ℕ) → is_defined ms name ≡ false → (m : Linkage) → Contains ms m → has_name m.publics name ≡ false
 none-contained ms name e m c = subst (λ x. has_name x.publics name ≡ false) c.2 (none-defines ms name e c.0 m c.1)
 
-contained-none : (ms : List Linkage) (name : List ℕ) → ((m : Linkage) → Contains ms m → has_name m.publics name ≡ false) → is_defined ms name ≡ false
+pub contained-none : (ms : List Linkage) (name : List ℕ) → ((m : Linkage) → Contains ms m → has_name m.publics name ≡ false) → is_defined ms name ≡ false
 contained-none ms name h = not-defined ms name (λ k d l. h (get_or ms k d) (Contains-get_or ms k d l))
 
 -- What is known of the first of several members that defines a name.
@@ -97,7 +97,7 @@ first-after : (m : Linkage) (ms : List Linkage) (name : List ℕ) (n : ℕ) (r :
 first-after m ms name n None f g out = absurd (none-some n g)
 first-after m ms name n (Some j) f g out = let s : j + 1 ≡ n = same_Some (j + 1) n g in first-later m ms name j n (omega (arith, s)) out (f j refl)
 
-definer-is : (ms : List Linkage) (name : List ℕ) (n : ℕ) → definer ms name ≡ Some n → IsFirstOf ms name n
+pub definer-is : (ms : List Linkage) (name : List ℕ) (n : ℕ) → definer ms name ≡ Some n → IsFirstOf ms name n
 definer-is [] name n e = absurd (none-some n e)
 definer-is (m ∷ ms) name n e = elim (cases_Bool (has_name m.publics name)) [
   | inl b ↦
@@ -130,7 +130,7 @@ members-first o name n = (to, from) where
       ap (λ t. if t then None else definer o.members name) (contained-none o.given name f.not_given)
       ∙ is-definer o.members name n (record { member = f.member; here = f.here; defines = f.defines; first = f.first })
 
-no-definer : (ms : List Linkage) (name : List ℕ) → definer ms name ≡ None → is_defined ms name ≡ false
+pub no-definer : (ms : List Linkage) (name : List ℕ) → definer ms name ≡ None → is_defined ms name ≡ false
 no-definer [] name e = refl
 no-definer (m ∷ ms) name e = elim (cases_Bool (has_name m.publics name)) [
   | inl b ↦ absurd (none-some 0 (sym e ∙ ap (λ t. if t then Some 0 else option_map (λ j. j + 1) (definer ms name)) b))

@@ -4,4 +4,5 @@ pub mod Modules
 pub mod Names
 pub mod Search
 pub mod Walk
+pub mod Judging
 pub mod Making

@@ -3,9 +3,12 @@
 use Rattle.std.specs.Prelude.{◌≡◌, ◌⊎◌, ℕ, zero, suc, ◌+◌, List, [], ◌∷◌, map, flat_map, Bool, false, ◌||◌, if◌then◌else◌, bytes_eq, Option, Some, None, option_map, slice_get, All, Contains}
 use Rattle.std.specs.List.Sorted.{IsStrictlyIncreasing}
 use Rattle.omf_frame.specs.Types.{is_local}
-use Rattle.omf_records.specs.Values.{Rec, Contents, Publics}
+use Rattle.omf_records.specs.Values.{Rec, Contents}
 use Rattle.omf_check.specs.Module.{Module, recs_of}
 use Rattle.omf_check.specs.Tables.{defined_externals}
+use Rattle.omf_library.specs.LibraryMembers.{defined_publics, names_kept}
+use Rattle.omf_library.specs.declared.judged.LibraryMember.{LibraryMember}
+use Rattle.omf_library.specs.declared.judged.LibraryMember.TheVariants as member
 
 -- The names of a record, unless it is local; and those of all records of a module.
 abbrev pub shared_of : (Contents → List (List ℕ)) → ℕ → Contents → List (List ℕ)
@@ -13,10 +16,6 @@ shared_of names kind c = if is_local kind then [] else names c
 
 abbrev pub shared : (Contents → List (List ℕ)) → List Rec → List (List ℕ)
 shared names m = flat_map (λ r. shared_of names r.kind r.contents) m
-
-abbrev pub defined_publics : Contents → List (List ℕ)
-defined_publics (Publics p) = map (λ q. q.item.name) p.items
-defined_publics _ = []
 
 -- What counts of a module: the names that it defines for others, by its PUBDEFs; and those that it needs, by its EXTDEFs and
 -- COMDEFs. Nothing else counts: no local name, no comment (a weak external is an external like any other), no dictionary.
@@ -27,14 +26,19 @@ pub record Linkage : Type 0 where
 abbrev pub linkage : Module → Linkage
 linkage m = record { publics = shared defined_publics (recs_of m.bytes); externals = shared defined_externals (recs_of m.bytes) }
 
+-- A member that is refused defines its names, and needs none.
+abbrev pub member_linkage : LibraryMember → Linkage
+member_linkage (member.Module m) = linkage m
+member_linkage (member.Refused r) = record { publics = names_kept r.publics.items; externals = [] }
+
 -- The modules that are given, and the members of all libraries, in the order in which they are searched. A member has its
 -- number in that order, from 0.
 pub record Offer : Type 0 where
   pub given : List Linkage
   pub members : List Linkage
 
-abbrev pub offer : List Module → List Module → Offer
-offer modules members = record { given = map linkage modules; members = map linkage members }
+abbrev pub offer : List Module → List LibraryMember → Offer
+offer modules members = record { given = map linkage modules; members = map member_linkage members }
 
 -- A name is in a list, byte for byte.
 abbrev pub has_name : List (List ℕ) → List ℕ → Bool

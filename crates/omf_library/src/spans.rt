@@ -74,14 +74,14 @@ fn first_module<'a>(bytes: &'a [u8]) -> Result<&'a [u8], usize>
 }
 
 /// What a page has.
-enum Page<'a> {
+pub(crate) enum Page<'a> {
     Member(&'a [u8]),
     End,
     Fault(SpanFault),
 }
 
 /// What the page at an offset has, after `member` members.
-fn page_at<'a>(bytes: &'a [u8], at: usize, member: usize) -> Page<'a>
+pub(crate) fn page_at<'a>(bytes: &'a [u8], at: usize, member: usize) -> Page<'a>
     requires { at < length bytes.now }
     ensures { IsPage bytes.entry.now member at result }
 {

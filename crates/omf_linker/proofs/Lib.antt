@@ -26,6 +26,8 @@ pub mod TwiceLaws
 pub mod RefusingLaws
 pub mod TakenLaws
 pub mod InputLaws
+pub mod JoiningLaws
+pub mod MemberFolds
 pub mod OverlapLaws
 pub mod WideLaws
 pub mod FrameLaws

@@ -6,6 +6,7 @@ mod candidates;
 mod defaults;
 mod fault;
 mod files;
+mod folding;
 mod input;
 mod joining;
 mod lines;
@@ -16,6 +17,7 @@ mod options;
 mod ordering;
 mod program;
 mod refusal;
+mod refused;
 mod sharing;
 
 pub use asked::{Call, call_of};
@@ -24,7 +26,7 @@ pub use defaults::{missing_lines, sought};
 pub use fault::{ComProgramFault, PlacingFault, ProgramFault};
 pub(crate) use input::is_library;
 pub(crate) use joining::move_all;
-pub use joining::{Joined, join_needed};
+pub use joining::{Joined, JoiningFault, join_needed};
 pub use making::{
     between_of, com_linked, long_of, map_linked, near_linked, program_linked, program_of,
 };

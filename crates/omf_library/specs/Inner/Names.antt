@@ -3,7 +3,7 @@ use Rattle.std.specs.Prelude.{ℕ, List, map}
 use denote.Ref.{Bor}
 use Rattle.omf_records.specs.Values.{Contents}
 use Rattle.omf_check.specs.Tables.{defined_externals}
-use Rattle.omf_library.specs.Needed.{defined_publics}
+use Rattle.omf_library.specs.LibraryMembers.{defined_publics}
 use Rattle.omf_library.specs.declared.needed.names.Side.{Side}
 use Rattle.omf_library.specs.declared.needed.names.Side.TheVariants.{Publics, Externals}
 

@@ -3,9 +3,11 @@
 ghost use Rattle.std.specs.Prelude.{◌≡◌, ◌++◌, OnOk, map};
 ghost use Rattle.omf_check.specs.Module.{recs_of};
 ghost use Rattle.omf_check.specs.Tables.{defined_externals};
-ghost use Rattle.omf_library.specs.Needed.{defined_publics, shared, shared_of};
+ghost use Rattle.omf_library.specs.LibraryMembers.{defined_publics, names_kept};
+ghost use Rattle.omf_library.specs.Needed.{member_linkage, shared, shared_of};
 ghost use Rattle.omf_library.specs.Inner.Names.{names_by, names_seen};
 
+use crate::judged::LibraryMember;
 use omf_check::{Checked, Externals, Undecoded};
 use omf_records::{Communal, Extern, Items, Public};
 use std::alloc::AllocError;
@@ -109,4 +111,46 @@ pub(crate) fn take_names<'a>(
         push_shared(names, side, &rec)?;
     }
     Ok(())
+}
+
+/// Adds names that are kept.
+fn push_kept<'a>(names: &mut Vec<&'a [u8]>, kept: &'a [Vec<u8>]) -> Result<(), AllocError>
+    ensures { OnOk result (names_seen names.new.items ≡ names_seen names.old.items ++ names_kept kept.entry.now) }
+{
+    for name in kept {
+        names.push(name.as_slice())?;
+    }
+    Ok(())
+}
+
+/// Puts the names of a member's publics in the place of others, those of local ones left out.
+pub(crate) fn take_publics<'a>(
+    names: &mut Vec<&'a [u8]>,
+    member: &'a LibraryMember,
+) -> Result<(), AllocError>
+    ensures { OnOk result (names_seen names.new.items ≡ (member_linkage member.entry.now).publics) }
+{
+    match member {
+        LibraryMember::Module(module) => take_names(names, Side::Publics, module),
+        LibraryMember::Refused(refused) => {
+            names.clear();
+            push_kept(names, refused.publics.as_slice())
+        }
+    }
+}
+
+/// Puts the names of a member's externals in the place of others, those of local ones left out. A member that is refused has none.
+pub(crate) fn take_externals<'a>(
+    names: &mut Vec<&'a [u8]>,
+    member: &'a LibraryMember,
+) -> Result<(), AllocError>
+    ensures { OnOk result (names_seen names.new.items ≡ (member_linkage member.entry.now).externals) }
+{
+    match member {
+        LibraryMember::Module(module) => take_names(names, Side::Externals, module),
+        LibraryMember::Refused(_) => {
+            names.clear();
+            Ok(())
+        }
+    }
 }

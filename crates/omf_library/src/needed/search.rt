@@ -1,11 +1,13 @@
 //! The search for the module that defines a name.
 
 ghost use Rattle.std.specs.Prelude.{◌≡◌, [], ◌∷◌, IfOk, OnOk, map};
-ghost use Rattle.omf_library.specs.Needed.{linkage, member_of};
+ghost use Rattle.omf_library.specs.Needed.{linkage, member_linkage, member_of};
 ghost use Rattle.omf_library.specs.Inner.Names.{names_seen};
 ghost use Rattle.omf_library.specs.Inner.Search.{HasMore, IsReady, IsTable, numbered, offered};
+ghost use Rattle.omf_library.specs.declared.needed.search.Definer.TheVariants.{Member};
 
-use crate::needed::names::{Side, take_names};
+use crate::judged::LibraryMember;
+use crate::needed::names::{Side, take_names, take_publics};
 use omf_check::Checked;
 use omf_names::NameKey;
 use std::alloc::{AllocError, Global};
@@ -30,7 +32,7 @@ pub(crate) struct Definers<'a> {
 #[derive(Drop)]
 pub(crate) struct Search<'a> {
     pub(crate) modules: &'a [Checked],
-    pub(crate) members: &'a [Checked],
+    pub(crate) members: &'a [LibraryMember],
     definers: Definers<'a>,
 }
 
@@ -68,6 +70,19 @@ impl<'a> Definers<'a> {
         self.add_names(names, definer)
     }
 
+    /// Adds a member with its number, as the definer of its publics, whose names it takes.
+    fn add_member(
+        &mut self,
+        names: &mut Vec<&'a [u8]>,
+        member: &'a LibraryMember,
+        number: usize,
+    ) -> Result<(), AllocError>
+        ensures { OnOk result (HasMore self.old self.new (member_linkage member.entry.now).publics (Member number)) }
+    {
+        take_publics(names, member)?;
+        self.add_names(names, Definer::Member(number))
+    }
+
     /// The definers of the given modules.
     fn of_given(alloc: Global, modules: &'a [Checked]) -> Result<Definers<'a>, AllocError>
         ensures { IfOk result (λ t. IsTable t (map linkage modules.entry.now) []) }
@@ -86,14 +101,14 @@ impl<'a> Definers<'a> {
     fn of(
         alloc: Global,
         modules: &'a [Checked],
-        members: &'a [Checked],
+        members: &'a [LibraryMember],
     ) -> Result<Definers<'a>, AllocError>
-        ensures { IfOk result (λ t. IsTable t (map linkage modules.entry.now) (map linkage members.entry.now)) }
+        ensures { IfOk result (λ t. IsTable t (map linkage modules.entry.now) (map member_linkage members.entry.now)) }
     {
         let mut names = Vec::new(alloc);
         let mut definers = Definers::of_given(alloc, modules)?;
         for (number, member) in members.iter().enumerate() {
-            definers.add_module(&mut names, member, Definer::Member(number))?;
+            definers.add_member(&mut names, member, number)?;
         }
         Ok(definers)
     }
@@ -114,7 +129,7 @@ impl<'a> Search<'a> {
     pub(crate) fn new(
         alloc: Global,
         modules: &'a [Checked],
-        members: &'a [Checked],
+        members: &'a [LibraryMember],
     ) -> Result<Search<'a>, AllocError>
         ensures modules { IfOk result (λ s. s.modules.now ≡ modules.entry.now) }
         ensures members { IfOk result (λ s. s.members.now ≡ members.entry.now) }

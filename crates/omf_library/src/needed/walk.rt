@@ -1,12 +1,13 @@
 //! The walk from the given modules to the members that they need.
 
 ghost use Rattle.std.specs.Prelude.{◌≡◌, ◌++◌, ◌<◌, [], ◌∷◌, All, IfOk, OnOk, false, length, replicate, set, true};
-ghost use Rattle.omf_library.specs.Needed.{AreNeeded, IsChained, linkage, offer};
+ghost use Rattle.omf_library.specs.Needed.{AreNeeded, IsChained, linkage, member_linkage, offer};
 ghost use Rattle.omf_library.specs.Inner.Names.{names_seen};
 ghost use Rattle.omf_library.specs.Inner.Search.{IsReady, offered};
 ghost use Rattle.omf_library.specs.Inner.Walk.{AreTaken, IsCalled, IsGrown, IsWalk, IsWalked, numbers_from, queued};
 
-use crate::needed::names::{Side, take_names};
+use crate::judged::LibraryMember;
+use crate::needed::names::{Side, take_externals, take_names};
 use crate::needed::search::Search;
 use omf_check::Checked;
 use std::alloc::{AllocError, Global};
@@ -87,6 +88,22 @@ impl Walk {
         self.join_names(search, names)
     }
 
+    /// Lets the members join that a member needs, and takes their names.
+    fn join_member<'a>(
+        &mut self,
+        names: &mut Vec<&'a [u8]>,
+        search: &Search<'a>,
+        member: &'a LibraryMember,
+    ) -> Result<(), AllocError>
+        requires ready { IsReady search.now }
+        requires walk { IsWalk (offered search.now) self.old.joined.items self.old.queue.items }
+        requires called { All (IsCalled (offered search.now)) (member_linkage member.now).externals }
+        ensures { OnOk result (IsGrown (offered search.now) self.old.joined.items self.old.queue.items self.new.joined.items self.new.queue.items (member_linkage member.entry.now).externals) }
+    {
+        take_externals(names, member)?;
+        self.join_names(search, names)
+    }
+
     /// Lets the members join that the given modules need.
     fn of_given(alloc: Global, search: &Search<'_>) -> Result<Walk, AllocError>
         requires ready { IsReady search.now }
@@ -112,7 +129,7 @@ impl Walk {
         let mut at = 0;
         while at < self.queue.len() {
             let number = self.queue[at];
-            self.join_module(&mut names, search, &search.members[number])?;
+            self.join_member(&mut names, search, &search.members[number])?;
             at += 1;
         }
         Ok(())
@@ -136,7 +153,7 @@ fn numbers_of(alloc: Global, joined: &[bool]) -> Result<Vec<usize>, AllocError>
 fn by_walk(
     alloc: Global,
     modules: &[Checked],
-    members: &[Checked],
+    members: &[LibraryMember],
 ) -> Result<Vec<usize>, AllocError>
     ensures needed { IfOk result (λ numbers. AreNeeded (offer modules.now members.now) numbers.items) }
     ensures chained { IfOk result (λ numbers. All (λ n. IsChained (offer modules.now members.now) n) numbers.items) }
@@ -152,7 +169,7 @@ fn by_walk(
 /// `members` are those of all libraries, in the order in which the libraries are searched. The first member that defines
 /// an external of a given module joins, unless a given module defines it; so do the members that its externals need, and
 /// so on. No other member does. A name is defined by a PUBDEF, and needed by an EXTDEF or a COMDEF; local names,
-/// dictionaries and comments do not count.
+/// dictionaries and comments do not count. A member that is refused has its names, and needs none.
 ///
 /// # Errors
 ///
@@ -160,7 +177,7 @@ fn by_walk(
 pub fn needed_members(
     alloc: Global,
     modules: &[Checked],
-    members: &[Checked],
+    members: &[LibraryMember],
 ) -> Result<Vec<usize>, AllocError>
     ensures needed { IfOk result (λ numbers. AreNeeded (offer modules.now members.now) numbers.items) }
     ensures chained { IfOk result (λ numbers. All (λ n. IsChained (offer modules.now members.now) n) numbers.items) }

@@ -1,8 +1,13 @@
 -- The modules of a program's files (this profile's rule): those of a file of modules all take part, those of a library are offered.
-use Rattle.std.specs.Prelude.{◌≡◌, ◌⊎◌, ⊤, ℕ, ◌==◌, Bool, true, false, List, [], ◌∷◌, ◌++◌, take, slice_get, Some, Ok, Err}
+use Rattle.std.specs.Prelude.{◌≡◌, ◌⊎◌, ⊤, ℕ, ◌==◌, Bool, true, false, List, [], ◌∷◌, ◌++◌, map, take, slice_get, Some, Ok, Err}
+use Rattle.std.specs.Char.{to_ascii_lowercase}
 use Rattle.std.specs.List.{AllZip}
 use Rattle.omf_check.specs.Module.{Module}
-use Rattle.omf_library.specs.Library.{AreOfMembers, IsLibraryFault, library_header}
+use Rattle.omf_library.specs.Library.{library_header}
+use Rattle.omf_library.specs.LibraryMembers.{IsLibraryOf, IsReadingFault, names_kept}
+use Rattle.omf_library.specs.declared.judged.LibraryMember.{LibraryMember}
+use Rattle.omf_library.specs.declared.judged.LibraryMember.TheVariants as member
+use Rattle.omf_library.specs.declared.judged.RefusedMember.{RefusedMember}
 use Rattle.omf_linking.specs.File.{InputFile}
 use Rattle.omf_linking.specs.Files.{IsFile}
 use Rattle.omf_linker.specs.Exe.Sharing.{any_profile}
@@ -17,22 +22,34 @@ is_library [] = false
 is_library (b ∷ bs) = b == library_header
 
 -- What a file gives: modules that take part, and members. A library gives its members, any other file its modules.
-abbrev pub Gives : List ℕ → List Module → List Module → Type 0
+abbrev pub Gives : List ℕ → List Module → List LibraryMember → Type 0
 Gives bytes given members =
-    ((is_library bytes ≡ true) × (given ≡ []) × AreOfMembers any_profile bytes members)
+    ((is_library bytes ≡ true) × (given ≡ []) × IsLibraryOf any_profile bytes members)
     ⊎ ((is_library bytes ≡ false) × IsFile any_profile bytes (Ok given) × (members ≡ []))
 
 -- What files give, in their order.
-abbrev pub AllGive : List InputFile → List Module → List Module → Type 0
+abbrev pub AllGive : List InputFile → List Module → List LibraryMember → Type 0
 AllGive [] given members = (given ≡ []) × (members ≡ [])
 AllGive (f ∷ fs) given members =
-    (own : List Module) × (mine : List Module) × (others : List Module) × (theirs : List Module)
+    (own : List Module) × (mine : List LibraryMember) × (others : List Module) × (theirs : List LibraryMember)
     × Gives f.bytes own mine × AllGive fs others theirs × (given ≡ own ++ others) × (members ≡ mine ++ theirs)
 
--- The modules of a program: those that its files give, and after them the members that these need.
+-- A member with the names of its publics, externals and communals in lower case. One that is refused has publics alone.
+pub record IsRefusedFolded (r lower : RefusedMember) : Type 0 where
+  pub offset : lower.offset ≡ r.offset
+  pub reason : lower.reason ≡ r.reason
+  pub place : lower.place ≡ r.place
+  pub names : names_kept lower.publics.items ≡ map (map to_ascii_lowercase) (names_kept r.publics.items)
+
+abbrev pub IsMemberFolded : LibraryMember → LibraryMember → Type 0
+IsMemberFolded (member.Module m) (member.Module n) = IsFolded m n
+IsMemberFolded (member.Refused r) (member.Refused s) = IsRefusedFolded r s
+IsMemberFolded _ _ = ⊥
+
+-- The modules of a program: those that its files give, and after them the members that these need, of which none is refused.
 pub record AreOfFiles (files : List InputFile) (ms : List Module) : Type 0 where
   pub given : List Module
-  pub members : List Module
+  pub members : List LibraryMember
   pub numbers : List ℕ
   pub hold : AllGive files given members
   pub joined : AreJoined given members ms numbers
@@ -40,19 +57,19 @@ pub record AreOfFiles (files : List InputFile) (ms : List Module) : Type 0 where
 -- The same with names compared without case (`--ignore-case`): those that the files give are folded first.
 pub record AreOfFolded (files : List InputFile) (ms : List Module) : Type 0 where
   pub given : List Module
-  pub members : List Module
+  pub members : List LibraryMember
   pub folded_given : List Module
-  pub folded_members : List Module
+  pub folded_members : List LibraryMember
   pub numbers : List ℕ
   pub hold : AllGive files given members
   pub fold_given : AllZip IsFolded given folded_given
-  pub fold_members : AllZip IsFolded members folded_members
+  pub fold_members : AllZip IsMemberFolded members folded_members
   pub joined : AreJoined folded_given folded_members ms numbers
 
 -- A file, by its number, gives nothing: why not. Memory may run out at any time.
 abbrev pub IsFileFault : ℕ → List ℕ → InputFault → Type 0
 IsFileFault k bytes fault.Memory = ⊤
-IsFileFault k bytes (fault.Library j f) = (j ≡ k) × (is_library bytes ≡ true) × IsLibraryFault any_profile bytes f
+IsFileFault k bytes (fault.Library j f) = (j ≡ k) × (is_library bytes ≡ true) × IsReadingFault any_profile bytes f
 IsFileFault k bytes (fault.Modules j f) = (j ≡ k) × (is_library bytes ≡ false) × IsFile any_profile bytes (Err f)
 
 -- The first file that gives nothing, by its number from 0.
@@ -60,7 +77,7 @@ pub record IsInputFault (files : List InputFile) (f : InputFault) : Type 0 where
   pub number : ℕ
   pub file : InputFile
   pub given : List Module
-  pub members : List Module
+  pub members : List LibraryMember
   pub before : AllGive (take number files) given members
   pub found : slice_get files number ≡ Some file
   pub fails : IsFileFault number file.bytes f

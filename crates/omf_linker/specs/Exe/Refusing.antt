@@ -1,5 +1,6 @@
 -- Why there is no program: what a refusal is for (this profile's rule). Memory may run out at any time: then the refusal names this, and nothing of the modules.
 use Rattle.std.specs.Prelude.{◌≡◌, ◌⊎◌, ◌≤◌, ℕ, List, Bool, true, false, Option, Some, None, length}
+use Rattle.std.specs.List.{AllZip}
 use Rattle.omf_check.specs.Module.{Module, typed_modules}
 use Rattle.omf_cmd.specs.Programs.{FaultReport}
 use Rattle.omf_layout.specs.declared.own.fault.CommunalsFault.{CommunalsFault}
@@ -8,7 +9,10 @@ use Rattle.omf_layout.specs.declared.own.order.OrderFault.{OrderFault}
 use Rattle.omf_layout.specs.declared.own.order.OrderFault.TheVariants as dos
 use Rattle.omf_library.specs.declared.fault.LibraryFault.{LibraryFault}
 use Rattle.omf_library.specs.declared.fault.LibraryFault.TheVariants as library
+use Rattle.omf_library.specs.declared.judged.LibraryMember.{LibraryMember}
+use Rattle.omf_library.specs.declared.judged.RefusedMember.{RefusedMember}
 use Rattle.omf_linking.specs.File.{InputFile}
+use Rattle.omf_linking.specs.Folded.{IsFolded}
 use Rattle.omf_linking.specs.declared.fault.LinkFault.{LinkFault}
 use Rattle.omf_linking.specs.declared.fault.LinkFault.TheVariants as link
 use Rattle.omf_output.specs.declared.exe.com_fault.ComFault.{ComFault}
@@ -18,10 +22,11 @@ use Rattle.omf_output.specs.declared.exe.fault.ExeFault.TheVariants as exe
 use Rattle.omf_placement.specs.declared.several.fault.DeriveFault.{DeriveFault}
 use Rattle.omf_placement.specs.declared.several.fault.DeriveFault.TheVariants as derive
 use Rattle.omf_linker.specs.Exe.Adding.{IsStackOf, wants_dos}
-use Rattle.omf_linker.specs.Exe.Input.{IsInputFault}
+use Rattle.omf_linker.specs.Exe.Input.{AllGive, IsInputFault, IsMemberFolded}
 use Rattle.omf_linker.specs.Exe.Ordering.{IsOrderingFault}
 use Rattle.omf_linker.specs.Exe.Program.{IsComProgramFault, IsPlacingFault, IsProgramFault}
 use Rattle.omf_linker.specs.Exe.Sharing.{AreShared, IsSharingFault, with_added}
+use Rattle.omf_linker.specs.Exe.Taken.{IsFirstRefused}
 use Rattle.omf_linker.specs.declared.exe.fault.ComProgramFault.{ComProgramFault}
 use Rattle.omf_linker.specs.declared.exe.fault.ComProgramFault.TheVariants as no_com
 use Rattle.omf_linker.specs.declared.exe.fault.PlacingFault.{PlacingFault}
@@ -30,6 +35,8 @@ use Rattle.omf_linker.specs.declared.exe.fault.ProgramFault.{ProgramFault}
 use Rattle.omf_linker.specs.declared.exe.fault.ProgramFault.TheVariants as no_program
 use Rattle.omf_linker.specs.declared.exe.input.InputFault.{InputFault}
 use Rattle.omf_linker.specs.declared.exe.input.InputFault.TheVariants as input
+use Rattle.omf_linker.specs.declared.exe.joining.JoiningFault.{JoiningFault}
+use Rattle.omf_linker.specs.declared.exe.joining.JoiningFault.TheVariants as joining
 use Rattle.omf_linker.specs.Link.Files.{files_report}
 use Rattle.omf_linker.specs.Link.Repeated.{IsRepeatedText}
 use Rattle.omf_linker.specs.Link.Unresolved.{all_rows, spots_of}
@@ -73,6 +80,10 @@ abbrev pub is_input_memory : InputFault → Bool
 is_input_memory input.Memory = true
 is_input_memory (input.Library file f) = is_library_memory f
 is_input_memory (input.Modules file f) = is_link_memory f
+
+abbrev pub is_joining_memory : JoiningFault → Bool
+is_joining_memory joining.Memory = true
+is_joining_memory (joining.Refused number r) = false
 
 abbrev pub is_communals_memory : CommunalsFault → Bool
 is_communals_memory communals.Memory = true
@@ -120,9 +131,35 @@ is_com_memory (no_com.Modules f) = is_modules_memory f
 
 -- ---- the reasons
 
--- The fault of files that do not give modules.
+-- Why files do not give modules: a file is not read; or a member of a library is refused that the modules need.
+abbrev pub AreUnread : List InputFile → Type 0
+AreUnread fs = (f : InputFault) × (is_input_memory f ≡ false) × IsInputFault fs f
+
+abbrev pub NeedRefused : List Module → List LibraryMember → Type 0
+NeedRefused given members = (number : ℕ) × (r : RefusedMember) × IsFirstRefused given members number r
+
+pub record HaveRefused (fs : List InputFile) : Type 0 where
+  pub given : List Module
+  pub members : List LibraryMember
+  pub hold : AllGive fs given members
+  pub refused : NeedRefused given members
+
 abbrev pub GiveNoModules : List InputFile → Type 0
-GiveNoModules fs = (f : InputFault) × (is_input_memory f ≡ false) × IsInputFault fs f
+GiveNoModules fs = AreUnread fs ⊎ HaveRefused fs
+
+-- The same with names compared without case.
+pub record HaveRefusedFolded (fs : List InputFile) : Type 0 where
+  pub given : List Module
+  pub members : List LibraryMember
+  pub folded_given : List Module
+  pub folded_members : List LibraryMember
+  pub hold : AllGive fs given members
+  pub fold_given : AllZip IsFolded given folded_given
+  pub fold_members : AllZip IsMemberFolded members folded_members
+  pub refused : NeedRefused folded_given folded_members
+
+abbrev pub GiveNoFolded : List InputFile → Type 0
+GiveNoFolded fs = AreUnread fs ⊎ HaveRefusedFolded fs
 
 -- Why there is no module of the communals of modules.
 abbrev pub AreNotShared : List Module → Type 0

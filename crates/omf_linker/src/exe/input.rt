@@ -3,14 +3,15 @@
 ghost use Rattle.std.specs.Prelude.{◌≡◌, ◌++◌, [], IfErr, IfOk, OnOk, false, true};
 ghost use Rattle.std.specs.List.{AllZip};
 ghost use Rattle.omf_linking.specs.Folded.{IsFolded};
-ghost use Rattle.omf_linker.specs.Exe.Input.{AllGive, IsFileFault, IsInputFault, is_library};
+ghost use Rattle.omf_linker.specs.Exe.Input.{AllGive, IsFileFault, IsInputFault, IsMemberFolded, is_library};
 ghost use Rattle.omf_linker.specs.Exe.Sharing.{any_profile};
 ghost use Rattle.omf_linker.specs.Inner.Input.{IsAdded};
 
+use crate::exe::folding::folded_members;
 use crate::exe::joining::move_all;
 use crate::link::InputFile;
 use omf_check::{Checked, Profile};
-use omf_library::{LibraryFault, modules_in};
+use omf_library::{LibraryFault, LibraryMember, library_members};
 use omf_linking::{FileFault, LinkFault, folded_all, modules_of_files};
 use std::alloc::{AllocError, AllocFailed, Global};
 use std::slice::from_ref;
@@ -30,7 +31,7 @@ pub(crate) struct Origin {
 pub(crate) struct Input {
     pub(crate) given: Vec<Checked>,
     pub(crate) given_from: Vec<Origin>,
-    pub(crate) members: Vec<Checked>,
+    pub(crate) members: Vec<LibraryMember>,
     pub(crate) members_from: Vec<Origin>,
 }
 
@@ -97,13 +98,13 @@ impl Input {
         }
     }
 
-    /// Adds modules of members of a library.
-    fn add_members(&mut self, file: usize, modules: Vec<Checked>) -> Result<(), AllocError>
-        ensures members { OnOk result (self.new.members.items ≡ self.old.members.items ++ modules.items) }
+    /// Adds members of a library.
+    fn add_members(&mut self, file: usize, members: Vec<LibraryMember>) -> Result<(), AllocError>
+        ensures members { OnOk result (self.new.members.items ≡ self.old.members.items ++ members.items) }
         ensures given { OnOk result (self.new.given.items ≡ self.old.given.items) }
     {
-        add_origins(&mut self.members_from, file, modules.len())?;
-        move_all(modules, &mut self.members)
+        add_origins(&mut self.members_from, file, members.len())?;
+        move_all(members, &mut self.members)
     }
 
     /// Adds the members of a library.
@@ -116,8 +117,8 @@ impl Input {
         ensures added { OnOk result (IsAdded bytes.now self.old.given.items self.old.members.items self.new.given.items self.new.members.items) }
         ensures fault { IfErr result (IsFileFault file bytes.now) }
     {
-        match modules_in(alloc, profile(), bytes) {
-            Ok(modules) => match self.add_members(file, modules) {
+        match library_members(alloc, profile(), bytes) {
+            Ok(members) => match self.add_members(file, members) {
                 Ok(()) => Ok(()),
                 Err(AllocError) => Err(InputFault::Memory),
             },
@@ -181,7 +182,7 @@ impl Input {
     /// `AllocError` if memory runs out.
     pub(crate) fn folded(self, alloc: Global) -> Result<Input, AllocError>
         ensures given { IfOk result (λ i. AllZip IsFolded self.given.items i.given.items) }
-        ensures members { IfOk result (λ i. AllZip IsFolded self.members.items i.members.items) }
+        ensures members { IfOk result (λ i. AllZip IsMemberFolded self.members.items i.members.items) }
     {
         let Input {
             given,
@@ -192,7 +193,7 @@ impl Input {
         Ok(Input {
             given: folded_all(alloc, given)?,
             given_from,
-            members: folded_all(alloc, members)?,
+            members: folded_members(alloc, members)?,
             members_from,
         })
     }

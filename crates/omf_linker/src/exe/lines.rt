@@ -51,7 +51,7 @@ fn put_file(text: &mut String, files: &[InputFile], file: usize) -> Result<(), A
 }
 
 /// Appends a module, by its number in its file, from 1: `file "NAME" module 1`.
-fn put_origin(
+pub(crate) fn put_origin(
     text: &mut String,
     files: &[InputFile],
     file: usize,

@@ -3,14 +3,16 @@
 ghost use Rattle.std.specs.Prelude.{◌≡◌, ◌++◌, ℕ, IfErr, IfOk, IfSome, List, None, Some, false, is_some, map, string_bytes, true};
 ghost use Rattle.omf_linking.specs.File.{InputFile as FileModel};
 ghost use Rattle.std.specs.List.{AllZip};
+ghost use Rattle.std.specs.List.Sorted.{IsStrictlyIncreasing};
 ghost use Rattle.omf_check.specs.Module.{Module};
 ghost use Rattle.omf_linking.specs.Folded.{IsFolded};
 ghost use Rattle.omf_linker.specs.Exe.Adding.{AreAdded};
-ghost use Rattle.omf_linker.specs.Exe.Input.{AllGive, AreOfFiles, AreOfFolded};
+ghost use Rattle.omf_library.specs.declared.judged.LibraryMember.{LibraryMember};
+ghost use Rattle.omf_linker.specs.Exe.Input.{AllGive, AreOfFiles, AreOfFolded, IsMemberFolded};
 ghost use Rattle.omf_linker.specs.Exe.Libraries.{sought};
 ghost use Rattle.omf_linker.specs.Exe.Ordering.{AreOrdered};
 ghost use Rattle.omf_linker.specs.Exe.Program.{IsBetweenOf, IsComOf, IsLongOf, IsMapOf, IsNearOf, IsProgramOf};
-ghost use Rattle.omf_linker.specs.Exe.Refusing.{AreNoComProgram, AreNoProgram, AreNotAdded, AreNotOrdered, AreNotShared, AreTwiceLines, AreUnplaced, Finds, GiveNoModules, HaveNamesTwice, IsNotAllowed, IsRefusalFor, is_com_memory, is_memory, is_out_of_memory, is_placing_memory};
+ghost use Rattle.omf_linker.specs.Exe.Refusing.{AreNoComProgram, AreNoProgram, AreNotAdded, AreNotOrdered, AreNotShared, AreTwiceLines, AreUnplaced, Finds, GiveNoFolded, GiveNoModules, HaveNamesTwice, IsNotAllowed, IsRefusalFor, NeedRefused, is_com_memory, is_memory, is_out_of_memory, is_placing_memory};
 ghost use Rattle.omf_linker.specs.Exe.Sharing.{AreShared};
 
 use crate::exe::added::{is_dos_ordered, stack_of};
@@ -18,7 +20,7 @@ use crate::exe::defaults::sought;
 use crate::exe::fault::{ComProgramFault, PlacingFault, ProgramFault};
 use crate::exe::files::{in_line, memory, of_input, of_ordering, of_sharing};
 use crate::exe::input::{Input, Origin};
-use crate::exe::joining::{join_needed, move_all, take_into};
+use crate::exe::joining::{Joined, join_needed, take_into};
 use crate::exe::lines::Origins;
 use crate::exe::listing::modules_text;
 use crate::exe::making::{
@@ -28,6 +30,7 @@ use crate::exe::memory::{is_com_memory, is_memory, is_placing_memory};
 use crate::exe::options::ExeOptions;
 use crate::exe::ordering::{order_of, with_front};
 use crate::exe::refusal::Refusal;
+use crate::exe::refused::of_joining;
 use crate::exe::sharing::{shared_module, with_added};
 use crate::link::InputFile;
 use omf_check::Checked;
@@ -59,10 +62,33 @@ impl Model for ProgramModules {
     ghost view = { λ p. record { modules = p.modules.items } };
 }
 
+/// Joined modules with their origins: those of the given modules, and those of all members.
+fn with_origins(
+    alloc: Global,
+    joined: Joined,
+    given_from: Vec<Origin>,
+    members_from: Vec<Origin>,
+) -> Result<ProgramModules, AllocError>
+    requires { IsStrictlyIncreasing joined.numbers.items }
+    ensures { IfOk result (λ p. p.modules ≡ joined.modules.items) }
+{
+    let Joined { modules, numbers } = joined;
+    let mut origins = given_from;
+    take_into(&numbers, members_from, &mut origins)?;
+    let mut from = Vec::new(alloc);
+    put_origins(&origins, &mut from)?;
+    Ok(ProgramModules { modules, from })
+}
+
 /// The modules of files, with their origins.
-fn all_of(alloc: Global, input: Input) -> Result<ProgramModules, AllocError>
+///
+/// # Errors
+///
+/// The first needed member of a library that is refused; or out of memory.
+fn all_of(alloc: Global, files: &[InputFile], input: Input) -> Result<ProgramModules, Refusal>
     ensures files { (files : List FileModel) → AllGive files input.given.items input.members.items → IfOk result (λ p. AreOfFiles files p.modules) }
-    ensures folded { (files : List FileModel) (given members : List Module) → AllGive files given members → AllZip IsFolded given input.given.items → AllZip IsFolded members input.members.items → IfOk result (λ p. AreOfFolded files p.modules) }
+    ensures folded { (files : List FileModel) (given : List Module) (members : List LibraryMember) → AllGive files given members → AllZip IsFolded given input.given.items → AllZip IsMemberFolded members input.members.items → IfOk result (λ p. AreOfFolded files p.modules) }
+    ensures refused { IfErr result (IsRefusalFor (NeedRefused input.given.items input.members.items)) }
 {
     let Input {
         given,
@@ -70,13 +96,14 @@ fn all_of(alloc: Global, input: Input) -> Result<ProgramModules, AllocError>
         members,
         members_from,
     } = input;
-    let joined = join_needed(alloc, given, members)?;
-    let mut origins = given_from;
-    take_into(&joined.numbers, members_from, &mut origins)?;
-    let mut from = Vec::new(alloc);
-    put_origins(&origins, &mut from)?;
-    let modules = joined.modules;
-    Ok(ProgramModules { modules, from })
+    let joined = match join_needed(alloc, given, members) {
+        Ok(joined) => joined,
+        Err(fault) => return Err(of_joining(alloc, files, &members_from, &fault)),
+    };
+    match with_origins(alloc, joined, given_from, members_from) {
+        Ok(modules) => Ok(modules),
+        Err(AllocError) => Err(memory()),
+    }
 }
 
 /// Modules, and after them the module of their communals, if they have any.
@@ -158,7 +185,8 @@ impl ProgramModules {
     ///
     /// # Errors
     ///
-    /// The first file that is not read; or out of memory.
+    /// The first file that is not read; the first needed member of a library that is refused; or out of memory.
+    #[tactic(auto, using(crate::proofs::JoiningLaws::have_refused))]
     pub fn of(alloc: Global, files: &[InputFile]) -> Result<ProgramModules, Refusal>
         ensures modules { IfOk result (λ p. AreOfFiles files.now p.modules) }
         ensures refused { IfErr result (IsRefusalFor (GiveNoModules files.now)) }
@@ -167,20 +195,18 @@ impl ProgramModules {
             Ok(input) => input,
             Err(fault) => return Err(of_input(alloc, files, fault)),
         };
-        match all_of(alloc, input) {
-            Ok(modules) => Ok(modules),
-            Err(AllocError) => Err(memory()),
-        }
+        all_of(alloc, files, input)
     }
 
     /// The same with names compared without case: those of publics, externals and communals are in lower case.
     ///
     /// # Errors
     ///
-    /// The first file that is not read; or out of memory.
+    /// The first file that is not read; the first needed member of a library that is refused; or out of memory.
+    #[tactic(auto, using(crate::proofs::JoiningLaws::have_refused_folded))]
     pub fn folded(alloc: Global, files: &[InputFile]) -> Result<ProgramModules, Refusal>
         ensures modules { IfOk result (λ p. AreOfFolded files.now p.modules) }
-        ensures refused { IfErr result (IsRefusalFor (GiveNoModules files.now)) }
+        ensures refused { IfErr result (IsRefusalFor (GiveNoFolded files.now)) }
     {
         let input = match Input::of(alloc, files) {
             Ok(input) => input,
@@ -189,10 +215,7 @@ impl ProgramModules {
         let Ok(folded) = input.folded(alloc) else {
             return Err(memory());
         };
-        match all_of(alloc, folded) {
-            Ok(modules) => Ok(modules),
-            Err(AllocError) => Err(memory()),
-        }
+        all_of(alloc, files, folded)
     }
 
     /// The modules, and before them the module that puts them in DOS order.

@@ -4,7 +4,9 @@
 
 use super::verdicts::ANY;
 use omf_check::Checked;
+use omf_frame::{Place, Reason};
 use omf_library::needed::{default_libraries, needed_members};
+use omf_library::{LibraryMember, RefusedMember};
 use omf_linking::modules_in;
 use std::alloc::{AllocError, Global};
 
@@ -85,8 +87,46 @@ static TAKEN: [Taken; 13] = [
     ("C1", "C1;P1", &[1]),
 ];
 
+/// Modules as members of libraries.
+fn as_members(alloc: Global, modules: Vec<Checked>) -> Result<Vec<LibraryMember>, AllocError> {
+    let mut members = Vec::new(alloc);
+    for module in modules {
+        members.push(LibraryMember::Module(module))?;
+    }
+    Ok(members)
+}
+
+/// A member that is refused, with the public `a`.
+fn refused_member(alloc: Global) -> Result<LibraryMember, AllocError> {
+    let mut publics = Vec::new(alloc);
+    publics.push(Vec::from_slice(alloc, b"a".as_slice())?)?;
+    let place = Place {
+        number: 1,
+        start: 6,
+        within: 0,
+    };
+    Ok(LibraryMember::Refused(RefusedMember {
+        offset: 16,
+        reason: Reason::UnsupportedType,
+        place,
+        publics,
+    }))
+}
+
+/// Members, and after them one that is refused, with the public `a`.
+fn with_refused(alloc: Global, modules: Vec<Checked>) -> Result<Vec<LibraryMember>, AllocError> {
+    let mut members = as_members(alloc, modules)?;
+    members.push(refused_member(alloc)?)?;
+    Ok(members)
+}
+
 /// Whether modules take exactly these members.
-fn are_taken(alloc: Global, modules: &[Checked], members: &[Checked], numbers: &[usize]) -> bool {
+fn are_taken(
+    alloc: Global,
+    modules: &[Checked],
+    members: &[LibraryMember],
+    numbers: &[usize],
+) -> bool {
     match needed_members(alloc, modules, members) {
         Ok(found) => found.as_slice() == numbers,
         Err(AllocError) => false,
@@ -98,9 +138,40 @@ fn is_right(alloc: Global, row: &Taken) -> bool {
     let Some(modules) = modules_of(alloc, row.0) else {
         return false;
     };
-    match modules_of(alloc, row.1) {
-        Some(members) => are_taken(alloc, &modules, &members, row.2),
-        None => false,
+    let Some(members) = modules_of(alloc, row.1) else {
+        return false;
+    };
+    match as_members(alloc, members) {
+        Ok(members) => are_taken(alloc, &modules, &members, row.2),
+        Err(AllocError) => false,
+    }
+}
+
+/// Whether modules take exactly these of some members and one more, which is refused and has the public `a`.
+fn is_right_with_refused(alloc: Global, row: &Taken) -> bool {
+    let Some(modules) = modules_of(alloc, row.0) else {
+        return false;
+    };
+    let Some(members) = modules_of(alloc, row.1) else {
+        return false;
+    };
+    match with_refused(alloc, members) {
+        Ok(members) => are_taken(alloc, &modules, &members, row.2),
+        Err(AllocError) => false,
+    }
+}
+
+static WITH_REFUSED: [Taken; 3] = [
+    // Nobody needs it; a member needs it; a member before it has the name.
+    ("Xb", "PbXc;Pc", &[0, 1]),
+    ("Xb", "PbXa;Pc", &[0, 2]),
+    ("Xa", "Pb;Pa", &[1]),
+];
+
+#[test]
+fn refused_members_are_taken_by_need(rt: HostRuntime) {
+    for row in &WITH_REFUSED {
+        assert!(rt; is_right_with_refused(rt.alloc(), row));
     }
 }
 

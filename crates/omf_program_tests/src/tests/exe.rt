@@ -29,6 +29,14 @@ const ABSOLUTE: &str = "80030001420096040000015400 900A0000000000016634120000 8A
 const LIBRARY: &str =
     "F00D0000000000000000000000000000 80030001420096040000015400980700280100020101009008000001016700000000A0050001000090008A020000000080030001420096040000015400980700280100020101009008000001016600000000A00500010000CB008A0200000000F1";
 
+/// The same library with a COMDAT in its first member, which has the public g.
+const REFUSED: &str =
+    "F00D0000000000000000000000000000 80030001420096040000015400980700280100020101009008000001016700000000C2050001000090008A020000000080030001420096040000015400980700280100020101009008000001016600000000A00500010000CB008A0200000000F1";
+
+/// A main module: `call far g` in the segment T.
+const CALLS_G: &str =
+    "80030001413B 96040000015400 98070028050002010100 8C040001670000 A009000100009A0000000000 9C0500CC01560100 8A0700C1000101000000";
+
 /// The names of files and their bytes, and the file of their program; without one, the line.
 struct Case {
     files: &'static [(&'static str, &'static str)],
@@ -44,7 +52,7 @@ const SHARES: &str =
 /// A module with f as a far communal of twice 1 byte.
 const FAR: &str = "800300014200 B0070001660061020100 8A02000000";
 
-static CASES: [Case; 11] = [
+static CASES: [Case; 13] = [
     // The word at 1 moves. Two paragraphs from the end of the image on, the stack ends at 1:10H.
     Case {
         files: &[("one.obj", ONE)],
@@ -64,6 +72,20 @@ static CASES: [Case; 11] = [
         program: "4D5A2600010001000200 0000FFFF0000000000000000 00001C000000 03000000 9A05000000CB",
         has_stack: false,
         line: "",
+    },
+    // Nobody needs the member that is refused.
+    Case {
+        files: &[("calls.obj", CALLS), ("l.lib", REFUSED)],
+        program: "4D5A2600010001000200 0000FFFF0000000000000000 00001C000000 03000000 9A05000000CB",
+        has_stack: false,
+        line: "",
+    },
+    // The module needs it: its COMDAT is its fifth record, 34 bytes after its start.
+    Case {
+        files: &[("calls.obj", CALLS_G), ("l.lib", REFUSED)],
+        program: "",
+        has_stack: false,
+        line: "file \"l.lib\" module 1 \"B\" refused 4 UnsupportedType record 4 at 34 within 0 (COMDAT)\n",
     },
     Case {
         files: &[("calls.obj", CALLS)],

@@ -1,7 +1,7 @@
 use Rattle.std.proofs.Common.{◌+◌, ◌∙◌, ap, arith, sym, subst, take, false}
 use Rattle.std.specs.Prelude.{All, map, replicate}
 use Rattle.std.proofs.lemmas.List.{length-map}
-use Rattle.omf_library.specs.Needed.{linkage}
+use Rattle.omf_library.specs.Needed.{linkage, member_linkage}
 use Rattle.omf_library.specs.Inner.Search.{offered}
 use Rattle.omf_library.specs.Inner.Walk.{AreTaken}
 use Rattle.omf_library.proofs.NeededLaws.{Contains-map_at, called-given, given-more, take-map_all, take-map_more, walk-started}
@@ -12,7 +12,7 @@ loop-module-init c =
     let s = c.args.search.now in
     let w = c.in_ok-walk.walk in
     record {
-      walk = walk-started (offered s) w.joined.items w.queue.items (c.in_ok-walk.ensures.0 ∙ ap (λ n. replicate n false) (sym (length-map s.members.now linkage))) c.in_ok-walk.ensures.1;
+      walk = walk-started (offered s) w.joined.items w.queue.items (c.in_ok-walk.ensures.0 ∙ ap (λ n. replicate n false) (sym (length-map s.members.now member_linkage))) c.in_ok-walk.ensures.1;
       taken = λ k d h. absurd (omega (arith, h));
     }
 
