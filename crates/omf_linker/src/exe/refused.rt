@@ -11,8 +11,8 @@ use crate::exe::refusal::Refusal;
 use crate::link::InputFile;
 use omf_cmd::{RunFault, fault_line};
 use omf_frame::type_name;
-use omf_layout::printing::print_quoted;
 use omf_library::RefusedMember;
+use omf_text::print_quoted;
 use std::alloc::{AllocError, Global};
 
 /// The name of a member: that in its header record, if it is there.
