@@ -125,6 +125,10 @@ install: proved build library
 	install -m 644 man/omf-dump.1 $(DESTDIR)$(PREFIX)/share/man/man1/omf-dump.1
 	install -m 644 man/omf-lib.1 $(DESTDIR)$(PREFIX)/share/man/man1/omf-lib.1
 	install -m 644 man/omf-find.1 $(DESTDIR)$(PREFIX)/share/man/man1/omf-find.1
+	install -D -m 644 completions/omf.bash $(DESTDIR)$(PREFIX)/share/bash-completion/completions/omf
+	for name in omf-place omf-link omf-dump omf-lib omf-find; do ln -sf omf $(DESTDIR)$(PREFIX)/share/bash-completion/completions/$$name; done
+	install -D -m 644 completions/_omf $(DESTDIR)$(PREFIX)/share/zsh/site-functions/_omf
+	install -D -m 644 completions/omf.fish $(DESTDIR)$(PREFIX)/share/fish/vendor_completions.d/omf.fish
 	install -m 644 include/omf.h $(DESTDIR)$(PREFIX)/include/omf.h
 	install -m 644 build/libomf.a $(DESTDIR)$(PREFIX)/lib/libomf.a
 	install -m 755 build/libomf.so $(DESTDIR)$(PREFIX)/lib/libomf.so

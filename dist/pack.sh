@@ -15,6 +15,10 @@ for program in "$@"; do
     install -D -m 755 "${program#*=}" "$to/bin/${program%%=*}"
     install -D -m 644 "man/${program%%=*}.1" "$to/share/man/man1/${program%%=*}.1"
 done
+install -D -m 644 completions/omf.bash "$to/share/bash-completion/completions/omf"
+for program in "$@"; do [ "${program%%=*}" = omf ] || ln -s omf "$to/share/bash-completion/completions/${program%%=*}"; done
+install -D -m 644 completions/_omf "$to/share/zsh/site-functions/_omf"
+install -D -m 644 completions/omf.fish "$to/share/fish/vendor_completions.d/omf.fish"
 install -D -m 644 build/libomf.a "$to/lib/libomf.a"
 install -D -m 755 build/libomf.so "$to/lib/libomf.so"
 install -D -m 644 include/omf.h "$to/include/omf.h"

@@ -1,17 +1,17 @@
 #!/usr/bin/env python3
 """Writes the pages and tables that are made from the sources, and checks the pages.
 
-docs.py --write       writes docs/CALLS.md, docs/BELIEVE.md, docs/REFUSALS.md and the tables of docs/INDEX.md (`make docs`)
+docs.py --write       writes docs/CALLS.md, docs/BELIEVE.md, docs/REFUSALS.md, the tables of docs/INDEX.md and completions/ (`make docs`)
 docs.py --check       compares these with the sources, and checks the pages: status 1 where one fails
-docs.py PART WORD..   runs one part: calls, believe, house, clauses, links, words, version, budget, cost. tests/docs/PART.py has its words
+docs.py PART WORD..   runs one part: calls, believe, house, clauses, links, words, version, budget, options, cost. tests/docs/PART.py has its words
 """
 import pathlib
 import subprocess
 import sys
 
 PARTS = pathlib.Path(__file__).resolve().parent / "docs"
-WRITTEN = (["calls"], ["believe"], ["house", "--write"])
-CHECKED = (["calls", "--check"], ["believe", "--check"], ["house", "--check"], ["links"], ["words"], ["version"], ["clauses", "--check"], ["budget"])
+WRITTEN = (["calls"], ["believe"], ["house", "--write"], ["options", "--write"])
+CHECKED = (["calls", "--check"], ["believe", "--check"], ["house", "--check"], ["links"], ["words"], ["version"], ["clauses", "--check"], ["budget"], ["options", "--check"])
 NAMES = {words[0] for words in CHECKED} | {"cost"}
 
 

@@ -1,0 +1,136 @@
+# Completions for bash, made by tests/docs.py options from the usage texts of the programs.
+
+_omf() {
+    local task=${COMP_WORDS[1]} before=${COMP_WORDS[COMP_CWORD-1]} current=${COMP_WORDS[COMP_CWORD]} words=
+    if [ "$COMP_CWORD" -eq 1 ]; then COMPREPLY=($(compgen -W "list check reloc canon --help --version" -- "$current")); return; fi
+    case "$task $before" in
+    esac
+    [[ $current == -* ]] || return
+    case "$task" in
+        'list') words="--refuse-vendor-comments";;
+        'check') words="--refuse-vendor-comments";;
+        'reloc') words="--refuse-vendor-comments";;
+        'canon') words="--refuse-vendor-comments";;
+    esac
+    COMPREPLY=($(compgen -W "$words" -- "$current"))
+}
+complete -o default -o bashdefault -F _omf omf
+
+_omf_dump() {
+    local task=${COMP_WORDS[1]} before=${COMP_WORDS[COMP_CWORD-1]} current=${COMP_WORDS[COMP_CWORD]} words=
+    case "$before" in
+        '--data') return;;
+    esac
+    [[ $current == -* ]] || return
+    case '' in
+        '') words="--json --data --refuse-vendor-comments --verdict --help --version";;
+    esac
+    COMPREPLY=($(compgen -W "$words" -- "$current"))
+}
+complete -o default -o bashdefault -F _omf_dump omf-dump
+
+_omf_find() {
+    local task=${COMP_WORDS[1]} before=${COMP_WORDS[COMP_CWORD-1]} current=${COMP_WORDS[COMP_CWORD]} words=
+    case "$before" in
+        '--symbols') COMPREPLY=($(compgen -W "ghidra ida r2 nm" -- "$current")); return;;
+        '--load') return;;
+        '--least') return;;
+        '--base') return;;
+        '--frame') return;;
+    esac
+    [[ $current == -* ]] || return
+    case '' in
+        '') words="--symbols --load --json --possible --least --base --frame --refuse-vendor-comments --help --version";;
+    esac
+    COMPREPLY=($(compgen -W "$words" -- "$current"))
+}
+complete -o default -o bashdefault -F _omf_find omf-find
+
+_omf_lib() {
+    local task=${COMP_WORDS[1]} before=${COMP_WORDS[COMP_CWORD-1]} current=${COMP_WORDS[COMP_CWORD]} words=
+    if [ "$COMP_CWORD" -eq 1 ]; then COMPREPLY=($(compgen -W "list check find get make canon --help --version" -- "$current")); return; fi
+    case "$task $before" in
+        'get -d') return;;
+        'make -o') return;;
+        'canon -o') return;;
+    esac
+    [[ $current == -* ]] || return
+    case "$task" in
+        'list') words="--refuse-vendor-comments";;
+        'check') words="--refuse-vendor-comments";;
+        'find') words="--ignore-case";;
+        'get') words="-d --numbered";;
+        'make') words="--refuse-vendor-comments --ignore-case -o";;
+        'canon') words="--refuse-vendor-comments -o";;
+    esac
+    COMPREPLY=($(compgen -W "$words" -- "$current"))
+}
+complete -o default -o bashdefault -F _omf_lib omf-lib
+
+_omf_link() {
+    local task=${COMP_WORDS[1]} before=${COMP_WORDS[COMP_CWORD-1]} current=${COMP_WORDS[COMP_CWORD]} words=
+    if [ "$COMP_CWORD" -eq 1 ]; then COMPREPLY=($(compgen -W "exe com image map bin hex srec draft --help --version" -- "$current")); return; fi
+    case "$task $before" in
+        'exe -o') return;;
+        'exe --map') return;;
+        'exe --stack') return;;
+        'exe --order') COMPREPLY=($(compgen -W "dos input" -- "$current")); return;;
+        'exe --library-path') return;;
+        'exe --allow') COMPREPLY=($(compgen -W "overlap align group frame near twice" -- "$current")); return;;
+        'com -o') return;;
+        'com --map') return;;
+        'com --stack') return;;
+        'com --order') COMPREPLY=($(compgen -W "dos input" -- "$current")); return;;
+        'com --library-path') return;;
+        'com --allow') COMPREPLY=($(compgen -W "overlap align group frame near twice" -- "$current")); return;;
+        'image --allow') COMPREPLY=($(compgen -W "overlap align group frame near twice" -- "$current")); return;;
+        'image -t') return;;
+        'image -o') return;;
+        'map -t') return;;
+        'map -o') return;;
+        'bin --base') return;;
+        'bin --size') return;;
+        'bin --fill') return;;
+        'bin --allow') COMPREPLY=($(compgen -W "overlap align group frame near twice" -- "$current")); return;;
+        'bin -t') return;;
+        'bin -o') return;;
+        'hex --addresses') COMPREPLY=($(compgen -W "linear segment" -- "$current")); return;;
+        'hex --allow') COMPREPLY=($(compgen -W "overlap align group frame near twice" -- "$current")); return;;
+        'hex -t') return;;
+        'hex -o') return;;
+        'srec --addresses') COMPREPLY=($(compgen -W "16 24 32" -- "$current")); return;;
+        'srec --allow') COMPREPLY=($(compgen -W "overlap align group frame near twice" -- "$current")); return;;
+        'srec -t') return;;
+        'srec -o') return;;
+        'draft --base') return;;
+        'draft --flat') return;;
+        'draft -o') return;;
+    esac
+    [[ $current == -* ]] || return
+    case "$task" in
+        'exe') words="-o --map --stack --order --library-path --no-default-libraries --allow --ignore-case";;
+        'com') words="-o --map --stack --order --library-path --no-default-libraries --allow --ignore-case";;
+        'image') words="--allow --ignore-case -t -o";;
+        'map') words="--ignore-case -t -o";;
+        'bin') words="--base --size --fill --allow --ignore-case -t -o";;
+        'hex') words="--addresses --allow --ignore-case -t -o";;
+        'srec') words="--addresses --allow --ignore-case -t -o";;
+        'draft') words="--base --real --flat --ignore-case -o";;
+    esac
+    COMPREPLY=($(compgen -W "$words" -- "$current"))
+}
+complete -o default -o bashdefault -F _omf_link omf-link
+
+_omf_place() {
+    local task=${COMP_WORDS[1]} before=${COMP_WORDS[COMP_CWORD-1]} current=${COMP_WORDS[COMP_CWORD]} words=
+    case "$before" in
+        '--base') return;;
+        '--flat') return;;
+    esac
+    [[ $current == -* ]] || return
+    case '' in
+        '') words="--base --real --flat --help --version";;
+    esac
+    COMPREPLY=($(compgen -W "$words" -- "$current"))
+}
+complete -o default -o bashdefault -F _omf_place omf-place

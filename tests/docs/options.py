@@ -1,0 +1,173 @@
+#!/usr/bin/env python3
+"""The options of the programs, from the usage texts in the sources: completions for shells, and what the man pages must name.
+
+usage: tests/docs.py options --write | --check
+  --write  writes completions/omf.bash, completions/_omf (zsh) and completions/omf.fish
+  --check  compares these with the sources, completes some lines in bash, and looks for each option in man/: status 1 where one fails"""
+import re
+import subprocess
+import sys
+
+from tree import ROOT, code_files, crates
+
+FOLDER = ROOT / "completions"
+ABOUT = "made by tests/docs.py options from the usage texts of the programs"
+# What may stand for these words of the usage.
+VALUES = {"KIND": "overlap align group frame near twice", "TOOL": "ghidra ida r2 nm"}
+ALWAYS = [("--help", "", "how to call it"), ("--version", "", "the version")]
+TRIES = {"omf-link exe --ord": "--order", "omf-link exe --order d": "dos", "omf-lib ch": "check", "omf-find --symbols gh": "ghidra", "omf re": "reloc"}
+
+
+def texts():
+    """The usage of each program, with what explains it: the longest that the sources have."""
+    found = {}
+    for name in crates():
+        for path in code_files(name):
+            for text in re.findall(r'"(usage: omf.*?)"(?:,\s*details: "(.*?)",?\s*\})?', path.read_text(encoding="utf-8"), re.S):
+                whole = (text[0] + text[1]).replace("\\n", "\n").replace("\\\\", "\\")
+                program = whole.split()[1]
+                found[program] = max(found.get(program, ""), whole, key=len)
+    return found
+
+
+def meaning(text, option):
+    """What a usage says of an option, up to its first semicolon or full clause, without the tasks that have it."""
+    line = re.search(rf"^  {re.escape(option)}(?: [^ \n]+)*?(?:  +|, --)(.*(?:\n {{8,}}.*)*)", text, re.M)
+    if not line:
+        return ""
+    words = re.sub(r"\s+", " ", line[1]).strip()
+    words = re.sub(r"^--\S+ \S+ ", "", words)
+    return re.split(r"[;(]", re.sub(r"^(?:[a-z]+(?:, | or )?)+: ", "", words))[0].strip().rstrip(".")
+
+
+def options_of(text, line):
+    """The options of one line of a usage: each with the word after it, if it takes one, and its meaning."""
+    found = []
+    for option, word in re.findall(r"(--?[a-z][a-z-]*)(?: ([A-Z]+|[a-z0-9]+(?:\|[a-z0-9]+)+))?", line):
+        found.append((option, word, meaning(text, option)))
+    return found
+
+
+def table():
+    """Each program with its tasks, and each task with its options. A program without tasks has one, the empty word."""
+    programs = {}
+    for program, text in sorted(texts().items()):
+        usage = re.sub(r"\n {7}(?=\[)", " ", text[len("usage: "):]).split("\n\n")[0]
+        tasks = {}
+        for line in usage.split("\n"):
+            head = re.match(rf"\s*{re.escape(program)} ((?:[a-z]+\|?)+)?", line)
+            if head:
+                for task in (head[1] or "").split("|"):
+                    tasks.setdefault(task, []).extend(it for it in options_of(text, line[head.end():]) if it not in tasks.get(task, []))
+        programs[program] = tasks
+    return programs
+
+
+def values(word):
+    return VALUES.get(word, word.replace("|", " ") if "|" in word else "")
+
+
+def bash(programs):
+    """Completions for bash. What is no option and no value is a file."""
+    lines = [f"# Completions for bash, {ABOUT}.", ""]
+    for program, tasks in programs.items():
+        name = "_" + program.replace("-", "_")
+        lines += [f"{name}() {{", '    local task=${COMP_WORDS[1]} before=${COMP_WORDS[COMP_CWORD-1]} current=${COMP_WORDS[COMP_CWORD]} words=']
+        if "" not in tasks:
+            first = " ".join([*tasks, *(it for it, _, _ in ALWAYS)])
+            lines.append(f'    if [ "$COMP_CWORD" -eq 1 ]; then COMPREPLY=($(compgen -W "{first}" -- "$current")); return; fi')
+        lines.append('    case "$task $before" in' if "" not in tasks else '    case "$before" in')
+        for task, options in tasks.items():
+            for option, word, _ in options:
+                if word:
+                    key = f"{task} {option}" if task else option
+                    lines.append(f"        '{key}') COMPREPLY=($(compgen -W \"{values(word)}\" -- \"$current\")); return;;" if values(word) else f"        '{key}') return;;")
+        lines += ["    esac", '    [[ $current == -* ]] || return']
+        lines.append('    case "$task" in' if "" not in tasks else "    case '' in")
+        for task, options in tasks.items():
+            names = " ".join([it for it, _, _ in options] + ([it for it, _, _ in ALWAYS] if not task else []))
+            lines.append(f"        '{task}') words=\"{names}\";;")
+        lines += ["    esac", '    COMPREPLY=($(compgen -W "$words" -- "$current"))', "}", f"complete -o default -o bashdefault -F {name} {program}", ""]
+    return "\n".join(lines)
+
+
+def escaped(text, mark="'"):
+    return text.replace("\\", "\\\\").replace(mark, f"'\\{mark}'" if mark == "'" else f"\\{mark}")
+
+
+def zsh(programs):
+    """Completions for zsh."""
+    lines = ["#compdef " + " ".join(programs), f"# Completions for zsh, {ABOUT}.", ""]
+    spec = lambda option, word, says: f"'{option}[{escaped(says or option).replace('[', '(').replace(']', ')')}]" + (f":{word.lower() if '|' not in word else 'value'}:" + (f"({values(word)})" if values(word) else "_files") if word else "") + "'"
+    lines.append("case $service in")
+    for program, tasks in programs.items():
+        if "" in tasks:
+            lines.append(f"    {program}) _arguments {' '.join(spec(*it) for it in [*tasks[''], *ALWAYS])} '*:file:_files';;")
+            continue
+        lines += [f"    {program})", "        if (( CURRENT == 2 )); then", f"            _values 'task' {' '.join(tasks)} --help --version", "            return", "        fi", "        local task=$words[2]; shift words; (( CURRENT-- ))", "        case $task in"]
+        lines += [f"            {task}) _arguments {' '.join(spec(*it) for it in options)} '*:file:_files';;" for task, options in tasks.items()]
+        lines += ["        esac;;"]
+    return "\n".join([*lines, "esac", ""])
+
+
+def fish(programs):
+    """Completions for fish."""
+    lines = [f"# Completions for fish, {ABOUT}.", ""]
+    for program, tasks in programs.items():
+        if "" not in tasks:
+            lines.append(f"complete -c {program} -n __fish_use_subcommand -x -a '{' '.join(tasks)}'")
+        for task, options in tasks.items():
+            here = f" -n '__fish_seen_subcommand_from {task}'" if task else ""
+            for option, word, says in options:
+                flag = f"-l {option[2:]}" if option.startswith("--") else f"-s {option[1:]}"
+                takes = f" -x -a '{values(word)}'" if values(word) else " -r" if word else ""
+                lines.append(f"complete -c {program}{here} {flag}{takes}" + (f" -d '{escaped(says)}'" if says else ""))
+        lines += [f"complete -c {program} -l {it[2:]} -d '{says}'" for it, _, says in ALWAYS] + [""]
+    return "\n".join(lines)
+
+
+def made():
+    programs = table()
+    return {"omf.bash": bash(programs), "_omf": zsh(programs), "omf.fish": fish(programs)}
+
+
+def completed(line):
+    """What bash completes a line to."""
+    words = line.split(" ")
+    name = "_" + words[0].replace("-", "_")
+    script = f'source "{FOLDER}/omf.bash"; COMP_WORDS=({" ".join(words)}); COMP_CWORD={len(words) - 1}; {name}; echo "${{COMPREPLY[@]}}"'
+    return subprocess.run(["bash", "-c", script], capture_output=True, text=True, check=False).stdout.strip()
+
+
+def faults():
+    """What does not agree."""
+    for name, text in made().items():
+        path = FOLDER / name
+        if not path.is_file() or path.read_text(encoding="utf-8") != text:
+            yield f"completions/{name} is not as the usage texts say, run tests/docs.py --write"
+    for line, expected in TRIES.items():
+        if completed(line) != expected:
+            yield f"bash completes '{line}' to '{completed(line)}', not '{expected}'"
+    for program, tasks in table().items():
+        page = (ROOT / "man" / f"{program}.1").read_text(encoding="utf-8")
+        page = re.sub(r"\bFl (?=\S)", "-", re.sub(r"\\f[A-Z]", " ", page)).replace("\\-", "-")
+        for option in sorted({it for options in tasks.values() for it, _, _ in options}):
+            if not re.search(rf"(?<![\w-]){re.escape(option)}(?![\w-])", page):
+                yield f"man/{program}.1 does not name {option}"
+
+
+def main():
+    if sys.argv[1:] == ["--write"]:
+        FOLDER.mkdir(exist_ok=True)
+        for name, text in made().items():
+            (FOLDER / name).write_text(text, encoding="utf-8")
+        return 0
+    if sys.argv[1:] != ["--check"]:
+        sys.exit(__doc__)
+    found = list(faults())
+    print("".join(f"{it}\n" for it in found), end="")
+    return 1 if found else 0
+
+
+if __name__ == "__main__":
+    sys.exit(main())
