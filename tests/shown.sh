@@ -6,7 +6,8 @@
 # OMF, OMF_PLACE, OMF_LINK, OMF_DUMP, OMF_LIB and OMF_FIND name the programs (omf, omf-place, omf-link, omf-dump, omf-lib and omf-find, if not set), and LIBOMF
 # the shared library (build/libomf.so). Where there is no omf, or OMF is empty, `rt try` runs it from its sources, without any proof; commands
 # that need the system's own files or another program are then left out. So are commands whose tools are not installed, and those on files
-# that are not part of the repository. Each of these is named in a line `not run: ..`; the last line shows how many they are.
+# that are not part of the repository. Each of these is named in a line `not run: ..`; the last line shows how many they are. The status is 0 where
+# some command was run, and each printed what is shown.
 set -euo pipefail
 cd "$(dirname "$0")/.."
 omf=${OMF-omf}
@@ -125,6 +126,10 @@ done
 if [ $collects = yes ]; then
     (cd crates/omf && rt try --cases "$work/cases") > "$work/tried" 2>&1 || { grep -v " output=expected " "$work/tried"; failed=$((failed + 1)); }
     echo "run by rt try"
+fi
+if [ "$commands" -eq $left_out ]; then
+    echo "no command was run"
+    failed=$((failed + 1))
 fi
 echo "$commands commands, $failed failed, $left_out left out"
 exit $((failed > 0))
