@@ -12,7 +12,7 @@ from tree import ROOT, code_files, crates
 
 FOLDER = ROOT / "completions"
 ABOUT = "made by tests/docs.py options from the usage texts of the programs"
-# What may stand for these words of the usage.
+# The values of these words of the usage.
 VALUES = {"KIND": "overlap align group frame near twice", "TOOL": "ghidra ida r2 nm"}
 ALWAYS = [("--help", "", "how to call it"), ("--version", "", "the version")]
 TRIES = {"omf-link exe --ord": "--order", "omf-link exe --order d": "dos", "omf-lib ch": "check", "omf-find --symbols gh": "ghidra", "omf re": "reloc"}
