@@ -30,19 +30,17 @@ pub(crate) const ABOUT: About = About {
   -t TEXT                  the text with the addresses
   --map FILE               exe, com: the map of the program
   --stack SIZE             exe, com: a stack of SIZE bytes more, decimal
-  --order dos|input        exe, com: segments in the order of DOS linkers, or as
-                           they come
+  --order dos|input        exe, com: segments in the order of DOS linkers (LINK's
+                           /DOSSEG), or as they come
   --library-path DIR       exe, com: a folder for libraries that modules ask for
   --no-default-libraries   exe, com: without the libraries that modules ask for
-  --allow KIND             image, bin, hex, srec: a warning in place of a fault where
-                           the text does this: overlap, align, group, frame (parts
-                           of a segment have different frames, or in real mode a
-                           base is not 16 times its selector) or near (a near call
-                           or jump is into another frame); or where modules define
-                           a name twice that none asks for: twice;
-                           exe, com: group, near and twice
-  --ignore-case            the case of publics, externals and communals does not
-                           count; they are shown in lower case
+  --allow KIND             a warning in place of a fault of this kind, for exe and
+                           com: group (more than 64 KB), near (a near call or jump
+                           into another frame), twice (a name that two modules
+                           define and none asks for); for image, bin, hex and srec
+                           also overlap, align and frame
+  --ignore-case            ignore the case of publics, externals and communals,
+                           and show them in lower case
   --base ADDRESS           bin: the address of the first byte; draft: of the first
                            segment (default 10000); hexadecimal
   --size SIZE              bin: the number of bytes, hexadecimal
@@ -54,7 +52,8 @@ pub(crate) const ABOUT: About = About {
   --flat SELECTOR          draft: one frame with base 0 and this selector; the
                            default for other modules, with selector 0
 
-Where a file is -, or there is none, omf-link reads the standard input.
-omf-link(1) and docs/LINK.md have examples and each line that is printed.
+Where a file is -, omf-link reads the standard input; without files also, but for
+exe and com. omf-link(1), docs/DOS.md and docs/ADDRESSES.md show examples, and
+explain each line that is printed.
 ",
 };
