@@ -90,7 +90,7 @@ def examples():
 
 def fuzz():
     script, seconds = "tests/fuzz/run.sh", f"{60 * MINUTES:.0f}"
-    for target in ("dump", "library", "exe", "com", "placement", "linktext"):
+    for target in ("dump", "library", "exe", "com", "placement", "linktext", "find"):
         yield Stage(f"fuzz {target}", [script, seconds, target], " ".join(PROGRAMS), "", 120 * MINUTES + 600, r": (\d+) inputs", {"WORK": str(BROKEN)})
     for target in ("check", "canon", "reloc", "members", "link", "program", "shown"):
         units = r"number_of_executed_units: *(\d+)"

@@ -2,8 +2,8 @@
 # Refuses exactly one growth, each in turn, until a run meets none: of the tests that hold whichever growth is refused, and of the programs.
 #
 # usage: tests/devices/growths.sh [--all]
-#   It takes the programs that `rt ci` or `rt test` left in the crates: those of the tests, omf, omf-link, omf-place, omf-dump and omf-lib. OMF,
-#   OMF_LINK, OMF_PLACE, OMF_DUMP and OMF_LIB name other ones. What is not there is skipped, or with --all is a failure.
+#   It takes the programs that `rt ci` or `rt test` left in the crates: those of the tests, omf, omf-link, omf-place, omf-dump, omf-lib and
+#   omf-find. OMF, OMF_LINK, OMF_PLACE, OMF_DUMP, OMF_LIB and OMF_FIND name other ones. What is not there is skipped, or with --all is a failure.
 #
 # It needs a C compiler; without one it tries nothing. After LIMIT seconds (120) it begins no other run, and prints what was not tried.
 # Its status is 0 where every run passed, and some growth was refused.
@@ -16,6 +16,7 @@ link=${OMF_LINK:-$root/crates/omf_link/out/omf_link}
 place=${OMF_PLACE:-$root/crates/omf_place/out/omf_place}
 dump=${OMF_DUMP:-$root/crates/omf_dump/out/omf_dump}
 lib=${OMF_LIB:-$root/crates/omf_lib/out/omf_lib}
+find=${OMF_FIND:-$root/crates/omf_find/out/omf_find}
 work=$(mktemp -d)
 trap 'rm -rf "$work"' EXIT
 failed=0 running=()
@@ -96,7 +97,7 @@ refuse_each_of_test() {
     counts "$name $test" $((number - 1))
 }
 
-# is_memory: whether a run ended for lack of memory. omf-dump and omf-lib may have written a beginning of their text before that; the other
+# is_memory: whether a run ended for lack of memory. omf-dump, omf-lib and omf-find may have written a beginning of their text before that; the other
 # programs write nothing but the fault, which names the input where omf-link could not read it.
 is_memory() {
     local text= size
@@ -106,7 +107,7 @@ is_memory() {
     [ "$text" = 'file "-" read: out of memory' ] && return
     [ -n "$in_pieces" ] || return
     case $text in
-    '{"fault":"memory"}' | 'read -: out of memory' | '{"fault":"read","name":"-","error":"out of memory"}') return 0 ;;
+    '{"fault":"memory"}' | 'read '*': out of memory' | '{"fault":"read","name":"-","error":"out of memory"}') return 0 ;;
     esac
     size=$(($(stat -c %s "$here/out") - 7))
     [[ $text == *memory ]] && ((size > 0)) && cmp -s -n $size "$here/out" "$here/wanted"
@@ -121,7 +122,7 @@ refuse_each_of_run() {
         skips "$name"
         return
     fi
-    case $program in "$dump" | "$lib") in_pieces=yes ;; *) in_pieces= ;; esac
+    case $program in "$dump" | "$lib" | "$find") in_pieces=yes ;; *) in_pieces= ;; esac
     "$program" "$@" < "$input" > "$here/wanted"
     status=$?
     [ $status -eq "$wanted" ] || fails "$name ends with $status"
@@ -270,6 +271,15 @@ apart refuse_each_of_made "$link" com -o made/x.com "$examples"/com/{hello,say}.
 apart refuse_each_of_made "$link" bin --base 7C00 --size 200 -o made/x.bin "$examples"/link/{start,say,mark}.obj -t "$examples/link/program.link"
 apart refuse_each_of_made "$lib" make -o made/x.lib "$examples"/link/{say,mark}.obj
 apart refuse_each_of_made "$lib" canon -o made/x.lib "$examples/library/small.lib"
+
+if [ -x "$link" ] && "$link" exe -o "$work/find.exe" "$examples"/exe/{main,show,report}.obj; then
+    for words in --possible --json '--symbols ghidra'; do
+        # shellcheck disable=SC2086
+        apart refuse_each_of_run 0 /dev/null "$find" $words "$work/find.exe" "$examples"/exe/{main,report}.obj "$examples/library/small.lib"
+    done
+else
+    skips "omf_find"
+fi
 
 # Such tests are named a_refused_growth_..
 for test in $(grep -rhoE --include='*.rt' 'fn a_refused_growth_\w+' "$root"/crates/*_tests/src | sed 's/^fn //' | sort -u); do

@@ -6,8 +6,8 @@ usage: tests/devices/system_calls.py [WORD]     (only the runs whose name has WO
 Each run is first made as it is. Then each call of the program that opens, reads, writes, closes, links, renames or removes a file fails once, the
 first, the second and so on. What must hold: the status is 3, or the run is as without a failure; a file that is there under its name is whole; none
 but FILE.tmp is there else, and that only where it could not be removed. Where a read or a write is interrupted 999 times in a row the run
-is as without; at 1,000 the status is 3, or the run is as without. The calls of the loader are passed over. OMF, OMF_DUMP, OMF_LIB, OMF_LINK and
-OMF_PLACE name the programs.
+is as without; at 1,000 the status is 3, or the run is as without. The calls of the loader are passed over. OMF, OMF_DUMP, OMF_FIND, OMF_LIB, OMF_LINK
+and OMF_PLACE name the programs.
 The status is 0 where every promise held."""
 import pathlib
 import re
@@ -35,7 +35,8 @@ RUNS = [("omf check", "omf", ["check"], "first.omf"), ("omf list", "omf", ["list
         ("omf-link com", "omf_link", ["com", "-o", "made/x.com", "hello.obj", "say2.obj"], None),
         ("omf-link image", "omf_link", ["image", *THREE, "-t", "program.link"], None), ("omf-link map", "omf_link", ["map"], "linked"),
         ("omf-link bin", "omf_link", ["bin", "--base", "7C00", "--size", "200", "-o", "made/x.bin", *THREE, "-t", "program.link"], None),
-        ("omf-link draft", "omf_link", ["draft", "--real", "-o", "made/x.link", *THREE], None)]
+        ("omf-link draft", "omf_link", ["draft", "--real", "-o", "made/x.link", *THREE], None),
+        ("omf-find", "omf_find", ["find.exe", "main.obj", "report.obj", "small.lib"], None), ("omf-find --json", "omf_find", ["--json", "find.exe", "main.obj"], None)]
 
 
 class Job:
@@ -107,6 +108,7 @@ def fill(folder):
         shutil.copy(EXAMPLES / name, folder / pathlib.Path(name).name)
     shutil.copy(EXAMPLES / "com" / "say.obj", folder / "say2.obj")
     (folder / "placed").write_bytes((EXAMPLES / "first.omf").read_bytes() + (EXAMPLES / "first.place").read_bytes())
+    subprocess.run([program("omf_link"), "exe", "-o", "find.exe", "main.obj", "show.obj", "report.obj"], cwd=folder, check=True)
     (folder / "linked").write_bytes(b"".join((folder / it).read_bytes() for it in [*THREE, "program.link"]))
 
 

@@ -1,7 +1,7 @@
 #!/usr/bin/env python3
 """Runs the programs on changed files and texts, and compares what they print with one another and with a second reading of the standard.
 
-usage: tests/fuzz/programs.py SECONDS [dump|library|exe|com|placement|linktext ..] [--seeds FOLDER] [--number N] [--keep FOLDER] [--every N]
+usage: tests/fuzz/programs.py SECONDS [dump|library|exe|com|placement|linktext|find ..] [--seeds FOLDER] [--number N] [--keep FOLDER] [--every N]
 
 dump       changed modules: omf-dump refuses exactly what `omf check` refuses, at the same place and for the same reason, and shows the records
            that `omf list` lists; each line of JSON is read by Python; text and JSON have the same records; a name gives no control characters
@@ -15,11 +15,13 @@ com        the same for `omf-link com`
 placement  placement texts: a draft of omf-place is read back, another spelling of it has the same listing, and of a changed text the first line
            that a second reader does not understand is reported
 linktext   the same of link texts; the image is that of the modules, each relocated alone; HEX, S-records and raw binary have its bytes
+find       programs that omf-link makes of made modules: each segment that omf-find finds has the bytes that no fixup touches; changed programs and
+           modules are read or refused, and each line is JSON
 
 The seeds are examples/, the data of the crates, libraries made of these modules, and the files of FOLDER that have less than 5 KB. --number begins
 the random numbers, so that a run can be repeated. An input that breaks a promise is kept in the folder of --keep, or in that which is printed.
 With --every only each Nth module is given to `omf check` too, which is most of the time where the program has run-time checks.
-OMF, OMF_DUMP, OMF_LIB, OMF_LINK and OMF_PLACE name programs; else those of crates/*/out are taken, and else they are built without their proofs.
+OMF, OMF_DUMP, OMF_FIND, OMF_LIB, OMF_LINK and OMF_PLACE name programs; else those of crates/*/out are taken, and else they are built without their proofs.
 The status is 0 where every promise held. It stops at the tenth that did not hold."""
 import argparse
 import os
@@ -32,13 +34,14 @@ import time
 
 from archives import Library
 from dumps import Dump
+from finding import Find
 from links import Com, Exe
 from linktexts import LinkText
 from promises import ROOT, Broken
 from texts import Placement
 
 MOST_BROKEN = 10
-TARGETS = {"dump": Dump, "library": Library, "exe": Exe, "com": Com, "placement": Placement, "linktext": LinkText}
+TARGETS = {"dump": Dump, "library": Library, "exe": Exe, "com": Com, "placement": Placement, "linktext": LinkText, "find": Find}
 
 
 def load_seeds(more):

@@ -1,6 +1,6 @@
 #!/usr/bin/env bash
 # Fuzzes the library for C and the programs: run.sh SECONDS [TARGET..]. The targets are check, canon, reloc, members, link and program of the
-# library (all six); shown, which is omf-dump as a function beside the library; and dump, library, exe, com, placement and linktext of the programs,
+# library (all six); shown, which is omf-dump as a function beside the library; and dump, library, exe, com, placement, linktext and find of the programs,
 # which tests/fuzz/programs.py runs: they need neither the library nor clang. SECONDS is for each target: of the clock for those of programs.py, and
 # of processor time for the others, so that other work that goes first does not shorten a run.
 #
@@ -28,7 +28,7 @@ calls=()
 for one in "$@"; do
     case $one in
     check | canon | reloc | members | link | program | shown) calls+=("$one") ;;
-    dump | library | exe | com | placement | linktext) "$root/tests/fuzz/programs.py" "$seconds" "$one" ${SEEDS:+--seeds "$SEEDS"} --keep "$work" || failed=1 ;;
+    dump | library | exe | com | placement | linktext | find) "$root/tests/fuzz/programs.py" "$seconds" "$one" ${SEEDS:+--seeds "$SEEDS"} --keep "$work" || failed=1 ;;
     *)
         echo "no target $one" >&2
         exit 2
