@@ -5,7 +5,7 @@ Each seed makes a program of two to six modules for NASM. Its parts refer to one
 group that not every module names, words in DGROUP and in far segments, communals, pointers and tables of them, two parts of a stack. Each step adds to a sum in BP, so a reference that goes
 elsewhere gives another sum, or no end. The modules are linked in any order, some of them from a library, as an .EXE, a .COM or a ROM. An 8086 emulator
 (Unicorn) loads the program as DOS does, at any paragraph, and runs it. What is linked with status 0 must end with the sum of the source. A program
-without a near call into another segment must link.
+without a near call into another segment must link; one with such a call into its own group may be refused where its module does not name the group.
 
 OMF_LINK and OMF_LIB name the programs. NASM and Unicorn's Python package (Debian: nasm, python3-unicorn) are needed. The last line counts the programs.
 The status is 1 if one differs, and 2 if something is not installed."""
@@ -331,14 +331,14 @@ def executed(memory, registers):
 
 
 def tried(seed, folder):
-    """One program: 'ran', 'refused', or what differs."""
+    """One program: 'ran', 'refused', 'grouped', or what differs."""
     plan = Plan(seed)
     names = built(plan, folder)
     made, file = linked(plan, folder, names)
     if made.returncode:
         words = (made.stdout + made.stderr).decode().strip()
-        is_stray = plan.strays and made.returncode == 1 and ("near" in words or "TooFar" in words)
-        return "refused" if is_stray else f"{plan.kind}: not linked: {words}"
+        is_near = made.returncode == 1 and ("near" in words or "TooFar" in words)
+        return "refused" if is_near and plan.strays else "grouped" if is_near and plan.is_grouped else f"{plan.kind}: not linked: {words}"
     for paragraph in (0x50, plan.random.randrange(0x60, 0x8000)):
         parts = in_rom(plan, folder, names, file) if plan.kind == "bin" else loaded(plan, file, paragraph)
         found = executed(*parts)
@@ -362,7 +362,7 @@ def main():
     if asked.count and not (shutil.which("nasm") and shutil.which(LINK)):
         print("nothing was run: no nasm, or no omf-link")
         return 2
-    counts, end, seed = {"ran": 0, "refused": 0, "differs": 0}, asked.seconds and time.time() + asked.seconds, asked.first
+    counts, end, seed = dict.fromkeys(("ran", "refused", "grouped", "differs"), 0), asked.seconds and time.time() + asked.seconds, asked.first
     while seed < asked.first + asked.count if not end else time.time() < end:
         with tempfile.TemporaryDirectory() as folder:
             found = tried(seed, folder)
@@ -372,7 +372,8 @@ def main():
                 if asked.keep:
                     shutil.copytree(folder, f"{asked.keep}/{seed}", dirs_exist_ok=True)
         seed += 1
-    print(f"{seed - asked.first} programs: {counts['ran']} ran as their sources say, {counts['refused']} refused for a near call, {counts['differs']} differ")
+    print(f"{seed - asked.first} programs: {counts['ran']} ran as their sources say, {counts['refused']} refused for a near call, {counts['grouped']} "
+          f"for one into a group that only another module names, {counts['differs']} differ")
     return 1 if counts["differs"] else 0
 
 
