@@ -85,7 +85,7 @@ def examples():
     for name in ("exe", "com", "order"):
         yield Stage(f"example {name}", [f"examples/{name}/run.sh"], "OMF_LINK OMF_LIB", "dosbox", 300, ran)
     judge = 'out=$(mktemp -d) && trap "rm -rf $out" EXIT && examples/many/run.sh examples "$out"'
-    yield Stage("example many", ["bash", "-c", judge], "OMF", "parallel", 300, r"^(\d+) accepted, [1-9]\d* refused")
+    yield Stage("example many", ["bash", "-c", judge], "OMF", "", 300, r"^(\d+) accepted, [1-9]\d* refused")
 
 
 def fuzz():
