@@ -1,17 +1,23 @@
 //! A memory image of segments, in which the last piece laid wins.
 
-ghost use Rattle.std.specs.Prelude.{◌≡◌, ◌⊎◌, true, false, ℕ, ◌+◌, ◌-◌, ◌^◌, ◌<◌, ◌≤◌, List, [], ◌∷◌, ◌++◌, length, take, drop, vec_len, slice_get, IfSome, OnOk, OnErr};
+ghost use Rattle.std.specs.Prelude.{◌≡◌, ◌⊎◌, true, false, ℕ, ◌+◌, ◌-◌, ◌^◌, ◌<◌, ◌≤◌, List, [], ◌∷◌, ◌++◌, length, take, drop, vec_len, slice_get, replicate, IfSome, IfOk, OnOk, OnErr};
 ghost use Rattle.std.specs.Option.{option_copied, option_map};
 ghost use Rattle.omf_image.specs.Overlay.{byte_of, byte_at, IsRunAt, IsRunShown, AreBytesAt, IsLaidOver, IsCovered};
+ghost use Rattle.omf_image.specs.Painting.{zeros, Fits};
 ghost use Rattle.omf_image.specs.Inner.Sorted.{laid_run, laid_runs, span, in_segment, line_place, low, high, AreSorted, EndBefore, EndFrom, BeginBy, BeginAfter, Touches, IsTouched, IsPartOf, joined, extended, over, over_all};
 
 use crate::Run;
+use crate::painting::Extent;
+use smallvec::SmallVec;
 use std::alloc::{AllocError, Global};
 use std::marker::Model;
 
 /// The distance from one segment to the next in the line of all places: twice the size of a segment, so that runs of different
 /// segments never touch.
 const SEGMENT_STEP: u64 = 8_589_934_592;
+
+/// The most bytes of a run that take no memory of their own.
+const FEW: usize = 16;
 
 /// The place of an offset of a segment in the line of all places.
 fn place_of(segment: u16, offset: u32) -> u64
@@ -25,7 +31,19 @@ fn place_of(segment: u16, offset: u32) -> u64
 struct Covered {
     segment: u16,
     first: u32,
-    bytes: Vec<u8>,
+    bytes: SmallVec<u8, FEW>,
+}
+
+/// Zeros. A few of them take no memory.
+fn zero_bytes(alloc: Global, len: usize) -> Result<SmallVec<u8, FEW>, AllocError>
+    ensures { IfOk result (λ v. v.items ≡ replicate len 0) }
+{
+    if len <= FEW {
+        return SmallVec::from_elem(alloc, 0, len);
+    }
+    let mut bytes = Vec::new(alloc);
+    bytes.resize(len, 0)?;
+    Ok(SmallVec::from_vec(bytes))
 }
 
 impl Covered {
@@ -40,7 +58,7 @@ impl Covered {
     fn high(&self) -> u64
         ensures { result ≡ high (laid_run self.now) }
     {
-        self.low() + self.bytes.len() as u64
+        self.low() + self.bytes.as_slice().len() as u64
     }
 
     /// Its interval.
@@ -49,16 +67,16 @@ impl Covered {
     {
         Run {
             first: self.first,
-            len: self.bytes.len() as u64,
+            len: self.bytes.as_slice().len() as u64,
         }
     }
 
     /// Appends the bytes of `run` that follow its own last byte.
     fn extend_over(&mut self, run: &Covered) -> Result<(), AllocError>
-        requires { self.old.first + vec_len self.old.bytes ≤ 2 ^ 32 }
+        requires { self.old.first + length self.old.bytes.items ≤ 2 ^ 32 }
         ensures { OnOk result (laid_run self.new ≡ extended (laid_run self.old) (laid_run run.now)) }
     {
-        let end = u64::from(self.first) + self.bytes.len() as u64;
+        let end = u64::from(self.first) + self.bytes.as_slice().len() as u64;
         self.bytes.extend_from_slice(run.bytes_from(end))?;
         Ok(())
     }
@@ -67,7 +85,7 @@ impl Covered {
     fn extend_to(&mut self, runs: &[Covered]) -> Result<(), AllocError>
         requires sorted { AreSorted (low (laid_run self.old)) (laid_runs runs.now) }
         requires touching { Touches (laid_run self.old) (laid_runs runs.now) }
-        requires fits { self.old.first + vec_len self.old.bytes ≤ 2 ^ 32 }
+        requires fits { self.old.first + length self.old.bytes.items ≤ 2 ^ 32 }
         ensures laid { OnOk result (laid_run self.new ≡ over_all (laid_run self.old) (laid_runs runs.now)) }
         ensures full { OnErr result (0 < length runs.now) }
     {
@@ -80,11 +98,11 @@ impl Covered {
     /// Lays `piece`, which touches it, over it.
     fn overlay(&mut self, mut piece: Covered) -> Result<(), AllocError>
         requires segment { self.old.segment ≡ piece.segment }
-        requires from { piece.first ≤ self.old.first + vec_len self.old.bytes }
-        requires fits { piece.first + vec_len piece.bytes ≤ 2 ^ 32 }
+        requires from { piece.first ≤ self.old.first + length self.old.bytes.items }
+        requires fits { piece.first + length piece.bytes.items ≤ 2 ^ 32 }
         ensures laid { OnOk result (laid_run self.new ≡ over (laid_run piece) (laid_run self.old)) }
         ensures unchanged { OnErr result (laid_run self.new ≡ laid_run self.old) }
-        ensures full { OnErr result ((piece.first < self.old.first) ⊎ (self.old.first + vec_len self.old.bytes < piece.first + vec_len piece.bytes)) }
+        ensures full { OnErr result ((piece.first < self.old.first) ⊎ (self.old.first + length self.old.bytes.items < piece.first + length piece.bytes.items)) }
     {
         if piece.first < self.first {
             piece.extend_over(self)?;
@@ -94,7 +112,7 @@ impl Covered {
         overwrite(
             &mut self.bytes,
             (piece.first - self.first) as usize,
-            &piece.bytes,
+            piece.bytes.as_slice(),
         )
     }
 
@@ -105,7 +123,8 @@ impl Covered {
         if self.segment != segment || offset < self.first {
             return None;
         }
-        self.bytes.get((offset - self.first) as usize).copied()
+        let at = (offset - self.first) as usize;
+        self.bytes.as_slice().get(at).copied()
     }
 
     /// Its bytes from `offset` of its segment on.
@@ -113,21 +132,22 @@ impl Covered {
         ensures { result.now ≡ drop (offset - self.now.first) self.now.bytes.items }
     {
         let skipped = offset.saturating_sub(u64::from(self.first)) as usize;
-        self.bytes.split_at(skipped.min(self.bytes.len())).1
+        let bytes = self.bytes.as_slice();
+        bytes.split_at(skipped.min(bytes.len())).1
     }
 }
 
 /// Overwrites `bytes` from `at` on with `new`, and appends what does not fit.
-fn overwrite(bytes: &mut Vec<u8>, at: usize, new: &[u8]) -> Result<(), AllocError>
-    requires { at ≤ vec_len bytes.old }
+fn overwrite(bytes: &mut SmallVec<u8, FEW>, at: usize, new: &[u8]) -> Result<(), AllocError>
+    requires { at ≤ length bytes.old.items }
     ensures written { OnOk result (bytes.new.items ≡ take at bytes.old.items ++ (new.now ++ drop (at + length new.now) bytes.old.items)) }
     ensures unchanged { OnErr result (bytes.new.items ≡ bytes.old.items) }
-    ensures full { OnErr result (vec_len bytes.old < at + length new.now) }
+    ensures full { OnErr result (length bytes.old.items < at + length new.now) }
 {
     let inside = new.len().min(bytes.len() - at);
     let (front, back) = new.split_at(inside);
     bytes.extend_from_slice(back)?;
-    bytes[at..at + inside].copy_from_slice(front);
+    bytes.as_mut_slice()[at..at + inside].copy_from_slice(front);
     Ok(())
 }
 
@@ -241,8 +261,8 @@ fn find_run(runs: &[Covered], segment: u16, k: usize) -> Option<&Covered>
 /// index before it searches.
 fn touched(runs: &[Covered], near: usize, piece: &Covered) -> (usize, usize)
     requires sorted { AreSorted 0 (laid_runs runs.now) }
-    requires some { 0 < vec_len piece.now.bytes }
-    requires fits { piece.now.first + vec_len piece.now.bytes ≤ 2 ^ 32 }
+    requires some { 0 < length piece.now.bytes.items }
+    requires fits { piece.now.first + length piece.now.bytes.items ≤ 2 ^ 32 }
     ensures within { result.0 + result.1 ≤ length runs.now }
     ensures touched { IsTouched (laid_runs runs.now) (laid_run piece.now) result.0 result.1 }
 {
@@ -262,7 +282,7 @@ fn join_runs(
     requires within { start + count ≤ vec_len runs.old }
     requires sorted { AreSorted 0 (laid_runs runs.old.items) }
     requires touching { Touches (laid_run piece) (take count (drop start (laid_runs runs.old.items))) }
-    requires fits { piece.first + vec_len piece.bytes ≤ 2 ^ 32 }
+    requires fits { piece.first + length piece.bytes.items ≤ 2 ^ 32 }
     ensures joined { OnOk result (laid_runs runs.new.items ≡ joined (laid_runs runs.old.items) (laid_run piece) start count) }
     ensures unchanged { OnErr result (laid_runs runs.new.items ≡ laid_runs runs.old.items) }
     ensures full { OnErr result (IsPartOf (laid_run piece) (take count (drop start (laid_runs runs.old.items))) → ⊥) }
@@ -359,11 +379,37 @@ impl Image {
         if bytes.is_empty() {
             return Ok(());
         }
-        let piece = Covered {
+        self.lay_piece(Covered {
             segment,
             first: offset,
+            bytes: SmallVec::from_vec(bytes),
+        })
+    }
+
+    /// Lays zeros over an interval, as `lay`.
+    pub(crate) fn lay_zeros(&mut self, alloc: Global, extent: Extent) -> Result<(), AllocError>
+        requires { Fits extent }
+        ensures { OnOk result (IsLaidOver self.old (zeros extent) self.new) }
+    {
+        if extent.len == 0 {
+            return Ok(());
+        }
+        let bytes = zero_bytes(alloc, extent.len as usize)?;
+        self.lay_piece(Covered {
+            segment: extent.segment,
+            first: extent.first,
             bytes,
-        };
+        })
+    }
+
+    /// Lays a piece of some bytes, as `lay`.
+    fn lay_piece(&mut self, piece: Covered) -> Result<(), AllocError>
+        requires some { 0 < length piece.bytes.items }
+        requires fits { piece.first + length piece.bytes.items ≤ 2 ^ 32 }
+        ensures laid { OnOk result (IsLaidOver self.old (laid_run piece) self.new) }
+        ensures unchanged { OnErr result (self.new ≡ self.old) }
+        ensures full { OnErr result (IsCovered self.old (laid_run piece) → ⊥) }
+    {
         let (start, count) = touched(&self.runs, self.near, &piece);
         self.near = start;
         if count > 0 {

@@ -63,11 +63,7 @@ fn paint(alloc: Global, image: &mut Image, extent: Option<Extent>) -> Result<(),
     ensures { OnOk result (AreLaidOver image.old (all_zeros (option_to_list extent)) image.new) }
 {
     match extent {
-        Some(extent) => {
-            let mut bytes = Vec::new(alloc);
-            bytes.resize(extent.len as usize, 0)?;
-            image.lay(extent.segment, extent.first, bytes)
-        }
+        Some(extent) => image.lay_zeros(alloc, extent),
         None => Ok(()),
     }
 }

@@ -40,7 +40,7 @@ overlay-requires-clause-from c =
     let within : c.args.start + c.args.count ≤ length cs = search rules in
     let is = c.in_ok-extend_to.ensures.laid ∙ ap (λ xs. over_all (laid_run c.args.piece) (laid_runs (slice_range xs (c.args.start + 1) (c.args.start + c.args.count)))) c.deref.ensures.value in
     let from = first_from cs c.args.start c.args.count (laid_run c.args.piece) c.index_mut-first.result.now within c.requires.some (search rules) c.requires.sorted c.requires.touching in
-    omega (arith, from, ap (λ (l : Laid). l.offset) is, c.index_mut-first.result.now.bytes.ok)
+    omega (arith, from, ap (λ (l : Laid). l.offset) is)
 
 pub overlay-requires-clause-fits : goal.overlay-requires-clause-fits
 overlay-requires-clause-fits c =
@@ -48,8 +48,8 @@ overlay-requires-clause-fits c =
     let within : c.args.start + c.args.count ≤ length cs = search rules in
     let is = c.in_ok-extend_to.ensures.laid ∙ ap (λ xs. over_all (laid_run c.args.piece) (laid_runs (slice_range xs (c.args.start + 1) (c.args.start + c.args.count)))) c.deref.ensures.value in
     let fits = rest_fits cs c.args.start c.args.count (laid_run c.args.piece) c.index_mut-first.result.now within c.requires.some (search rules) c.requires.sorted c.requires.touching
-    (omega (arith, c.requires.fits, c.args.piece.bytes.ok)) in
-    omega (arith, fits, ap (λ (l : Laid). l.offset) is, ap (λ (l : Laid). length l.bytes) is, c.extend_to.new.self.bytes.ok)
+    (omega (arith, c.requires.fits)) in
+    omega (arith, fits, ap (λ (l : Laid). l.offset) is, ap (λ (l : Laid). length l.bytes) is)
 
 pub returns-in_err-overlay-clause-unchanged : goal.returns-in_err-overlay-clause-unchanged
 returns-in_err-overlay-clause-unchanged c =
@@ -100,6 +100,6 @@ returns-in_err-overlay-clause-full c =
     let whole = is ∙ ap (over_all (laid_run c.args.piece)) alone.0 in
     elim c.in_err-overlay.ensures.full [
       | inl left ↦ omega (arith, left, alone.1, ap (λ (l : Laid). l.offset) whole)
-      | inr right ↦ omega (arith, right, alone.2, ap (λ (l : Laid). l.offset) whole, ap (λ (l : Laid). length l.bytes) whole, c.extend_to.new.self.bytes.ok, c.index_mut-first.result.now.bytes.ok)
+      | inr right ↦ omega (arith, right, alone.2, ap (λ (l : Laid). l.offset) whole, ap (λ (l : Laid). length l.bytes) whole)
     ] in
     on_err _ no

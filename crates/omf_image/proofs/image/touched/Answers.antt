@@ -1,4 +1,4 @@
-use Rattle.std.proofs.Common.{◌+◌, ◌<◌, ◌≤◌, ◌∙◌, length, sym, ap, subst, arith}
+use Rattle.std.proofs.Common.{◌∙◌, sym, ap, subst}
 use Rattle.std.proofs.lemmas.List.{drop-map}
 use Rattle.omf_image.specs.Inner.Sorted.{laid_run, laid_runs, AreSorted}
 use Rattle.omf_image.proofs.SortedLaws.{sorted_drop}
@@ -13,9 +13,6 @@ beginning_by-count-requires c =
 
 pub returns-clause-touched : goal.returns-clause-touched
 returns-clause-touched c =
-    let bytes = c.args.piece.now.bytes in
-    let some : 0 < length bytes.items = omega (arith, c.requires.some, bytes.ok) in
-    let fits : c.args.piece.now.first + length bytes.items ≤ 4294967296 = omega (arith, c.requires.fits, bytes.ok) in
     laying c.args.runs.now c.split_at.result.1.now c.ending_near-start.result c.beginning_by-count.result c.low.result c.high.result (laid_run c.args.piece.now)
-    c.split_at.ensures.back c.low.ensures c.high.ensures c.requires.sorted some fits c.ending_near-start.ensures.before c.ending_near-start.ensures.others
+    c.split_at.ensures.back c.low.ensures c.high.ensures c.requires.sorted c.requires.some c.requires.fits c.ending_near-start.ensures.before c.ending_near-start.ensures.others
     c.beginning_by-count.ensures.before c.beginning_by-count.ensures.others

@@ -21,4 +21,4 @@ returns c =
     let run : Laid = laid_run c.in_ok-find_run.field-0.now in
     let found : Some run ≡ slice_get (in_segment c.args.segment ls) c.args.k =
     c.in_ok-find_run.ensures ∙ ap (λ xs. slice_get (in_segment c.args.segment xs) c.args.k) (ap laid_runs c.deref.ensures.value ∙ c.self.view_is) in
-    subst (λ r. AreBytesAt (byte_at ls c.args.segment) c.args.k (Some r)) (sym c.as_slice.ensures.value) (bytes_at_is c.args.segment c.args.k ls (Some run) sorted found)
+    subst (λ r. AreBytesAt (byte_at ls c.args.segment) c.args.k (Some r)) (sym c.as_slice.ensures) (bytes_at_is c.args.segment c.args.k ls (Some run) sorted found)

@@ -20,5 +20,5 @@ returns c =
     let run : Laid = laid_run c.in_ok-run.run'.now in
     let found : Some run ≡ slice_get (in_segment c.args.segment ls) c.args.k =
     c.in_ok-run.ensures ∙ ap (λ xs. slice_get (in_segment c.args.segment xs) c.args.k) (ap laid_runs c.deref.ensures.value ∙ c.self.view_is) in
-    subst (λ bs. IsRunShown (byte_at ls c.args.segment) c.args.k (Some (c.in_ok-run.run'.now.first, bs))) (sym c.as_slice.ensures.value)
+    subst (λ bs. IsRunShown (byte_at ls c.args.segment) c.args.k (Some (c.in_ok-run.run'.now.first, bs))) (sym c.as_slice.ensures)
     (run_at_is c.args.segment c.args.k ls (Some run) sorted found, run_bytes_over c.args.segment c.args.k ls run sorted (sym found), run_fits 0 c.args.segment c.args.k ls run sorted (sym found))
