@@ -74,9 +74,14 @@ fn write_line(text: &mut [u8], segment: u16, offset: u32, bytes: &[u8])
     end.copy_from_slice(b"\n");
 }
 
-/// Appends a line: the place of its first byte, and its bytes. If memory runs out, the text is unchanged.
+/// Appends a line of any length: the place of its first byte, and its bytes. If memory runs out, the text is unchanged.
 #[inline(always)]
-fn print_line(text: &mut Vec<u8>, segment: u16, offset: u32, bytes: &[u8]) -> Result<(), AllocError>
+fn print_any_line(
+    text: &mut Vec<u8>,
+    segment: u16,
+    offset: u32,
+    bytes: &[u8],
+) -> Result<(), AllocError>
     requires { length bytes.now ≤ 16 }
     ensures { AddsText result text.old.items text.new.items (line_text (place_text segment) offset bytes.now) }
 {
@@ -84,6 +89,19 @@ fn print_line(text: &mut Vec<u8>, segment: u16, offset: u32, bytes: &[u8]) -> Re
     let (shown, _rest) = line.split_at_mut(14 + 3 * bytes.len());
     write_line(shown, segment, offset, bytes);
     text.extend_from_slice(shown)
+}
+
+/// Appends a line: the place of its first byte, and its bytes. If memory runs out, the text is unchanged.
+#[inline(always)]
+fn print_line(text: &mut Vec<u8>, segment: u16, offset: u32, bytes: &[u8]) -> Result<(), AllocError>
+    requires { length bytes.now ≤ 16 }
+    ensures { AddsText result text.old.items text.new.items (line_text (place_text segment) offset bytes.now) }
+{
+    if bytes.len() == LINE_BYTES {
+        // The compiler makes straight code of it, without a loop.
+        return print_any_line(text, segment, offset, &bytes[..LINE_BYTES]);
+    }
+    print_any_line(text, segment, offset, bytes)
 }
 
 /// Prints a run of covered bytes in lines of 16; the last line has what is left.
