@@ -13,3 +13,5 @@ pub mod SeveralLaws
 pub mod OwnLaws
 mod OrderModule
 mod ComdefLaws
+mod HomeLaws
+mod CommunalRecords

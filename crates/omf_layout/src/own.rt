@@ -5,6 +5,7 @@ mod communals;
 mod dgroup;
 mod ends;
 mod fault;
+mod homes;
 mod order;
 mod records;
 mod slots;
@@ -12,5 +13,6 @@ mod stack;
 
 pub use communals::communals_module;
 pub use fault::{CommunalReason, CommunalsFault};
+pub use homes::{Home, com_home, exe_home};
 pub use order::{OrderFault, ask_dos_order, order_module};
 pub use stack::stack_module;

@@ -9,6 +9,8 @@ use Rattle.omf_layout.specs.declared.own.fault.CommunalReason.{CommunalReason}
 use Rattle.omf_layout.specs.declared.own.fault.CommunalReason.TheVariants as reasons
 use Rattle.omf_layout.specs.declared.own.fault.CommunalsFault.{CommunalsFault}
 use Rattle.omf_layout.specs.declared.own.fault.CommunalsFault.TheVariants as fault
+use Rattle.omf_layout.specs.declared.own.homes.Home.{Home}
+use Rattle.omf_layout.specs.declared.own.homes.Home.TheVariants as homes
 use Rattle.omf_layout.specs.Several.Gathered.{gathered}
 use Rattle.omf_layout.specs.Several.Portions.{name_at}
 use Rattle.omf_layout.specs.Own.Claims.{Claim, all_claims}
@@ -84,10 +86,22 @@ near_room cs = all_room (nears cs)
 abbrev pub has_near : List Shared → Bool
 has_near cs = list_any (λ c. not c.far) cs
 
--- The near communals have one segment, if there are any: c_common of class BSS, word-aligned and public. Each far one has a segment FAR_BSS of class FAR_BSS,
--- paragraph-aligned and private.
-abbrev pub own_names : List (List ℕ)
-own_names = [] ∷ codes "BSS" ∷ codes "c_common" ∷ codes "FAR_BSS" ∷ codes "DGROUP" ∷ []
+-- The near communals have one segment, if there are any, word-aligned and public: c_common of class BSS, or a part of the segment of their home. Each far one
+-- has a segment FAR_BSS of class FAR_BSS, paragraph-aligned and private. The last name is that of a group.
+abbrev pub near_class : Home → List ℕ
+near_class (homes.Segment name class) = class
+near_class _ = codes "BSS"
+
+abbrev pub near_name : Home → List ℕ
+near_name (homes.Segment name class) = name
+near_name _ = codes "c_common"
+
+abbrev pub home_group : Home → List ℕ
+home_group (homes.Group name) = name
+home_group _ = codes "DGROUP"
+
+abbrev pub own_names : Home → List (List ℕ)
+own_names home = [] ∷ near_class home ∷ near_name home ∷ codes "FAR_BSS" ∷ home_group home ∷ []
 
 abbrev pub near_segment : List Shared → List Rec
 near_segment cs = if has_near cs then segment_record 0x48 (near_room cs) 3 2 ∷ [] else []
@@ -95,7 +109,11 @@ near_segment cs = if has_near cs then segment_record 0x48 (near_room cs) 3 2 ∷
 abbrev pub far_segment : Shared → Rec
 far_segment c = segment_record 0x60 c.size 4 4
 
--- The segment of the near ones is in the group DGROUP, if some module has one. The index of the group in PUBDEFs is 1, or 0 for none.
+-- The segment of the near ones is in the group of their home, if that is one. The index of the group in PUBDEFs is 1, or 0 for none.
+abbrev pub is_in_group : Home → Bool
+is_in_group (homes.Group name) = true
+is_in_group _ = false
+
 abbrev pub near_group : Bool → List Shared → List Rec
 near_group grouped cs = if grouped && has_near cs then group_record 5 1 ∷ [] else []
 
@@ -116,12 +134,13 @@ abbrev pub first_far : List Shared → ℕ
 first_far cs = if has_near cs then 2 else 1
 
 -- The records of the module: its name and the names of its segments, the segments, the group, the publics, the end.
-abbrev pub front_records : List Rec
-front_records = header (codes "communals") ∷ map name_record own_names
+abbrev pub front_records : Home → List Rec
+front_records home = header (codes "communals") ∷ map name_record (own_names home)
 
-abbrev pub communals_records : Bool → List Shared → List Rec
-communals_records grouped cs =
-    front_records ++ (near_segment cs ++ (map far_segment (fars cs) ++ (near_group grouped cs ++ (near_publics (group_index grouped) 0 (nears cs)
+abbrev pub communals_records : Home → List Shared → List Rec
+communals_records home cs =
+    let grouped = is_in_group home in
+    front_records home ++ (near_segment cs ++ (map far_segment (fars cs) ++ (near_group grouped cs ++ (near_publics (group_index grouped) 0 (nears cs)
     ++ (far_publics (first_far cs) (fars cs) ++ end_record ∷ [])))))
 
 abbrev pub is_dgroup : List ℕ → Bool
@@ -134,15 +153,15 @@ is_grouped m = list_any (λ g. is_dgroup (name_at m g.name.item)) (groups m)
 abbrev pub are_grouped : List (List Rec) → Bool
 are_grouped ms = list_any is_grouped ms
 
--- The module of the communals of these modules; none without communals.
-abbrev pub module_of : Bool → List Shared → Option (List Rec)
-module_of grouped [] = None
-module_of grouped (c ∷ cs) = Some (communals_records grouped (c ∷ cs))
+-- The module of the communals of these modules, with the near ones in this home; none without communals.
+abbrev pub module_of : Home → List Shared → Option (List Rec)
+module_of home [] = None
+module_of home (c ∷ cs) = Some (communals_records home (c ∷ cs))
 
-abbrev pub communals_of : List (List Rec) → Option (List Rec)
-communals_of ms = module_of (are_grouped ms) (communals ms)
+abbrev pub communals_of : Home → List (List Rec) → Option (List Rec)
+communals_of home ms = module_of home (communals ms)
 
--- Why there is no such module: the first communal at fault, by the order of names; more communals than a module has segments; near ones of 2^32 bytes or more together.
+-- Why there is no such module: the first communal at fault, in the order in which the names are first met; more communals than a module has segments; near ones of 2^32 bytes or more together.
 -- Memory may run out at any time.
 abbrev pub IsCommunalsFault : List (List Rec) → CommunalsFault → Type 0
 IsCommunalsFault ms fault.Memory = ⊤
@@ -165,6 +184,6 @@ IsFirstFault runs fault.TooMany = ⊥
 IsFirstFault runs fault.TooLarge = ⊥
 
 -- The bytes of the module, if there is one: no communal is at fault.
-pub record AreCommunals (ms : List (List Rec)) (made : Option (List ℕ)) : Type 0 where
+pub record AreCommunals (home : Home) (ms : List (List Rec)) (made : Option (List ℕ)) : Type 0 where
   pub sound : faults_of ms ≡ []
-  pub all : made ≡ option_map written (communals_of ms)
+  pub all : made ≡ option_map written (communals_of home ms)

@@ -8,7 +8,7 @@ use Rattle.omf_records.specs.Values.{Rec, GroupItem}
 use Rattle.omf_check.specs.Tables.{segments, groups}
 use Rattle.omf_placement.specs.declared.frame.Frame.{Frame}
 use Rattle.omf_placement.specs.declared.frame.Placed.{Placed}
-use Rattle.omf_placement.specs.Placement.{Places, lowest, members_placed}
+use Rattle.omf_placement.specs.Placement.{Places, group_place, lowest, members_placed}
 use Rattle.omf_layout.specs.declared.options.Frames.{Frames}
 use Rattle.omf_layout.specs.declared.options.Frames.TheVariants.{Real, Flat}
 use Rattle.omf_layout.specs.declared.options.Options.{Options}
@@ -32,18 +32,23 @@ segments_in ls m = filter_map (place_in ls m.0) (range_with_len 1 (length (segme
 abbrev pub all_segments_in : List Lying → List (List Rec) → List (List Placed)
 all_segments_in ls ms = map (segments_in ls) (enumerate_from 0 ms)
 
--- The place of a group's lowest member, with the group's name; none for a group without members.
+-- A place at the start of its frame.
+abbrev pub at_frame : Placed → Placed
+at_frame p = group_place p.frame
+
+-- The lowest of these places of a group's members, with the group's name; none for a group without members.
 abbrev pub low_of : List Rec → List Placed → GroupItem → Option (Named Placed)
 low_of m xs g = option_map (λ p. (name_at m g.name.item, p)) (option_and_then lowest (members_placed xs g.members))
 
+-- The start of the lowest frame of the members of each group of a module.
 abbrev pub lows_in : List Rec × List Placed → List (Named Placed)
-lows_in m = filter_map (low_of m.0 m.1) (groups m.0)
+lows_in m = filter_map (low_of m.0 (map at_frame m.1)) (groups m.0)
 
 abbrev pub lows : List (List Rec) → List (List Placed) → List (Named Placed)
 lows ms xs = flat_map lows_in (zip ms xs)
 
--- The frame of the groups of a name: in real mode that of the lowest member of any of them, or the frame at address 0 if none has a member; in flat mode the
--- one frame.
+-- The frame of the groups of a name: in real mode the lowest frame of the members of any of them, whatever their order, or the frame at address 0 if none has a
+-- member; in flat mode the one frame.
 abbrev pub frame_by : Frames → Option Placed → Frame
 frame_by Real low = unwrap_or (option_map (λ p. p.frame) low) (frame_at Real 0)
 frame_by (Flat selector) low = frame_at (Flat selector) 0
@@ -65,7 +70,7 @@ all_with_frames frames ms xs = map (with_frames frames (lows ms xs)) (zip ms xs)
 abbrev pub arranged_places : Options → List (List Rec) → Option (Laid (List Places))
 arranged_places o ms = option_map (λ l. laid (all_with_frames o.frames ms (all_segments_in l.what ms)) l.free) (arranged o ms)
 
--- A table of lowest places by name.
+-- A table of lowest frames by name, each as the place at its start.
 abbrev pub IsLowTable : BTreeMap (Bor (List ℕ)) Placed → List (Named Placed) → Type 0
 IsLowTable m ls = (name : List ℕ) → get_by (λ k. name_cmp name k.now) m ≡ lowest (of_name ls name)
 

@@ -5,12 +5,13 @@ ghost use Rattle.omf_check.specs.Module.{recs_of, typed_modules};
 ghost use Rattle.omf_records.specs.Inner.Seen.{contents_seen};
 ghost use Rattle.omf_records.specs.Values.{Group, GroupItem};
 ghost use Rattle.omf_layout.specs.Several.Portions.{name_at};
-ghost use Rattle.omf_layout.specs.Own.Communals.{AreCommunals, IsCommunalsFault, IsFirstFault, IsRunFault, are_grouped, communals, communals_records, far_publics, far_segment, faults_in, faults_of, fars, first_far, front_records, group_index, has_kind, has_near, is_dgroup, is_grouped, largest, name_of, near_group, near_publics, near_room, near_segment, nears, reason_of, room, runs_in, shared_by};
+ghost use Rattle.omf_layout.specs.Own.Communals.{AreCommunals, IsCommunalsFault, IsFirstFault, IsRunFault, are_grouped, communals, communals_records, far_publics, far_segment, faults_in, faults_of, fars, first_far, front_records, group_index, has_kind, has_near, home_group, is_dgroup, is_grouped, is_in_group, largest, name_of, near_class, near_group, near_name, near_publics, near_room, near_segment, nears, reason_of, room, runs_in, shared_by};
 ghost use Rattle.omf_layout.specs.Own.Written.{framed, written};
 
 use crate::draft::group_name;
 use crate::own::claims::{Claim, ClaimKind, claims_of, have_comdefs};
 use crate::own::fault::{CommunalReason, CommunalsFault};
+use crate::own::homes::Home;
 use crate::own::records::{
     Public, Segment, put_end, put_group, put_header, put_names, put_public, put_segment,
 };
@@ -220,17 +221,57 @@ pub(crate) fn are_grouped(modules: &[Checked]) -> bool
     found
 }
 
-/// Appends the name of the module, and the names of its segments.
-fn put_front(alloc: Global, out: &mut Vec<u8>) -> Result<(), AllocError>
-    ensures { OnOk result (out.new.items ≡ out.old.items ++ written front_records) }
+/// Returns the class of the segment of the near communals.
+fn near_class<'a>(home: &Home<'a>) -> Name<'a>
+    ensures { result ≡ near_class home.now }
+{
+    match home {
+        Home::Segment { class, .. } => Name(class.0),
+        Home::Apart | Home::Group(_) => Name(b"BSS"),
+    }
+}
+
+/// Returns the name of the segment of the near communals.
+fn near_name<'a>(home: &Home<'a>) -> Name<'a>
+    ensures { result ≡ near_name home.now }
+{
+    match home {
+        Home::Segment { name, .. } => Name(name.0),
+        Home::Apart | Home::Group(_) => Name(b"c_common"),
+    }
+}
+
+/// Returns the name of the group of the near communals; `DGROUP` if they have none.
+fn home_group<'a>(home: &Home<'a>) -> Name<'a>
+    ensures { result ≡ home_group home.now }
+{
+    match home {
+        Home::Group(name) => Name(name.0),
+        Home::Apart | Home::Segment { .. } => Name(b"DGROUP"),
+    }
+}
+
+/// Returns whether the near communals are in a group.
+fn is_in_group(home: &Home<'_>) -> bool
+    ensures { result ≡ is_in_group home.now }
+{
+    match home {
+        Home::Group(_) => true,
+        Home::Apart | Home::Segment { .. } => false,
+    }
+}
+
+/// Appends the name of the module, and the names of its segments and its group.
+fn put_front(alloc: Global, out: &mut Vec<u8>, home: &Home<'_>) -> Result<(), AllocError>
+    ensures { OnOk result (out.new.items ≡ out.old.items ++ written (front_records home.now)) }
 {
     put_header(alloc, out, &Name(b"communals"))?;
     let names = [
         Name(b""),
-        Name(b"BSS"),
-        Name(b"c_common"),
+        near_class(home),
+        near_name(home),
         Name(b"FAR_BSS"),
-        Name(b"DGROUP"),
+        home_group(home),
     ];
     put_names(alloc, out, &names)
 }
@@ -378,14 +419,15 @@ fn module_of(
     alloc: Global,
     communals: &[Shared<'_>],
     size: u32,
-    grouped: bool,
+    home: &Home<'_>,
 ) -> Result<Vec<u8>, AllocError>
     requires few { length communals.now ≤ 32766 }
     requires size { size ≡ near_room communals.now }
-    ensures { IfOk result (λ v. v.items ≡ written (communals_records grouped communals.now)) }
+    ensures { IfOk result (λ v. v.items ≡ written (communals_records home.now communals.now)) }
 {
+    let grouped = is_in_group(home);
     let mut out = Vec::new(alloc);
-    put_front(alloc, &mut out)?;
+    put_front(alloc, &mut out, home)?;
     put_near_segment(alloc, &mut out, communals, size)?;
     put_far_segments(alloc, &mut out, communals)?;
     put_near_group(alloc, &mut out, communals, grouped)?;
@@ -398,10 +440,10 @@ fn module_of(
 /// Returns the bytes of a module with a public for each communal of these modules: each name that a COMDEF defines and no PUBDEF. `None` if
 /// there are no such names. The module has no data, and is not a main module; its name is `communals`.
 ///
-/// A communal has the size in bytes of its largest COMDEF. The near ones are one after another, each at an even offset, in a segment
-/// `c_common` of class `BSS`, word-aligned and public, which is in the group DGROUP if one of the modules has a group of that name. Each
-/// far one has a segment `FAR_BSS` of class `FAR_BSS`, paragraph-aligned and private. They are in the order in which the names are first met
-/// (TIS OMF 1.1, "COMDEF"). SEGDEF and PUBDEF have their 32-bit types, 99H and 91H.
+/// A communal has the size in bytes of its largest COMDEF. The near ones are one after another, each at an even offset, in one segment, word-aligned and
+/// public: `c_common` of class `BSS`, in the group of `home` if that is one; or a part of the segment of `home`. Each far one has a segment `FAR_BSS` of
+/// class `FAR_BSS`, paragraph-aligned and private. They are in the order in which the names are first met (TIS OMF 1.1, "COMDEF"). SEGDEF and PUBDEF have
+/// their 32-bit types, 99H and 91H.
 ///
 /// # Errors
 ///
@@ -410,8 +452,9 @@ fn module_of(
 pub fn communals_module<'a>(
     alloc: Global,
     modules: &'a [Checked],
+    home: &Home<'_>,
 ) -> Result<Option<Vec<u8>>, CommunalsFault<'a>>
-    ensures ok { IfOk result (λ m. AreCommunals (typed_modules modules.entry.now) (option_map (λ v. v.items) m)) }
+    ensures ok { IfOk result (λ m. AreCommunals home.now (typed_modules modules.entry.now) (option_map (λ v. v.items) m)) }
     ensures fault { IfErr result (IsCommunalsFault (typed_modules modules.entry.now)) }
 {
     let communals = match communals_in(alloc, modules) {
@@ -428,7 +471,7 @@ pub fn communals_module<'a>(
     if room >= 1 << 32 {
         return Err(CommunalsFault::TooLarge);
     }
-    match module_of(alloc, &communals, room as u32, are_grouped(modules)) {
+    match module_of(alloc, &communals, room as u32, home) {
         Ok(bytes) => Ok(Some(bytes)),
         Err(AllocError) => Err(CommunalsFault::Memory),
     }

@@ -92,7 +92,7 @@ fn combination_bits(combination: Combination) -> u8
 }
 
 /// Returns the name of an index; the empty name for index 0.
-fn named<'a>(module: &'a Checked, index: u16) -> Name<'a>
+pub(crate) fn named<'a>(module: &'a Checked, index: u16) -> Name<'a>
     ensures { result ≡ name_at (recs_of «module».entry.now.bytes) index }
 {
     match module.name(index) {

@@ -2,9 +2,10 @@
 
 ghost use Rattle.std.specs.Prelude.{◌≡◌, ◌<◌, ◌^◌, ◌∷◌, [], List, OnOk, IfOk, length, map, filter_map, option_and_then};
 ghost use Rattle.omf_check.specs.Module.{recs_of, typed_modules};
+ghost use Rattle.omf_check.specs.Tables.{groups};
 ghost use Rattle.omf_records.specs.Inner.Seen.{contents_seen};
 ghost use Rattle.omf_records.specs.Values.{Group, GroupItem};
-ghost use Rattle.omf_layout.specs.Several.Placing.{HasMore, IsLowTable, frame_named, group_frames, low_of, lows, lows_in};
+ghost use Rattle.omf_layout.specs.Several.Placing.{HasMore, IsLowTable, at_frame, frame_named, group_frames, low_of, lows, lows_in};
 ghost use Rattle.omf_layout.specs.Several.Portions.{Named};
 
 use crate::Frames;
@@ -17,14 +18,35 @@ use omf_records::Rec;
 use std::alloc::{AllocError, Global};
 use std::collections::BTreeMap;
 
-/// The places of the lowest members of groups, by group name.
+/// Returns the place at the start of a place's frame.
+fn at_frame(place: Placed) -> Placed
+    ensures { result ≡ at_frame place }
+{
+    Placed {
+        address: place.frame.base,
+        frame: place.frame,
+    }
+}
+
+/// Returns, for each place, the place at the start of its frame.
+fn frame_starts(alloc: Global, places: &[Placed]) -> Result<Vec<Placed>, AllocError>
+    ensures { IfOk result (λ v. v.items ≡ map at_frame places.now) }
+{
+    let mut starts = Vec::with_capacity(alloc, places.len())?;
+    for place in places {
+        starts.push(at_frame(*place))?;
+    }
+    Ok(starts)
+}
+
+/// The starts of the lowest frames of the members of groups, by group name.
 #[derive(Drop)]
 pub struct LowTable<'a> {
     by_name: BTreeMap<NameKey<'a>, Placed>,
 }
 
 impl<'a> LowTable<'a> {
-    /// Adds the place of a group's lowest member.
+    /// Adds the start of the lowest frame of a group's members.
     fn add(&mut self, name: &'a [u8], place: Placed) -> Result<(), AllocError>
         ensures { OnOk result (HasMore self.old.by_name self.new.by_name ((name.entry.now, place) ∷ [])) }
     {
@@ -33,7 +55,7 @@ impl<'a> LowTable<'a> {
         Ok(())
     }
 
-    /// Adds a group of a module whose segments have these places.
+    /// Adds a group of a module, by these places of its segments.
     fn add_group(
         &mut self,
         module: &'a Checked,
@@ -49,9 +71,9 @@ impl<'a> LowTable<'a> {
         }
     }
 
-    /// Adds the groups of a module whose segments have these places.
-    fn add_module(&mut self, module: &'a Checked, segments: &[Placed]) -> Result<(), AllocError>
-        ensures { OnOk result (HasMore self.old.by_name self.new.by_name (lows_in (recs_of «module».entry.now.bytes, segments.now))) }
+    /// Adds the groups of a module, by these places of its segments.
+    fn add_groups(&mut self, module: &'a Checked, segments: &[Placed]) -> Result<(), AllocError>
+        ensures { OnOk result (HasMore self.old.by_name self.new.by_name (filter_map (low_of (recs_of «module».entry.now.bytes) segments.now) (groups (recs_of «module».entry.now.bytes)))) }
     {
         for before in 0..module.groups() {
             let Some(group) = module.group(before + 1) else {
@@ -62,7 +84,20 @@ impl<'a> LowTable<'a> {
         Ok(())
     }
 
-    /// Collects the lowest places of the groups of all modules, whose segments have these places.
+    /// Adds the groups of a module whose segments have these places, by the frames of the segments.
+    fn add_module(
+        &mut self,
+        alloc: Global,
+        module: &'a Checked,
+        segments: &[Placed],
+    ) -> Result<(), AllocError>
+        ensures { OnOk result (HasMore self.old.by_name self.new.by_name (lows_in (recs_of «module».entry.now.bytes, segments.now))) }
+    {
+        let starts = frame_starts(alloc, segments)?;
+        self.add_groups(module, &starts)
+    }
+
+    /// Collects the lowest frames of the groups of all modules, whose segments have these places.
     pub fn of(
         alloc: Global,
         modules: &'a [Checked],
@@ -75,7 +110,7 @@ impl<'a> LowTable<'a> {
             by_name: BTreeMap::new(alloc),
         };
         for (j, module) in modules.iter().enumerate() {
-            table.add_module(module, &places[j])?;
+            table.add_module(alloc, module, &places[j])?;
         }
         Ok(table)
     }

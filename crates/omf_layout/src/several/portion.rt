@@ -21,7 +21,7 @@ pub enum Combination {
 
 impl Combination {
     /// Returns the combination in a SEGDEF's attribute byte.
-    fn named_by(attribute: u8) -> Combination
+    pub(crate) fn named_by(attribute: u8) -> Combination
         ensures { result ≡ combination_named attribute }
     {
         match attribute / 4 % 8 {

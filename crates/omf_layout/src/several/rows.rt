@@ -46,8 +46,10 @@ pub fn places_without_room()
 {}
 
 /// The groups of one name in two modules share one frame, that of the lowest member: it is in the second module, in the frame of the
-/// first one's segment. A group without members has the frame at address 0. In flat mode all have the one frame.
+/// first one's segment. A group without members has the frame at address 0. In flat mode all have the one frame. Where an empty part of A
+/// ends at the address at which B begins, the group that has both has the frame of A, which is the lower, although it names B first.
 pub fn frames_of_groups()
     ensures real { module_places 0x10008 Real (of_records (segment 0x68 1 2 2 ∷ segment 0x68 1 3 3 ∷ group 4 2 ∷ []) ∷ of_records (segment 0x68 1 2 2 ∷ group 4 1 ∷ empty_group 3 ∷ []) ∷ []) ≡ Some ((place 0x10010 0x1001 ∷ place 0x10030 0x1003 ∷ [], paragraph_frame 0x1001 ∷ []) ∷ (place 0x10020 0x1001 ∷ [], paragraph_frame 0x1001 ∷ record { base = 0; selector = 0 } ∷ []) ∷ [], 0x10031) }
+    ensures tie { module_places 0x10008 Real (of_records (segment 0x28 20 2 2 ∷ []) ∷ of_records (segment 0x28 0 2 2 ∷ segment 0x28 4 3 3 ∷ group 4 2 ∷ group 4 1 ∷ []) ∷ []) ≡ Some ((place 0x10008 0x1000 ∷ [], []) ∷ (place 0x1001C 0x1000 ∷ place 0x1001C 0x1001 ∷ [], paragraph_frame 0x1000 ∷ paragraph_frame 0x1000 ∷ []) ∷ [], 0x10020) }
     ensures flat { module_places 0x10 (Flat 8) (of_records (segment 0x28 1 2 2 ∷ group 4 1 ∷ empty_group 3 ∷ []) ∷ []) ≡ Some ((record { address = 0x10; frame = record { base = 0; selector = 8 } } ∷ [], record { base = 0; selector = 8 } ∷ record { base = 0; selector = 8 } ∷ []) ∷ [], 0x11) }
 {}
