@@ -16,6 +16,7 @@ use Rattle.omf_output.specs.Exe.Memory.{AreUncovered, Chunk, ContentsMove, LiesI
 use Rattle.omf_output.specs.Exe.Words.{AreApart}
 use Rattle.omf_output.specs.Exe.Laws.{WordsStandApart}
 use Rattle.omf_output.proofs.DataMoves.{site-inside}
+use Rattle.omf_output.proofs.FilledLaws.{all-only}
 
 abbrev Beside : ℕ → ℕ → Type 0
 Beside w v = (w + 2 ≤ v) ⊎ (v + 2 ≤ w)
@@ -63,8 +64,8 @@ module _ (mv : Movers) (pl : Places) (h : AreMoversOf mv pl) where
   Free c = AreApart c.words
 
   contents-free : (kind : ℕ) (c : Contents) (after : List Piece) → ContentsMove mv pl c after → All Free (contents_chunks mv pl kind c after)
-  contents-free kind (Plain d) after r = All-cons Free _ [] (sites-apart d.segment.item (fixups_of_data after) (site-inside 0 mv pl h d) r.apart) (All-nil Free)
-  contents-free kind (Iterated d) after r = All-cons Free _ [] tt (All-nil Free)
+  contents-free kind (Plain d) after r = all-only Free _ _ (sites-apart d.segment.item (fixups_of_data after) (site-inside 0 mv pl h d) r.apart)
+  contents-free kind (Iterated d) after r = all-only Free _ _ tt
   contents-free kind _ after r = All-nil Free
 
   piece-free : (p : Piece) (after : List Piece) → PieceMoves mv pl p after → All Free (piece_chunks mv pl p after)

@@ -254,7 +254,7 @@ module _ (ms : List Member) (r : AreReady ms) (a : AreFree ms) where
       let here : k ≡ 0 + k = omega arith in
       ap (λ (bs : List ℕ). let l : ComLoaded = record { address = 16 * k + 256; bytes = bs; code = (k % 65536, 256); stack = (k % 65536, 65534) } in l) word-after
       ∙ ap₂ (λ (i : List ℕ) (c : ℕ × ℕ). let l : ComLoaded = record { address = 16 * k + 256; bytes = drop 256 i; code = c; stack = (c.0, 65534) } in l) (image-stays k)
-      (ap (λ n. (n % 65536, 256)) here ∙ sym (code-moves k ms (0, 256) (judged).moving a.starts_low))
+      (ap (λ n. (n % 65536, 256)) here ∙ sym (code-moves k ms (0, 256) r.hold (judged).moving a.starts_low))
 
 -- ---- the walks
 

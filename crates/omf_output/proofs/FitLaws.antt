@@ -1,17 +1,21 @@
 -- The data of a module end where its extents do; each of its pieces can be laid in as many bytes.
-use Rattle.std.proofs.Common.{◌≡◌, ℕ, ◌+◌, ◌≤◌, List, [], ◌∷◌, ◌++◌, length, map, max, refl, sym, ◌∙◌, ap, ap₂, subst, arith}
-use Rattle.std.specs.Prelude.{All, Option, Some, None, flat_map, fold, ⊤}
+use Rattle.std.proofs.Common.{◌≡◌, ℕ, ◌+◌, ◌<◌, ◌≤◌, List, [], ◌∷◌, ◌++◌, length, map, max, refl, sym, ◌∙◌, ap, ap₂, subst, arith}
+use Rattle.std.specs.Prelude.{All, Option, Some, None, flat_map, fold, nat_lt, ⊤}
+use Rattle.std.proofs.lemmas.Grind.{flat_map-append}
+use Rattle.std.proofs.lemmas.Bool.{lt-ltb}
 use Rattle.std.proofs.lemmas.List.{map-append}
 use Rattle.std.proofs.lemmas.List.Sums.{fold-append}
 use Rattle.std.proofs.lemmas.List.Elements.{All-nil, All-cons, All-head, All-tail, All-append}
 use Rattle.omf_frame.specs.declared.fault.Place.{Place}
-use Rattle.omf_records.specs.Values.{Contents, Names, Plain, Iterated, Fixups, ModEnd, Rec, Subrecord}
+use Rattle.omf_records.specs.Values.{Contents, Names, Plain, Iterated, Fixups, ModEnd, Rec, Subrecord, width}
 use Rattle.omf_image.specs.Limits.{profile_limits}
 use Rattle.omf_image.specs.Painting.{Fits, extent}
 use Rattle.omf_check.specs.Sound.{ModuleHolds}
 use Rattle.omf_check.specs.Tables.{subrecords}
 use Rattle.omf_placement.specs.Placement.{Places}
 use Rattle.omf_reloc.specs.Inner.Names.{plain_fixups}
+use Rattle.omf_image.specs.Inner.Expanding.{expanded}
+use Rattle.omf_image.specs.Overlay.{Laid}
 use Rattle.omf_reloc.specs.Image.{laid}
 use Rattle.omf_reloc.specs.Inner.Measuring.{CanMeasure, measured, measured_contents}
 use Rattle.omf_reloc.specs.Inner.Pieces.{one_by_one, single_pieces}
@@ -21,10 +25,12 @@ use Rattle.omf_reloc.proofs.HoldLaws.{KeptHolds, PieceHolds, PiecesHold, PlainFi
 use Rattle.omf_reloc.proofs.MeasureLaws.{places-are}
 use Rattle.omf_reloc.proofs.SingleLaws.{singles}
 use Rattle.omf_reloc.proofs.WalkLaws.{all-left as part-left, all-right as part-right}
-use Rattle.omf_output.specs.Inner.Laying.{AllCanLay, CanEnd, CanLay, DataFit, FixupFits, Source, address_at, all_laid, extent_end, laid_by, record_ends, source_after, source_in}
-use Rattle.omf_output.specs.Exe.Memory.{Chunk, chunk_end, chunks, lying}
+use Rattle.omf_output.specs.Inner.Laying.{AllCanLay, CanEnd, CanLay, DataFit, FixupFits, Source, address_at, all_laid, end_of, laid_by, record_ends, source_after, source_in}
+use Rattle.omf_output.specs.Exe.Memory.{Chunk, chunk_end, chunks, lying, with_bytes}
+use Rattle.omf_output.specs.Exe.Filled.{has_any}
 use Rattle.omf_output.specs.Exe.Moved.{Movers}
 use Rattle.omf_output.proofs.ChunkMoves.{are-laid}
+use Rattle.omf_output.proofs.FilledLaws.{end-above, map-only, only-all}
 use Rattle.omf_output.proofs.OverlapLaws.{unmapped}
 
 -- ---- ends of chunks and of extents
@@ -33,21 +39,27 @@ pub map-both : {A B C : Type 0} (f : B → C) (g : A → B) (xs : List A) → ma
 map-both f g [] = refl
 map-both f g (x ∷ xs) = ap (λ ys. f (g x) ∷ ys) (map-both f g xs)
 
-map-flat : {A B C : Type 0} (f : B → C) (g : A → List B) (xs : List A) → map f (flat_map g xs) ≡ flat_map (λ x. map f (g x)) xs
-map-flat f g [] = refl
-map-flat f g (x ∷ xs) = map-append f (g x) (flat_map g xs) ∙ ap (λ ys. map f (g x) ++ ys) (map-flat f g xs)
-
 abbrev pair_end : ℕ × List ℕ → ℕ
 pair_end x = x.0 + length x.1
+
+flat-flat : {A B C : Type 0} (f : B → List C) (g : A → List B) (xs : List A) → flat_map f (flat_map g xs) ≡ flat_map (λ x. flat_map f (g x)) xs
+flat-flat f g [] = refl
+flat-flat f g (x ∷ xs) = flat_map-append f (g x) (flat_map g xs) ∙ ap (λ ys. flat_map f (g x) ++ ys) (flat-flat f g xs)
+
+-- The bytes that there are end where the extents that are not empty do.
+bytes-end : (pl : Places) (ls : List Laid) → map pair_end (flat_map with_bytes (map (lying pl) ls)) ≡ flat_map (end_of pl) (map extent ls)
+bytes-end pl [] = refl
+bytes-end pl (l ∷ ls) =
+    map-append pair_end (with_bytes (lying pl l)) (flat_map with_bytes (map (lying pl) ls))
+    ∙ ap₂ (λ xs ys. xs ++ ys) (map-only pair_end (has_any l.bytes) (lying pl l)) (bytes-end pl ls)
 
 pub chunks-end : (mv : Movers) (pl : Places) (m : List Rec) → ModuleHolds profile_limits m → map chunk_end (chunks mv pl m) ≡ flat_map (record_ends pl) m
 chunks-end mv pl m holds =
     sym (map-both pair_end (λ (c : Chunk). (c.address, c.bytes)) (chunks mv pl m))
     ∙ ap (map pair_end) (are-laid mv pl m)
-    ∙ map-both pair_end (lying pl) (laid profile_limits pl (pieces m))
-    ∙ sym (map-both (extent_end pl) extent (laid profile_limits pl (pieces m)))
-    ∙ ap (map (extent_end pl)) (places-are pl m holds)
-    ∙ map-flat (extent_end pl) measured m
+    ∙ bytes-end pl (laid profile_limits pl (pieces m))
+    ∙ ap (flat_map (end_of pl)) (places-are pl m holds)
+    ∙ flat-flat (end_of pl) measured m
 
 pub all-end : (mv : Movers) (pl : Places) (n : ℕ) (m : List Rec) → ModuleHolds profile_limits m → All (λ x. x ≤ n) (flat_map (record_ends pl) m) → All (λ c. chunk_end c ≤ n) (chunks mv pl m)
 all-end mv pl n m holds h = unmapped (λ x. x ≤ n) chunk_end (chunks mv pl m) (subst (All (λ x. x ≤ n)) (sym (chunks-end mv pl m holds)) h)
@@ -67,7 +79,7 @@ module _ (pl : Places) (n : ℕ) where
   singles-end kind [] = All-nil KeptEnds
   singles-end kind (f ∷ fs) = All-cons KeptEnds (Fixed kind (f ∷ [])) (singles kind fs) tt (singles-end kind fs)
 
-  record-ends : (earlier : List Subrecord) (kind : ℕ) (c : Contents) → All Below (map (extent_end pl) (measured_contents kind c)) → All KeptEnds (one_by_one (piece_of earlier kind c))
+  record-ends : (earlier : List Subrecord) (kind : ℕ) (c : Contents) → All Below (flat_map (end_of pl) (measured_contents kind c)) → All KeptEnds (one_by_one (piece_of earlier kind c))
   record-ends earlier kind (Fixups subs) h = singles-end kind (plain_fixups earlier subs)
   record-ends earlier kind (ModEnd byte start) h = All-cons KeptEnds _ [] tt (All-nil KeptEnds)
   record-ends earlier kind (Names items) h = All-cons KeptEnds _ [] h (All-nil KeptEnds)
@@ -95,7 +107,7 @@ module _ (pl : Places) (n : ℕ) where
 
   abbrev LastFits : Option Contents → Type 0
   LastFits None = ⊤
-  LastFits (Some (Plain d)) = address_at pl d.segment.item d.offset.item + length d.bytes ≤ n
+  LastFits (Some (Plain d)) = 0 < length d.bytes → address_at pl d.segment.item d.offset.item + length d.bytes ≤ n
   LastFits (Some _) = ⊤
 
   source-kept : (c : Contents) (last_one : Option Contents) → source_in c (source_of last_one) ≡ source_of (data_kept c last_one)
@@ -109,8 +121,8 @@ module _ (pl : Places) (n : ℕ) where
   source-next (Fixed kind fs) last_one = refl
   source-next (End kind byte start) last_one = refl
 
-  kept-fits : (kind : ℕ) (c : Contents) (last_one : Option Contents) → LastFits last_one → All Below (map (extent_end pl) (measured_contents kind c)) → LastFits (data_kept c last_one)
-  kept-fits kind (Plain d) last_one l h = All-head Below _ [] h
+  kept-fits : (kind : ℕ) (c : Contents) (last_one : Option Contents) → LastFits last_one → All Below (flat_map (end_of pl) (measured_contents kind c)) → LastFits (data_kept c last_one)
+  kept-fits kind (Plain d) last_one l h = λ some. only-all Below (nat_lt 0 (length d.bytes)) _ [] (lt-ltb 0 (length d.bytes) some) h
   kept-fits kind (Iterated d) last_one l h = tt
   kept-fits kind (Names items) last_one l h = l
   kept-fits kind _ last_one l h = l
@@ -120,17 +132,22 @@ module _ (pl : Places) (n : ℕ) where
   last-fits (Fixed kind fs) last_one l h = l
   last-fits (End kind byte start) last_one l h = l
 
-  kept-can : (m : List Rec) (kind : ℕ) (c : Contents) → KeptHolds profile_limits m kind c → All Below (map (extent_end pl) (measured_contents kind c)) → DataFit pl n kind c
-  kept-can m kind (Plain d) k h = All-head Below _ [] h
-  kept-can m kind (Iterated d) k h = (record { short = k.data_holds.short; fits = k.expands }, All-head Below _ [] h)
+  kept-can : (m : List Rec) (kind : ℕ) (c : Contents) → KeptHolds profile_limits m kind c → All Below (flat_map (end_of pl) (measured_contents kind c)) → DataFit pl n kind c
+  kept-can m kind (Plain d) k h = λ some. only-all Below (nat_lt 0 (length d.bytes)) _ [] (lt-ltb 0 (length d.bytes) some) h
+  kept-can m kind (Iterated d) k h =
+      let n = length (expanded (width kind) profile_limits d.bytes) in
+      (record { short = k.data_holds.short; fits = k.expands }, λ some. only-all Below (nat_lt 0 n) _ [] (lt-ltb 0 n some) h)
   kept-can m kind (Names items) k h = tt
   kept-can m kind _ k h = tt
 
   fixup-can : (m : List Rec) (kind : ℕ) (f : PlainFixup) (last_one : Option Contents) → PlainFixupHolds m last_one f → LastFits last_one → FixupFits pl n (source_of last_one) (kind, f)
   fixup-can m kind f last_one h l =
       let d = h.data_record in
-      let low : LastFits (Some (Plain d)) = subst LastFits h.is_last l in
       let i = h.inside in
+      let above = end-above (kind, f) in
+      let some : 0 < length d.bytes = omega (arith, i, above) in
+      let fits : LastFits (Some (Plain d)) = subst LastFits h.is_last l in
+      let low = fits some in
       let here : FixupFits pl n (source_of (Some (Plain d))) (kind, f) = omega (arith, low, i) in
       subst (λ (o : Option Contents). FixupFits pl n (source_of o) (kind, f)) (sym h.is_last) here
 

@@ -1,10 +1,12 @@
 -- Fixups that are applied where the data are give the data of the record with its fixups applied, in its place; so the pieces of a module lay its chunks.
-use Rattle.std.proofs.Common.{◌≡◌, ℕ, ◌+◌, ◌-◌, ◌≤◌, List, [], ◌∷◌, ◌++◌, length, take, drop, map, refl, sym, ◌∙◌, ap, arith, length-append, length-drop, append_assoc}
+use Rattle.std.proofs.Common.{◌≡◌, ℕ, ◌+◌, ◌-◌, ◌≤◌, List, [], ◌∷◌, ◌++◌, Bool, true, false, length, take, drop, map, refl, sym, ◌∙◌, ap, arith, length-append, length-drop, append_assoc}
 use Rattle.std.specs.Prelude.{All, Some, None, Result, Ok, Err, flat_map, fold}
 use Rattle.std.proofs.lemmas.List.{length-take-le}
 use Rattle.std.proofs.lemmas.List.Elements.{All-nil, All-cons, All-head, All-tail, All-weaker}
 use Rattle.omf_frame.specs.Bytes.{with_after}
-use Rattle.omf_records.specs.Values.{Contents, DataItem, Plain, Iterated, Rec, location_offset}
+use Rattle.omf_records.specs.Values.{Contents, DataItem, Plain, Iterated, Rec, location_offset, width}
+use Rattle.omf_image.specs.Inner.Expanding.{expanded}
+use Rattle.omf_image.specs.Limits.{profile_limits}
 use Rattle.omf_image.specs.Inner.Names.{sum_bytes}
 use Rattle.omf_image.specs.Parts.{Addition, add_part, add_parts}
 use Rattle.omf_placement.specs.Placement.{Places}
@@ -19,9 +21,11 @@ use Rattle.omf_reloc.proofs.PatchLaws.{parts_inside, stays_inside}
 use Rattle.omf_reloc.proofs.SingleLaws.{fixups-same, singles}
 use Rattle.omf_output.specs.Inner.Laying.{Source, address_at, all_laid, fixed_at, fixed_by, overlaid, source_in, with_data}
 use Rattle.omf_output.specs.Exe.Memory.{Chunk, chunks, contents_chunks, piece_chunks, put}
+use Rattle.omf_output.specs.Exe.Filled.{has_any, only_if}
 use Rattle.omf_output.specs.Exe.Moved.{Movers}
 use Rattle.omf_output.specs.Exe.Relocations.{sites}
 use Rattle.omf_output.proofs.ChangeLaws.{back_of, front_of, length-front, length-number, number_of, split}
+use Rattle.omf_output.proofs.FilledLaws.{none-inside, none-left, none-overlaid, none-there}
 use Rattle.omf_output.proofs.WordLaws.{adding, length-add}
 
 -- ---- a change of bytes that are between others
@@ -193,6 +197,11 @@ module _ (mv : Movers) (pl : Places) (m : List Rec) (inside : AllLieInside pl m)
     long = ap length f ∙ length-overlaid c.address c.bytes bytes (omega (arith, h, e)) ∙ e;
   }
 
+  only-laid : (b : Bool) (c : Chunk) (bytes out : List ℕ) → length bytes ≡ n → All (EndsBy n) (only_if b c) → (EndsBy n c → out ≡ overlaid c.address c.bytes bytes) → (b ≡ false → out ≡ bytes)
+      → Laid (only_if b c) bytes out
+  only-laid true c bytes out l h f g = let low = All-head (EndsBy n) c [] h in one-laid c bytes out l low (f low)
+  only-laid false c bytes out l h f g = record { same = g refl; long = ap length (g refl) ∙ l }
+
   contents-laid : (before after : List Piece) (r : Rec) (c : Contents) (bytes : List ℕ) → pieces m ≡ before ++ Kept r ∷ after → r.contents ≡ c → length bytes ≡ n
       → All (EndsBy n) (contents_chunks mv pl r.kind c after) → Laid (contents_chunks mv pl r.kind c after) bytes (of_contents pl r.kind c (fixups_of_data after) bytes)
   contents-laid before after r (Plain d) bytes e f l h =
@@ -200,9 +209,14 @@ module _ (mv : Movers) (pl : Places) (m : List Rec) (inside : AllLieInside pl m)
       let patch = inside.each_patch before after r d e f in
       let size : length (patched pl d fs) ≡ length d.bytes = patch.stays.size in
       let c : Chunk = record { address = address_at pl d.segment.item d.offset.item; bytes = patched pl d fs; words = sites mv d.segment.item fs } in
-      let low : EndsBy n c = All-head (EndsBy n) c [] h in
-      one-laid c bytes _ l low (fixups-laid pl d fs bytes patch.locations (omega (arith, low, size, l)))
-  contents-laid before after r (Iterated d) bytes e f l h = one-laid _ bytes _ l (All-head (EndsBy n) _ [] h) refl
+      only-laid (has_any c.bytes) c bytes _ l h (λ low. fixups-laid pl d fs bytes patch.locations (omega (arith, low, size, l)))
+      (λ none.
+      let gone : length d.bytes ≡ 0 = sym size ∙ ap length (none-there c.bytes none) in
+      ap (λ gs. fold (fixed_at pl (d.segment.item, d.offset.item)) (overlaid c.address d.bytes bytes) gs) (none-inside (length d.bytes) fs gone patch.locations)
+      ∙ ap (λ bs. overlaid c.address bs bytes) (none-left d.bytes gone) ∙ none-overlaid c.address bytes)
+  contents-laid before after r (Iterated d) bytes e f l h =
+      let c : Chunk = record { address = address_at pl d.segment.item d.offset.item; bytes = expanded (width r.kind) profile_limits d.bytes; words = [] } in
+      only-laid (has_any c.bytes) c bytes _ l h (λ low. refl) (λ none. ap (λ bs. overlaid c.address bs bytes) (none-there c.bytes none) ∙ none-overlaid c.address bytes)
   contents-laid before after r _ bytes e f l h = record { same = refl; long = l }
 
   piece-laid : (before after : List Piece) (p : Piece) (bytes : List ℕ) → pieces m ≡ before ++ p ∷ after → length bytes ≡ n → All (EndsBy n) (piece_chunks mv pl p after)

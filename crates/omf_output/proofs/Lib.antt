@@ -12,11 +12,13 @@ pub mod ChangeLaws
 pub mod WordLaws
 pub mod DataMoves
 pub mod FileLaws
+pub mod FilledLaws
 pub mod Written
 pub mod ImageMoves
 pub mod ChunkMoves
 pub mod ProgramLaws
 pub mod StartMoves
+mod MainLaws
 pub mod RowLaws
 pub mod JudgedLaws
 pub mod LocatedLaws
@@ -38,5 +40,6 @@ pub mod MovedWords
 pub mod NearLaws
 pub mod ApartLaws
 pub mod LowLaws
+mod FrameLaws
 pub mod DerivingLaws
 pub mod ComLaws

@@ -22,7 +22,7 @@ use Rattle.omf_output.specs.declared.exe.file.FileFault.TheVariants as files
 use Rattle.omf_output.specs.Inner.Plans.{IsManyOrMemory, IsPlan}
 use Rattle.omf_output.specs.Exe.Loading.{Loaded, loaded}
 use Rattle.omf_output.specs.declared.exe.link.Plan.{Plan}
-use Rattle.omf_output.specs.Exe.Linked.{IsExeFault, IsOverlap, code, extra, far_pair, few_words, high_faults, in_registers, later_faults, linked, linked_at, member_fault, ok_or, one_start, or_else, placed, plain_faults, stack_pointer, starts, words_from}
+use Rattle.omf_output.specs.Exe.Linked.{IsExeFault, IsOverlap, code, exe_fault, extra, far_pair, few_words, high_faults, in_registers, later_faults, linked, linked_at, member_fault, ok_or, one_start, or_else, placed, plain_faults, stack_pointer, starts, words_from}
 use Rattle.omf_output.specs.Exe.Members.{Member, all_moving, memory_end, moving, portions, stack}
 use Rattle.omf_output.specs.Exe.Memory.{Chunk, IsProgram, LiesIn, all_chunks, chunk_end, chunks_at, data_end, flat, flat_words}
 use Rattle.omf_output.specs.Exe.Movable.{first_unmoved}
@@ -185,14 +185,14 @@ module _ (ms : List Member) (plan : Plan) (h : IsPlan ms plan) where
           stack_fits = subst (λ (a : ℕ × ℕ). (a.0 < 2 ^ 16) × (a.1 < 2 ^ 16)) (sym stack_is) s;
         }
 
-    pub is-loaded : (k : ℕ) → All IsBased ms → loaded (exe (linked ms)) k ≡ linked_at k ms
-    is-loaded k b =
+    pub is-loaded : (k : ℕ) → All Holds ms → All IsBased ms → loaded (exe (linked ms)) k ≡ linked_at k ms
+    is-loaded k holds b =
         let n = data_end cs in
         let code_is : code ms ≡ far_pair plan.code = ap (λ r. ok_or (0, 0) r) h.code_is in
         let stack_is : stack_pointer ms ≡ far_pair plan.stack = ap (λ r. ok_or (0, 0) r) h.stack_is in
         programs k n (all_moving ms) (code ms) (stack_pointer ms) (extra n (memory_end (portions ms))) is-program
         ∙ ap₂ (λ (x y : ℕ × ℕ). let l : Loaded = record { address = 16 * k; image = flat (16 * k) n (chunks_at k (all_moving ms)); code = x; stack = y } in l)
-        (ap (λ (x : ℕ × ℕ). ((x.0 + k) % 65536, x.1)) code_is ∙ sym (code-moves k ms (far_pair plan.code) j.moving h.code_is))
+        (ap (λ (x : ℕ × ℕ). ((x.0 + k) % 65536, x.1)) code_is ∙ sym (code-moves k ms (far_pair plan.code) holds j.moving h.code_is))
         (ap (λ (x : ℕ × ℕ). ((x.0 + k) % 65536, x.1)) stack_is ∙ sym (stack-moves k ms (far_pair plan.stack) b h.stack_is))
 
 -- ---- modules without a fault are judged to move
@@ -242,6 +242,9 @@ module _ (ms : List Member) where
 
   pub many-first : (ws : List ℕ) → plain_faults ms ≡ [] → words_from ms [] ≡ Ok ws → nat_lt 65535 (length ws) ≡ true → IsExeFault ms fault.TooMany
   many-first ws e h g = inl (ap₂ (λ a r. slice_get (a ++ few_words r) 0) e h ∙ ap (λ b. slice_get (cond b (fault.TooMany ∷ []) []) 0) g)
+
+  pub exe-none : (ws : List ℕ) → plain_faults ms ≡ [] → words_from ms [] ≡ Ok ws → length ws < 2 ^ 16 → exe_fault ms ≡ None
+  exe-none ws e h l = ap₂ (λ a r. slice_get (a ++ few_words r) 0) e h ∙ ap (λ b. slice_get (cond b (fault.TooMany ∷ []) []) 0) (le-ltb 65535 (length ws) (omega (arith, l)))
 
 -- ---- why a program has no file
 
@@ -318,7 +321,7 @@ module _ (ms : List Member) (plan : Plan) (h : IsPlan ms plan) (p : Program) (i 
     pub program-loaded : CanBeWritten p → AreReady ms → (k : ℕ) → loaded (exe p) k ≡ linked_at k ms
     program-loaded w r k =
         ap (λ q. loaded (exe q) k) program-linked
-        ∙ is-loaded ms plan h p.words j w.few (subst (λ (a : ℕ × ℕ). (a.0 < 2 ^ 16) × (a.1 < 2 ^ 16)) c w.code) (subst (λ (a : ℕ × ℕ). (a.0 < 2 ^ 16) × (a.1 < 2 ^ 16)) s w.stack) k r.are_based
+        ∙ is-loaded ms plan h p.words j w.few (subst (λ (a : ℕ × ℕ). (a.0 < 2 ^ 16) × (a.1 < 2 ^ 16)) c w.code) (subst (λ (a : ℕ × ℕ). (a.0 < 2 ^ 16) × (a.1 < 2 ^ 16)) s w.stack) k r.hold r.are_based
 
 pub plan-none : (ms : List Member) (plan : Plan) → IsPlan ms plan → later_faults ms ≡ []
 plan-none ms plan h =

@@ -9,8 +9,8 @@ use Rattle.omf_reloc.specs.Inner.Pieces.{one_by_one, single_pieces}
 use Rattle.omf_reloc.specs.Plain.{Piece, Kept, Fixed, End, PlainFixup, fixups_in, fixups_of_data, pieces}
 use Rattle.omf_reloc.proofs.SingleLaws.{fixups-same, singles}
 use Rattle.std.specs.Prelude.{flat_map}
-use Rattle.omf_output.specs.Exe.Moved.{Movers, moves}
-use Rattle.omf_output.specs.Exe.Judged.{contents_move, data_moves, pieces_move, start_moves}
+use Rattle.omf_output.specs.Exe.Moved.{Movers}
+use Rattle.omf_output.specs.Exe.Judged.{contents_move, data_moves, main_start_moves, pieces_move, segment_moves}
 use Rattle.omf_output.specs.Exe.Movable.{first_unmoved, located_moves, own_moves, MovingIsDecided}
 use Rattle.omf_output.specs.Inner.Walked.{located_from, segment_after}
 use Rattle.omf_output.specs.Located.{Located}
@@ -60,14 +60,14 @@ module _ (mv : Movers) where
       → (moves_after last (kept_as kind c) && all_after (segment_after (kept_as kind c) last) ps)
       ≡ (pending last (fixups_of_data (kept_as kind c ∷ ps)) && (contents_move mv c (fixups_of_data ps) && pieces_move mv ps))
   kept kind (Plain d) last ps e =
-      ap (λ b. b && all_after (Some d.segment.item) ps) (own-alone (moves mv.segments d.segment.item) last)
-      ∙ ap (λ b. moves mv.segments d.segment.item && b) e
-      ∙ and-assoc (moves mv.segments d.segment.item) (list_all (moves_together mv d.segment.item) (fixups_of_data ps)) (pieces_move mv ps)
+      ap (λ b. b && all_after (Some d.segment.item) ps) (own-alone (segment_moves mv d) last)
+      ∙ ap (λ b. segment_moves mv d && b) e
+      ∙ and-assoc (segment_moves mv d) (list_all (moves_together mv d.segment.item) (fixups_of_data ps)) (pieces_move mv ps)
       ∙ sym (ap (λ b. b && (data_moves mv d (fixups_of_data ps) && pieces_move mv ps)) (pending-none last))
   kept kind (Iterated d) last ps e =
-      ap (λ b. b && all_after (Some d.segment.item) ps) (own-alone (moves mv.segments d.segment.item) last)
-      ∙ ap (λ b. moves mv.segments d.segment.item && b) e
-      ∙ and-assoc (moves mv.segments d.segment.item) (list_all (moves_together mv d.segment.item) (fixups_of_data ps)) (pieces_move mv ps)
+      ap (λ b. b && all_after (Some d.segment.item) ps) (own-alone (segment_moves mv d) last)
+      ∙ ap (λ b. segment_moves mv d && b) e
+      ∙ and-assoc (segment_moves mv d) (list_all (moves_together mv d.segment.item) (fixups_of_data ps)) (pieces_move mv ps)
       ∙ sym (ap (λ b. b && (data_moves mv d (fixups_of_data ps) && pieces_move mv ps)) (pending-none last))
   kept kind _ last ps e = ap (λ b. b && all_after last ps) (own-alone true last) ∙ e
 
@@ -86,8 +86,8 @@ module _ (mv : Movers) where
   in-order last (Kept r ∷ ps) = kept r.kind r.contents last ps (in-order (segment_after (Kept r) last) ps)
   in-order last (Fixed kind fs ∷ ps) = fixed kind fs last ps (in-order last ps)
   in-order last (End kind byte start ∷ ps) =
-      ap (λ b. b && all_after last ps) (own-alone (start_moves mv start) last)
-      ∙ ap (λ b. start_moves mv start && b) (in-order last ps) ∙ and-swap (start_moves mv start) (pending last (fixups_of_data ps)) (pieces_move mv ps)
+      ap (λ b. b && all_after last ps) (own-alone (main_start_moves mv byte start) last)
+      ∙ ap (λ b. main_start_moves mv byte start && b) (in-order last ps) ∙ and-swap (main_start_moves mv byte start) (pending last (fixups_of_data ps)) (pieces_move mv ps)
 
   singles-move : (kind : ℕ) (fs : List PlainFixup) (ps : List Piece) → pieces_move mv (singles kind fs ++ ps) ≡ pieces_move mv ps
   singles-move kind [] ps = refl
@@ -97,7 +97,7 @@ module _ (mv : Movers) where
   single-move [] = refl
   single-move (Kept r ∷ ps) = ap₂ (λ fs b. contents_move mv r.contents fs && b) (fixups-same ps) (single-move ps)
   single-move (Fixed kind fs ∷ ps) = singles-move kind fs (flat_map one_by_one ps) ∙ single-move ps
-  single-move (End kind byte start ∷ ps) = ap (λ b. start_moves mv start && b) (single-move ps)
+  single-move (End kind byte start ∷ ps) = ap (λ b. main_start_moves mv byte start && b) (single-move ps)
 
   abbrev stays : Located → Bool
   stays x = not (located_moves mv x)

@@ -20,11 +20,13 @@ use Rattle.omf_reloc.proofs.InsideLaws.{all-inside}
 use Rattle.omf_reloc.proofs.PatchLaws.{stays_inside}
 use Rattle.omf_reloc.proofs.SingleLaws.{fixups-same, singles}
 use Rattle.omf_reloc.proofs.WalkLaws.{all-left, all-right}
+use Rattle.omf_output.specs.Exe.Filled.{has_any, only_if}
 use Rattle.omf_output.specs.Exe.Moved.{Movers}
 use Rattle.omf_output.specs.Exe.Memory.{AreUncovered, Chunk, IsAway, chunk_words, contents_chunks, flat_words, piece_chunks, segment_address}
 use Rattle.omf_output.specs.Exe.Judged.{ContentsApart, PiecesApart}
 use Rattle.omf_output.specs.Exe.Overlaps.{Open, OverlapsAreFound, all_words, are_clear, opened, opened_after, or_place, with_contents, with_data, with_fixups, with_piece, word_of}
 use Rattle.omf_output.specs.Exe.Relocations.{IsApart, StandApart, site, sites}
+use Rattle.omf_output.proofs.FilledLaws.{none-inside, none-there}
 use Rattle.omf_output.proofs.JudgedLaws.{all-true}
 
 abbrev Beside : ℕ → ℕ → ℕ → Type 0
@@ -255,17 +257,35 @@ module _ (mv : Movers) (pl : Places) (m : List Rec) (inside : AllLieInside pl m)
           (with-chunk chunk cs ws out mid free found.words h, found.apart)
       by false g e = absurd cc
 
+  -- A chunk without bytes has no words.
+  only-adds : (b : Bool) (c : Chunk) (cs : List Chunk) (ws out : List ℕ) → (b ≡ false → c.words ≡ []) → Adds (c ∷ cs) ws out → Adds (only_if b c ++ cs) ws out
+  only-adds true c cs ws out none a = a
+  only-adds false c cs ws out none a = record {
+    words = a.words ∙ ap (λ l. ws ++ (map (λ at. c.address - 0 + at) l ++ flat_words 0 cs)) (none refl);
+    clear = All-tail (AwayFrom ws) c cs a.clear;
+    uncovered = a.uncovered.1;
+  }
+
+  none-sited : (d : DataItem) (fs : List (ℕ × PlainFixup)) → AreInside (length d.bytes) fs → has_any (patched pl d fs) ≡ false → sites mv d.segment.item fs ≡ []
+  none-sited d fs low e =
+      let none = none-there (patched pl d fs) e in
+      ap (sites mv d.segment.item) (none-inside (length d.bytes) fs (sym (stays_inside pl d fs low).size ∙ ap length none) low)
+
   abbrev Result_of : ℕ → Contents → List Piece → List ℕ → List ℕ → Type 0
   Result_of kind c after ws out = Adds (contents_chunks mv pl kind c after ++ chunks_of mv pl after) ws out × ContentsApart mv c (fixups_of_data after)
 
   contents-adds : (before after : List Piece) (r : Rec) (kind : ℕ) (c : Contents) (ws mid out : List ℕ) → pieces m ≡ before ++ Kept r ∷ after → r.contents ≡ c
       → of_contents mv pl kind c (fixups_of_data after) ws ≡ Some mid → Adds (chunks_of mv pl after) mid out → Result_of kind c after ws out
   contents-adds before after r kind (Plain d) ws mid out e f g h =
-      plain-adds d (fixups_of_data after) (chunks_of mv pl after) ws mid out (inside.each_patch before after r d e f).locations g h
+      let fs = fixups_of_data after in
+      let low = (inside.each_patch before after r d e f).locations in
+      let whole = plain-adds d fs (chunks_of mv pl after) ws mid out low g h in
+      (only-adds (has_any (patched pl d fs)) _ (chunks_of mv pl after) ws out (none-sited d fs low) whole.0, whole.1)
   contents-adds before after r kind (Iterated d) ws mid out e f g h =
       let at = segment_address pl d.segment.item + d.offset.item in
       let bytes = expanded (width kind) profile_limits d.bytes in
-      (data-adds at (length bytes) (record { address = at; bytes = bytes; words = [] }) (chunks_of mv pl after) ws mid out refl refl refl g h, tt)
+      let c : Chunk = record { address = at; bytes = bytes; words = [] } in
+      (only-adds (has_any bytes) c (chunks_of mv pl after) ws out (λ n. refl) (data-adds at (length bytes) c (chunks_of mv pl after) ws mid out refl refl refl g h), tt)
   contents-adds before after r kind _ ws mid out e f g h = (subst (λ l. Adds (chunks_of mv pl after) l out) (let same : ws ≡ mid = cc in sym same) h, tt)
 
   abbrev Whole : List Piece → List ℕ → List ℕ → Type 0

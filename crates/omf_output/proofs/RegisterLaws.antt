@@ -13,11 +13,12 @@ use Rattle.omf_placement.specs.declared.frame.Placed.{Placed}
 use Rattle.omf_reloc.specs.Image.{start}
 use Rattle.omf_output.specs.declared.exe.fault.ExeFault.TheVariants as fault
 use Rattle.omf_output.specs.declared.exe.room.Stack.{Stack}
-use Rattle.omf_output.specs.Exe.Based.{IsBased, is_movable, segments_moving}
+use Rattle.omf_output.specs.Exe.Based.{Holds, IsBased, is_movable, segments_moving}
 use Rattle.omf_output.specs.Exe.Linked.{code, in_16_bits, in_registers, is_main, main_start, ok_or, one_start, stack_at, starts}
 use Rattle.omf_output.specs.Exe.Members.{Member, Portion, all_moving, is_stack, joined, member_at, moving, portion, portion_of, portions, portions_in, segdefs, segdefs_in, stack}
 use Rattle.omf_output.specs.Exe.Memory.{ModuleMoves, moved_start}
-use Rattle.omf_output.specs.Exe.Moved.{moved_frame, moved_place, where_moving}
+use Rattle.omf_output.specs.Exe.Moved.{moved, moved_frame, moved_place, where_moving}
+use Rattle.omf_output.proofs.MainLaws.{main-starts}
 use Rattle.omf_output.proofs.StartMoves.{start-moves}
 
 abbrev pub is_free : ℕ × SegmentItem → Bool
@@ -42,22 +43,22 @@ module _ (k : ℕ) where
 
   -- ---- the start
 
-  start-if : (b : Bool) (o : Option (ℕ × ℕ)) → cond b (option_map (moved_start k) o) None ≡ option_map (moved_start k) (cond b o None)
-  start-if true o = refl
-  start-if false o = refl
-
-  main-moves : (m : Member) → ModuleMoves (moving m) → main_start (member_at k m) ≡ option_map (moved_start k) (main_start m)
-  main-moves m h =
-      let b = is_main (last (recs_of m.bytes)) in
-      ap (λ o. cond b o None) (start-moves k (moving m) h) ∙ start-if b (start m.places (recs_of m.bytes))
+  main-moves : (m : Member) → Holds m → ModuleMoves (moving m) → main_start (member_at k m) ≡ option_map (moved_start k) (main_start m)
+  main-moves m holds h = by (is_main (last (recs_of m.bytes))) refl
+    where
+      by : (b : Bool) → is_main (last (recs_of m.bytes)) ≡ b
+          → cond b (start (moved k m.movers m.places) (recs_of m.bytes)) None ≡ option_map (moved_start k) (cond b (start m.places (recs_of m.bytes)) None)
+      by true e = start-moves k (moving m) h (main-starts (moving m) holds e h)
+      by false e = refl
 
   abbrev moved_entry : ℕ × (ℕ × ℕ) → ℕ × (ℕ × ℕ)
   moved_entry s = (s.0, moved_start k s.1)
 
-  starts-move : (ms : List Member) → All ModuleMoves (all_moving ms) → starts (at_k ms) ≡ map moved_entry (starts ms)
-  starts-move [] h = refl
-  starts-move (m ∷ ms) h =
-      ap₂ (λ o xs. cons_option (option_map (λ s. (m.number, s)) o) xs) (main-moves m (All-head ModuleMoves (moving m) (all_moving ms) h)) (starts-move ms (All-tail ModuleMoves (moving m) (all_moving ms) h))
+  starts-move : (ms : List Member) → All Holds ms → All ModuleMoves (all_moving ms) → starts (at_k ms) ≡ map moved_entry (starts ms)
+  starts-move [] holds h = refl
+  starts-move (m ∷ ms) holds h =
+      ap₂ (λ o xs. cons_option (option_map (λ s. (m.number, s)) o) xs) (main-moves m (All-head Holds m ms holds) (All-head ModuleMoves (moving m) (all_moving ms) h))
+      (starts-move ms (All-tail Holds m ms holds) (All-tail ModuleMoves (moving m) (all_moving ms) h))
       ∙ by (main_start m)
     where
       by : (o : Option (ℕ × ℕ)) → cons_option (option_map (λ s. (m.number, s)) (option_map (moved_start k) o)) (map moved_entry (starts ms))
@@ -74,11 +75,11 @@ module _ (k : ℕ) where
       by false f = absurd cc
   one-moves (s ∷ t ∷ more) a e = absurd cc
 
-  pub code-at : (ms : List Member) (a : ℕ × ℕ) → All ModuleMoves (all_moving ms) → one_start (starts ms) ≡ Ok a → code (at_k ms) ≡ moved_start k a
-  code-at ms a h e = ap (λ r. ok_or (0, 0) r) (ap one_start (starts-move ms h) ∙ one-moves (starts ms) a e)
+  pub code-at : (ms : List Member) (a : ℕ × ℕ) → All Holds ms → All ModuleMoves (all_moving ms) → one_start (starts ms) ≡ Ok a → code (at_k ms) ≡ moved_start k a
+  code-at ms a holds h e = ap (λ r. ok_or (0, 0) r) (ap one_start (starts-move ms holds h) ∙ one-moves (starts ms) a e)
 
-  pub code-moves : (ms : List Member) (a : ℕ × ℕ) → All ModuleMoves (all_moving ms) → one_start (starts ms) ≡ Ok a → in_16_bits (code (at_k ms)) ≡ ((a.0 + k) % 65536, a.1)
-  code-moves ms a h e = ap in_16_bits (code-at ms a h e)
+  pub code-moves : (ms : List Member) (a : ℕ × ℕ) → All Holds ms → All ModuleMoves (all_moving ms) → one_start (starts ms) ≡ Ok a → in_16_bits (code (at_k ms)) ≡ ((a.0 + k) % 65536, a.1)
+  code-moves ms a holds h e = ap in_16_bits (code-at ms a holds h e)
 
   -- ---- the segments
 

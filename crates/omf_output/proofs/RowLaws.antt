@@ -21,7 +21,7 @@ f = fixup 0xC801 F5 (T0 1)
 
 record-moves : RecordMoves at_0.movers at_0.places item (f ∷ [])
 record-moves = record {
-  segment = refl;
+  segment = λ e. refl;
   inside = All-cons (λ g. location_end g ≤ 4) f [] (omega arith) (All-nil (λ g. location_end g ≤ 4));
   together = All-cons (λ g. moves_together at_0.movers 1 g ≡ true) f [] refl (All-nil (λ g. moves_together at_0.movers 1 g ≡ true));
   reached = All-cons (λ g. IsOk (outcome at_0.places item g)) f [] refl (All-nil (λ g. IsOk (outcome at_0.places item g)));
@@ -33,7 +33,7 @@ chunk = record { address = 0; bytes = 0xB8 ∷ 0 ∷ 0 ∷ 0xCB ∷ []; words = 
 
 pub is-program : IsProgram 4 (at_0 ∷ []) (0, 0) (0, 256)
 is-program = record {
-  moving = All-cons ModuleMoves at_0 [] (record { movers = record { segments = refl; groups = refl; externals = refl }; pieces = (tt, (record-moves, (tt, ((refl, refl), tt)))) }) (All-nil ModuleMoves);
+  moving = All-cons ModuleMoves at_0 [] (record { movers = record { segments = refl; groups = refl; externals = refl }; pieces = (tt, (record-moves, (tt, (λ main. (refl, refl), tt)))) }) (All-nil ModuleMoves);
   lying = All-cons (LiesIn 0 4) chunk [] (record { above = omega arith; below = omega arith; words = All-cons (λ w. w + 2 ≤ 4) 1 [] (omega arith) (All-nil (λ w. w + 2 ≤ 4)) }) (All-nil (LiesIn 0 4));
   uncovered = (All-cons (λ w. All (λ (e : Chunk). (0 + w + 2 ≤ e.address) ⊎ (e.address + length e.bytes ≤ 0 + w)) []) 1 [] (All-nil (λ (e : Chunk). (3 ≤ e.address) ⊎ (e.address + length e.bytes ≤ 1))) (All-nil (λ w. All (λ (e : Chunk). (0 + w + 2 ≤ e.address) ⊎ (e.address + length e.bytes ≤ 0 + w)) [])), tt);
   short = omega arith;

@@ -25,7 +25,7 @@ use Rattle.omf_reloc.proofs.ReachLaws.{reach-decided}
 use Rattle.omf_output.specs.declared.exe.movers.Moving.{Moving}
 use Rattle.omf_output.specs.Exe.Moved.{Movers, AreMoversOf, moved, moved_frame, moved_place, moving_of, parted_place, where_moving, where_parted}
 use Rattle.omf_output.specs.Exe.Relocations.{moves_together, more, selector_moving}
-use Rattle.omf_output.specs.Exe.Memory.{AreTogether, ContentsMove, PieceMoves, PiecesMove, StartMoves, moved_start}
+use Rattle.omf_output.specs.Exe.Memory.{AllStart, AreTogether, ContentsMove, PieceMoves, PieceStarts, PiecesMove, StartMoves, moved_start}
 use Rattle.omf_output.specs.Exe.Laws.{PlacementsReach, StartsMove}
 use Rattle.omf_output.proofs.OutcomeMoves.{offsets-move, outcomes}
 use Rattle.omf_output.proofs.PlaceMoves.{place_moves}
@@ -70,15 +70,15 @@ module _ (k : ℕ) (mv : Movers) (pl : Places) (h : AreMoversOf mv pl) where
       ap₂ (λ q p. if_named (start_in w r.displacement) (option_zip (option_map (λ x. x.frame) q) p)) (place_moves k mv pl h source) (place_moves k mv pl h r.target)
       ∙ start-named k w r.displacement (moving_of mv source) (moving_of mv r.target) (place_of pl source) (place_of pl r.target) m.0 m.1
 
-  start-in : (p : Piece) (after : List Piece) → PieceMoves mv pl p after → piece_start (moved k mv pl) p ≡ map (moved_start k) (piece_start pl p)
-  start-in (Kept r) after m = refl
-  start-in (Fixed kind fixups) after m = refl
-  start-in (End kind byte None) after m = refl
-  start-in (End kind byte (Some r)) after m = ap (λ o. option_to_list (result_ok o)) (start-at kind r m) ∙ listed k (start_outcome pl kind r)
+  start-in : (p : Piece) → PieceStarts mv p → piece_start (moved k mv pl) p ≡ map (moved_start k) (piece_start pl p)
+  start-in (Kept r) m = refl
+  start-in (Fixed kind fixups) m = refl
+  start-in (End kind byte None) m = refl
+  start-in (End kind byte (Some r)) m = ap (λ o. option_to_list (result_ok o)) (start-at kind r m) ∙ listed k (start_outcome pl kind r)
 
-  starts-in : (ps : List Piece) → PiecesMove mv pl ps → starts (moved k mv pl) ps ≡ map (moved_start k) (starts pl ps)
+  starts-in : (ps : List Piece) → AllStart mv ps → starts (moved k mv pl) ps ≡ map (moved_start k) (starts pl ps)
   starts-in [] m = refl
-  starts-in (p ∷ ps) m = ap₂ (λ xs ys. xs ++ ys) (start-in p ps m.0) (starts-in ps m.1) ∙ sym (map-append (moved_start k) (piece_start pl p) (starts pl ps))
+  starts-in (p ∷ ps) m = ap₂ (λ xs ys. xs ++ ys) (start-in p m.0) (starts-in ps m.1) ∙ sym (map-append (moved_start k) (piece_start pl p) (starts pl ps))
 
   -- ---- a placement that reaches
 
@@ -100,15 +100,15 @@ module _ (k : ℕ) (mv : Movers) (pl : Places) (h : AreMoversOf mv pl) where
   contents-causes (Iterated d) after m = causes-of d (fixups_of_data after) m.1
   contents-causes _ after m = refl
 
-  piece-cause : (p : Piece) (after : List Piece) → PieceMoves mv pl p after → piece_causes (moved k mv pl) p after ≡ piece_causes pl p after
-  piece-cause (Kept r) after m = contents-causes r.contents after m
-  piece-cause (Fixed kind fixups) after m = refl
-  piece-cause (End kind byte None) after m = refl
-  piece-cause (End kind byte (Some r)) after m = ap (λ c. c ∷ []) (ap result_err (start-at kind r m) ∙ same-start-cause k (start_outcome pl kind r))
+  piece-cause : (p : Piece) (after : List Piece) → PieceMoves mv pl p after → PieceStarts mv p → piece_causes (moved k mv pl) p after ≡ piece_causes pl p after
+  piece-cause (Kept r) after m s = contents-causes r.contents after m
+  piece-cause (Fixed kind fixups) after m s = refl
+  piece-cause (End kind byte None) after m s = refl
+  piece-cause (End kind byte (Some r)) after m s = ap (λ c. c ∷ []) (ap result_err (start-at kind r s) ∙ same-start-cause k (start_outcome pl kind r))
 
-  all-causes : (ps : List Piece) → PiecesMove mv pl ps → causes (moved k mv pl) ps ≡ causes pl ps
-  all-causes [] m = refl
-  all-causes (p ∷ ps) m = ap₂ (λ xs ys. xs ++ ys) (piece-cause p ps m.0) (all-causes ps m.1)
+  all-causes : (ps : List Piece) → PiecesMove mv pl ps → AllStart mv ps → causes (moved k mv pl) ps ≡ causes pl ps
+  all-causes [] m s = refl
+  all-causes (p ∷ ps) m s = ap₂ (λ xs ys. xs ++ ys) (piece-cause p ps m.0 s.0) (all-causes ps m.1 s.1)
 
 length-moving : {A : Type 0} (f : A → A) (bs : List Bool) (xs : List A) → length (where_moving f bs xs) ≡ length xs
 length-moving f [] xs = refl
@@ -133,10 +133,10 @@ stays-by f true bs xs i x e h = stays-at f bs xs i x e h
 stays-by f false bs xs i x e h = h
 
 pub start-moves : StartsMove
-start-moves k m h = ap last (starts-in k m.movers m.places h.movers (pieces m.records) h.pieces) ∙ last-map (moved_start k) None (starts m.places (pieces m.records))
+start-moves k m h s = ap last (starts-in k m.movers m.places h.movers (pieces m.records) s) ∙ last-map (moved_start k) None (starts m.places (pieces m.records))
 
 pub placements-reach : PlacementsReach
-placements-reach k m h stay reached =
+placements-reach k m h s stay reached =
     let pl = m.places in
     let mv = m.movers in
     let r = (reach-decided pl m.records).decided.0 reached in
@@ -147,5 +147,5 @@ placements-reach k m h stay reached =
         external_count = length-parted k mv.externals pl.externals ∙ r.fits.external_count;
         absolute = λ i number offset info e f. stays-by (moved_place k) (nat_le 1 i) mv.segments pl.segments (i - 1) (absolute_place number offset) (stay i number offset info e f) (r.fits.absolute i number offset info e f);
       };
-      each = All-same (λ c. c ≡ None) (causes (moved k mv pl) (pieces m.records)) (causes pl (pieces m.records)) (all-causes k mv pl h.movers (pieces m.records) h.pieces) r.each;
+      each = All-same (λ c. c ≡ None) (causes (moved k mv pl) (pieces m.records)) (causes pl (pieces m.records)) (all-causes k mv pl h.movers (pieces m.records) h.pieces s) r.each;
     })

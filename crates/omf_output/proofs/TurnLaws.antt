@@ -10,12 +10,15 @@ use Rattle.omf_records.specs.Values.{Contents, DataItem, Plain, Iterated, width}
 use Rattle.omf_image.specs.Inner.Expanding.{expanded}
 use Rattle.omf_image.specs.Limits.{profile_limits}
 use Rattle.omf_placement.specs.Placement.{Places}
+use Rattle.omf_reloc.specs.Image.{patched}
 use Rattle.omf_reloc.specs.Laws.{AreInside, location_end}
 use Rattle.omf_reloc.specs.Plain.{Piece, Kept, Fixed, End, PlainFixup, fixups_of_data, pieces}
 use Rattle.omf_reloc.proofs.PatchLaws.{stays_inside}
+use Rattle.omf_output.specs.Exe.Filled.{has_any}
 use Rattle.omf_output.specs.Exe.Moved.{AreMoversOf, Movers}
 use Rattle.omf_output.specs.Exe.Relocations.{site, sites}
 use Rattle.omf_output.proofs.DataMoves.{site-inside}
+use Rattle.omf_output.proofs.FilledLaws.{all-only}
 use Rattle.omf_reloc.proofs.WalkLaws.{all-left, all-right}
 use Rattle.omf_output.specs.Exe.Judged.{PiecesApart}
 use Rattle.omf_output.specs.Exe.Memory.{ContentsMove, PieceMoves, PiecesMove, contents_chunks, piece_chunks, AreUncovered, Chunk, IsAway, ModuleMoves, MovingModule, all_chunks, chunk_words, chunks, flat_words}
@@ -98,10 +101,9 @@ module _ (mv : Movers) (pl : Places) (h : AreMoversOf mv pl) where
   contents-in : (kind : ℕ) (c : Contents) (after : List Piece) → ContentsMove mv pl c after → All HasItsWords (contents_chunks mv pl kind c after)
   contents-in kind (Plain d) after r =
       let fs = fixups_of_data after in
-      All-cons HasItsWords _ []
+      all-only HasItsWords (has_any (patched pl d fs)) _
       (subst (λ n. All (λ at. at + 2 ≤ n) (sites mv d.segment.item fs)) (sym (stays_inside pl d fs r.inside).size) (sites-in d (length d.bytes) fs r.inside))
-      (All-nil HasItsWords)
-  contents-in kind (Iterated d) after r = All-cons HasItsWords _ [] (All-nil (λ at. at + 2 ≤ length (expanded (width kind) profile_limits d.bytes))) (All-nil HasItsWords)
+  contents-in kind (Iterated d) after r = all-only HasItsWords (has_any (expanded (width kind) profile_limits d.bytes)) _ (All-nil (λ at. at + 2 ≤ length (expanded (width kind) profile_limits d.bytes)))
   contents-in kind _ after r = All-nil HasItsWords
 
   piece-in : (p : Piece) (after : List Piece) → PieceMoves mv pl p after → All HasItsWords (piece_chunks mv pl p after)

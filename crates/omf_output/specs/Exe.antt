@@ -1,3 +1,4 @@
+pub mod Filled
 pub mod Moved
 pub mod Relocations
 pub mod Loading

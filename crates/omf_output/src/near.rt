@@ -9,11 +9,13 @@ ghost use Rattle.omf_records.specs.Inner.Names.{location_number, self_relative_b
 ghost use Rattle.std.specs.List.{list_any};
 ghost use Rattle.omf_reloc.specs.Inner.Pieces.{placed_pieces};
 ghost use Rattle.omf_reloc.specs.Inner.Widths.{fixupp_type};
-ghost use Rattle.omf_output.specs.Near.{bases, first_near, first_stray, group_of, has_stray, is_near, is_within, stray_in, strays};
+ghost use Rattle.omf_output.specs.Near.{bases, first_near, first_stray, group_of, has_stray, is_near, is_within, shared_base, stray_in, strays};
 
+mod frames;
 mod owners;
 
 use crate::located::{Located, located_of};
+use crate::near::frames::GroupFrames;
 use crate::near::owners::Owners;
 use omf_check::Checked;
 use omf_frame::{Place, Width};
@@ -31,11 +33,12 @@ pub struct Stray {
     pub place: Place,
 }
 
-/// A module with the groups of its segments, at its placement.
+/// A module with the groups of its segments, at its placement, and all modules with the frames of their groups.
 #[derive(Clone, Copy)]
-struct Part<'a> {
-    owners: &'a Owners<'a>,
-    placement: &'a Placement,
+struct Part<'p, 'a> {
+    all: &'p GroupFrames<'a>,
+    owners: &'p Owners<'a>,
+    placement: &'p Placement,
 }
 
 /// Returns whether a self-relative offset at a location of this type has 16 bits.
@@ -73,7 +76,7 @@ fn is_in(width: Width, fixup: &PlainFixup, address: u32, base: Option<u32>) -> b
 }
 
 /// Returns the base of the frame of a segment.
-fn own_base(part: &Part<'_>, segment: u16) -> Option<u32>
+fn own_base(part: &Part<'_, '_>, segment: u16) -> Option<u32>
     ensures { result ≡ option_map (λ p. p.frame.base) (entry part.now.placement.now.segments segment) }
 {
     let place = part.placement.segment(usize::from(segment))?;
@@ -81,7 +84,7 @@ fn own_base(part: &Part<'_>, segment: u16) -> Option<u32>
 }
 
 /// Returns the base of the frame of a segment's group.
-fn group_base(part: &Part<'_>, segment: u16) -> Option<u32>
+fn group_base(part: &Part<'_, '_>, segment: u16) -> Option<u32>
     ensures { result ≡ option_map (λ f. f.base) (option_and_then (λ g. entry part.now.placement.now.groups g) (group_of (recs_of part.now.owners.now.bytes) segment)) }
 {
     let group = part.owners.group_of(segment)?;
@@ -89,17 +92,31 @@ fn group_base(part: &Part<'_>, segment: u16) -> Option<u32>
     Some(frame.base)
 }
 
+/// Returns the base of the frame of the first group of all modules that has a part of a segment.
+fn shared_base(part: &Part<'_, '_>, segment: u16) -> Option<u32>
+    ensures { result ≡ shared_base part.now.all.now (recs_of part.now.owners.now.bytes) segment }
+{
+    part.all.base_of(part.owners.module(), segment)
+}
+
 /// Returns whether the target of a fixup of data in a segment, at an address, is in a frame in which the code there may run.
-fn is_at_home(part: &Part<'_>, segment: u16, width: Width, fixup: &PlainFixup, address: u32) -> bool
-    ensures { result ≡ list_any (is_within (fixupp_type width, fixup.now) address) (bases (recs_of part.now.owners.now.bytes, part.now.placement.now) segment) }
+fn is_at_home(
+    part: &Part<'_, '_>,
+    segment: u16,
+    width: Width,
+    fixup: &PlainFixup,
+    address: u32,
+) -> bool
+    ensures { result ≡ list_any (is_within (fixupp_type width, fixup.now) address) (bases part.now.all.now (recs_of part.now.owners.now.bytes, part.now.placement.now) segment) }
 {
     is_in(width, fixup, address, own_base(part, segment))
         || is_in(width, fixup, address, group_base(part, segment))
+        || is_in(width, fixup, address, shared_base(part, segment))
 }
 
 /// Returns whether a fixup of data in a segment is a near reference into another frame.
-fn strays(part: &Part<'_>, segment: u16, width: Width, fixup: &PlainFixup) -> bool
-    ensures { result ≡ strays (recs_of part.now.owners.now.bytes, part.now.placement.now) segment (fixupp_type width, fixup.now) }
+fn strays(part: &Part<'_, '_>, segment: u16, width: Width, fixup: &PlainFixup) -> bool
+    ensures { result ≡ strays part.now.all.now (recs_of part.now.owners.now.bytes, part.now.placement.now) segment (fixupp_type width, fixup.now) }
 {
     if !is_near(fixup) {
         return false;
@@ -111,8 +128,8 @@ fn strays(part: &Part<'_>, segment: u16, width: Width, fixup: &PlainFixup) -> bo
 }
 
 /// Returns whether a piece has such a fixup.
-fn has_stray(part: &Part<'_>, located: &Located<'_>) -> bool
-    ensures { result ≡ has_stray (recs_of part.now.owners.now.bytes, part.now.placement.now) located.now }
+fn has_stray(part: &Part<'_, '_>, located: &Located<'_>) -> bool
+    ensures { result ≡ has_stray part.now.all.now (recs_of part.now.owners.now.bytes, part.now.placement.now) located.now }
 {
     match (&located.piece, located.segment) {
         (Piece::Fixed { width, fixup }, Some(segment)) => strays(part, segment, *width, fixup),
@@ -121,8 +138,8 @@ fn has_stray(part: &Part<'_>, located: &Located<'_>) -> bool
 }
 
 /// Returns the place of a module's first such fixup.
-fn first_stray(part: &Part<'_>) -> Option<Place>
-    ensures { result ≡ first_stray (recs_of part.now.owners.now.bytes, part.now.placement.now) (placed_pieces (placed_from 0 0 (records_in part.now.owners.now.bytes))) }
+fn first_stray(part: &Part<'_, '_>) -> Option<Place>
+    ensures { result ≡ first_stray part.now.all.now (recs_of part.now.owners.now.bytes, part.now.placement.now) (placed_pieces (placed_from 0 0 (records_in part.now.owners.now.bytes))) }
 {
     for located in located_of(part.owners.module()) {
         if has_stray(part, &located) {
@@ -133,16 +150,18 @@ fn first_stray(part: &Part<'_>) -> Option<Place>
 }
 
 /// Returns the first such fixup of a module with this number.
-fn stray_in(
+fn stray_in<'a>(
     alloc: Global,
+    all: &GroupFrames<'a>,
     number: u32,
-    module: &Checked,
+    module: &'a Checked,
     placement: &Placement,
 ) -> Result<Option<Stray>, AllocError>
-    ensures { IfOk result (λ o. o ≡ stray_in number «module».now placement.now) }
+    ensures { IfOk result (λ o. o ≡ stray_in all.now number «module».now placement.now) }
 {
     let owners = Owners::of(alloc, module)?;
     let part = Part {
+        all,
         owners: &owners,
         placement,
     };
@@ -155,9 +174,9 @@ fn stray_in(
     }
 }
 
-/// Returns the first self-relative fixup of 16 bits, in the order of the modules and of their fixups, whose target has no 16-bit offset in the
-/// frame of the segment of its location, nor in the frame of the first group of its module that has this segment. A near call or jump there leads
-/// elsewhere, unless the code runs in the frame of a group that only another module gives the combined segment.
+/// Returns the first self-relative fixup of 16 bits, in the order of the modules and of their fixups, whose target has no 16-bit offset in a frame in which
+/// the code at its location may run: the frame of the segment of its location; that of the first group of its module that has this segment; or, if others of
+/// its name and class are joined with it, that of the first group of all modules that has one of them. A near call or jump there leads elsewhere.
 ///
 /// # Errors
 ///
@@ -171,8 +190,9 @@ pub fn first_near(
     requires placed { length placements.now ≡ length modules.now }
     ensures { IfOk result (λ o. o ≡ first_near modules.now placements.now) }
 {
+    let all = GroupFrames::of(alloc, modules, placements)?;
     for (j, module) in modules.iter().enumerate() {
-        if let Some(found) = stray_in(alloc, j as u32, module, &placements[j])? {
+        if let Some(found) = stray_in(alloc, &all, j as u32, module, &placements[j])? {
             return Ok(Some(found));
         }
     }

@@ -1,15 +1,14 @@
--- What moves of the segments and groups of a module, by its records (this profile's rule).
+-- What moves of the segments of a module, by its records (this profile's rule).
 use Rattle.std.specs.Prelude.{◌≡◌, ℕ, List, [], ◌∷◌, length, map, Bool, true, false, ◌==◌, ◌&&◌, Option, Some, None, if◌then◌else◌}
-use Rattle.std.specs.List.{list_all}
-use Rattle.omf_records.specs.Values.{GroupItem, Rec}
+use Rattle.omf_records.specs.Values.{Rec}
 use Rattle.omf_check.specs.Module.{recs_of}
-use Rattle.omf_check.specs.Tables.{groups, segments}
+use Rattle.omf_check.specs.Tables.{segments}
 use Rattle.omf_check.specs.Threads.{same}
 use Rattle.omf_check.specs.Sound.{ModuleHolds}
 use Rattle.omf_image.specs.Limits.{profile_limits}
 use Rattle.omf_reloc.specs.Reach.{Reaches}
 use Rattle.omf_output.specs.Exe.Members.{Member}
-use Rattle.omf_output.specs.Exe.Moved.{AreMoversOf, moves}
+use Rattle.omf_output.specs.Exe.Moved.{AreMoversOf}
 
 -- A segment moves unless it is absolute.
 abbrev pub is_movable : Option (ℕ × ℕ) → Bool
@@ -18,13 +17,6 @@ is_movable (Some frame) = false
 
 abbrev pub segments_moving : List Rec → List Bool
 segments_moving m = map (λ s. is_movable s.absolute) (segments m)
-
--- A group moves where all its members do.
-abbrev pub group_moving : List Rec → GroupItem → Bool
-group_moving m g = list_all (λ x. moves (segments_moving m) x.item.item) g.members
-
-abbrev pub groups_moving : List Rec → List Bool
-groups_moving m = map (group_moving m) (groups m)
 
 -- The movers of a module show for each entry of its placement whether it moves, and its segments move unless they are absolute.
 pub record IsBased (m : Member) : Type 0 where

@@ -20,11 +20,11 @@ use Rattle.omf_output.specs.declared.exe.movers.Moving.{Moving}
 use Rattle.omf_output.specs.Exe.Based.{segments_moving}
 use Rattle.omf_output.specs.Exe.Moved.{Movers, both}
 
--- ---- groups: the groups of one name, over all modules, are one, and move exactly if their lowest member does
+-- ---- groups: the groups of one name, over all modules, are one, and move exactly if the member with the lowest frame does
 
--- The place of a segment, with a mark in its frame: the selector is 1 if the segment moves, and 0 if not.
+-- The place at the start of a segment's frame, with a mark: the selector is 1 if the segment moves, and 0 if not.
 abbrev pub marked : Bool × Placed → Placed
-marked x = record { address = x.1.address; frame = record { base = 0; selector = if x.0 then 1 else 0 } }
+marked x = record { address = x.1.frame.base; frame = record { base = 0; selector = if x.0 then 1 else 0 } }
 
 abbrev pub marks : PlacedModule → List Placed
 marks m = map marked (zip (segments_moving m.0) m.1.segments)
@@ -36,7 +36,7 @@ name_at m i = unwrap_or (entry (names m) i) []
 abbrev pub Named : Type 0
 Named = List ℕ × Placed
 
--- The marked place of a group's lowest member, with the group's name; none for a group without members.
+-- The marked place of the member of a group that has the lowest frame, with the group's name; none for a group without members.
 abbrev pub low_of : List Rec → List Placed → GroupItem → Option Named
 low_of m xs g = option_map (λ p. (name_at m g.name.item, p)) (option_and_then lowest (members_placed xs g.members))
 
@@ -52,7 +52,7 @@ value_of name x = if bytes_eq name x.0 then Some x.1 else None
 abbrev pub of_name : List Named → List ℕ → List Placed
 of_name ls name = filter_map (value_of name) ls
 
--- Whether the groups of a name move: the mark of the lowest member of any of them. Those without members do not.
+-- Whether the groups of a name move: the mark of the member of any of them that has the lowest frame. Those without members do not.
 abbrev pub is_marked : Option Placed → Bool
 is_marked None = false
 is_marked (Some p) = p.frame.selector == 1

@@ -1,5 +1,5 @@
 -- Laws over the definitions, each the contract of a function of the same name.
-use Rattle.std.specs.Prelude.{◌≡◌, ℕ, ◌+◌, ◌*◌, ◌%◌, ◌≤◌, List, length, map, option_map, All, IsOk, true}
+use Rattle.std.specs.Prelude.{◌≡◌, ℕ, ◌+◌, ◌*◌, ◌%◌, ◌≤◌, List, length, map, flat_map, option_map, All, IsOk, true}
 use Rattle.omf_records.specs.Values.{DataItem, Rec}
 use Rattle.omf_image.specs.Limits.{profile_limits}
 use Rattle.omf_placement.specs.Placement.{Places}
@@ -12,7 +12,7 @@ use Rattle.omf_reloc.specs.Plain.{PlainFixup, pieces}
 use Rattle.omf_output.specs.Exe.Moved.{Movers, AreMoversOf, moved}
 use Rattle.omf_output.specs.Exe.Loading.{Loaded, loaded}
 use Rattle.omf_output.specs.Exe.Exe.{Program, CanBeWritten, exe}
-use Rattle.omf_output.specs.Exe.Memory.{Chunk, MovingModule, ModuleMoves, LiesIn, AreUncovered, all_chunks, chunks, chunks_at, flat, flat_words, lying, moved_chunk, program, IsProgram, moved_start, AbsoluteStay}
+use Rattle.omf_output.specs.Exe.Memory.{Chunk, MovingModule, ModuleMoves, LiesIn, AreUncovered, all_chunks, chunks, chunks_at, flat, flat_words, lying, with_bytes, moved_chunk, program, AllStart, IsProgram, moved_start, AbsoluteStay}
 use Rattle.omf_output.specs.Exe.Judged.{PiecesApart, pieces_move}
 use Rattle.omf_check.specs.Sound.{ModuleHolds}
 use Rattle.omf_output.specs.Exe.Words.{AreApart, AreMoved}
@@ -39,9 +39,9 @@ loaded_program p k = record { address = 16 * k; image = words_moved k p.words p.
 abbrev pub FilesAreLoaded : Type 0
 FilesAreLoaded = (p : Program) (k : ℕ) → CanBeWritten p → loaded (exe p) k ≡ loaded_program p k
 
--- The chunks of a module are what it lays, at its segments' addresses.
+-- The chunks of a module are what it lays, at its segments' addresses, where there are bytes.
 abbrev pub ChunksAreLaid : Type 0
-ChunksAreLaid = (mv : Movers) (pl : Places) (m : List Rec) → map (λ c. (c.address, c.bytes)) (chunks mv pl m) ≡ map (lying pl) (laid profile_limits pl (pieces m))
+ChunksAreLaid = (mv : Movers) (pl : Places) (m : List Rec) → map (λ c. (c.address, c.bytes)) (chunks mv pl m) ≡ flat_map with_bytes (map (lying pl) (laid profile_limits pl (pieces m)))
 
 -- Modules that move: their chunks at the placements moved by k paragraphs are their chunks, moved.
 abbrev pub ChunksMove : Type 0
@@ -58,13 +58,13 @@ ProgramsAreLoaded = (k n : ℕ) (ms : List MovingModule) (code stack : ℕ × �
     → loaded (exe (program n ms code stack extra)) k
     ≡ record { address = 16 * k; image = flat (16 * k) n (chunks_at k ms); code = ((code.0 + k) % 65536, code.1); stack = ((stack.0 + k) % 65536, stack.1) }
 
--- The start of a module that moves is its start, k paragraphs higher.
+-- The start of a module that moves with its start is its start, k paragraphs higher.
 abbrev pub StartsMove : Type 0
-StartsMove = (k : ℕ) (m : MovingModule) → ModuleMoves m → start (moved k m.movers m.places) m.records ≡ option_map (moved_start k) (start m.places m.records)
+StartsMove = (k : ℕ) (m : MovingModule) → ModuleMoves m → AllStart m.movers (pieces m.records) → start (moved k m.movers m.places) m.records ≡ option_map (moved_start k) (start m.places m.records)
 
--- The placement of a module that moves, moved by k paragraphs, reaches where the placement does.
+-- The placement of a module that moves with its start, moved by k paragraphs, reaches where the placement does.
 abbrev pub PlacementsReach : Type 0
-PlacementsReach = (k : ℕ) (m : MovingModule) → ModuleMoves m → AbsoluteStay m.movers m.records → Reaches m.places m.records → Reaches (moved k m.movers m.places) m.records
+PlacementsReach = (k : ℕ) (m : MovingModule) → ModuleMoves m → AllStart m.movers (pieces m.records) → AbsoluteStay m.movers m.records → Reaches m.places m.records → Reaches (moved k m.movers m.places) m.records
 
 -- A well-formed module that is judged to move, at a placement that reaches, moves.
 abbrev pub JudgedMove : Type 0

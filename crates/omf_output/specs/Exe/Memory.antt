@@ -1,5 +1,5 @@
 -- The image of several modules from an address on, and the words of it that move.
-use Rattle.std.specs.Prelude.{◌≡◌, ◌⊎◌, ℕ, ◌+◌, ◌-◌, ◌*◌, ◌≤◌, List, [], ◌∷◌, ◌++◌, ◌<◌, ◌^◌, length, take, drop, map, max, flat_map, fold, replicate, All, IsOk, Option, Some, None, option_map, unwrap_or, true, false, ⊤}
+use Rattle.std.specs.Prelude.{◌≡◌, ◌⊎◌, ℕ, ◌+◌, ◌-◌, ◌*◌, ◌≤◌, List, [], ◌∷◌, ◌++◌, ◌<◌, ◌^◌, length, take, drop, map, max, flat_map, fold, replicate, All, IsOk, Option, Some, None, option_map, unwrap_or, nat_le, true, false, ⊤}
 use Rattle.omf_frame.specs.Bytes.{with_after}
 use Rattle.omf_records.specs.Values.{Rec, Contents, Plain, Iterated, DataItem, width}
 -- computed: blocks_are_read and lengths_are_decided of omf_image.
@@ -15,6 +15,7 @@ use Rattle.omf_reloc.specs.Plain.{Piece, Kept, Fixed, End, PlainFixup, pieces, f
 use Rattle.omf_check.specs.Tables.{entry, segments}
 use Rattle.omf_check.specs.declared.segment.SegInfo.{SegInfo}
 use Rattle.omf_output.specs.Exe.Exe.{Program}
+use Rattle.omf_output.specs.Exe.Filled.{has_any, only_if}
 use Rattle.omf_output.specs.Exe.Moved.{Movers, AreMoversOf, moved, moves, frame_moves, target_moves}
 use Rattle.omf_output.specs.Exe.Relocations.{moves_together, sites, words_moved, StandApart}
 
@@ -35,12 +36,14 @@ chunk_end c = c.address + length c.bytes
 abbrev pub data_end : List Chunk → ℕ
 data_end cs = fold max 0 (map chunk_end cs)
 
--- What each data record of a module lays, in file order.
+-- What each data record of a module lays, in file order: one without bytes lays nothing.
 abbrev pub contents_chunks : Movers → Places → ℕ → Contents → List Piece → List Chunk
 contents_chunks mv pl kind (Plain d) after =
-    record { address = segment_address pl d.segment.item + d.offset.item; bytes = patched pl d (fixups_of_data after); words = sites mv d.segment.item (fixups_of_data after) } ∷ []
+    only_if (has_any (patched pl d (fixups_of_data after)))
+    (record { address = segment_address pl d.segment.item + d.offset.item; bytes = patched pl d (fixups_of_data after); words = sites mv d.segment.item (fixups_of_data after) })
 contents_chunks mv pl kind (Iterated d) after =
-    record { address = segment_address pl d.segment.item + d.offset.item; bytes = expanded (width kind) profile_limits d.bytes; words = [] } ∷ []
+    only_if (has_any (expanded (width kind) profile_limits d.bytes))
+    (record { address = segment_address pl d.segment.item + d.offset.item; bytes = expanded (width kind) profile_limits d.bytes; words = [] })
 contents_chunks mv pl kind _ after = []
 
 abbrev pub piece_chunks : Movers → Places → Piece → List Piece → List Chunk
@@ -88,10 +91,10 @@ AreUncovered (c ∷ cs) = All (λ at. All (IsAway (c.address + at)) cs) c.words 
 abbrev pub AreTogether : Movers → DataItem → List (ℕ × PlainFixup) → Type 0
 AreTogether mv d fixups = All (λ f. moves_together mv d.segment.item f ≡ true) fixups
 
--- A data record moves: its segment does; each of its fixups is inside it, moves with the program and reaches; and each relocation word is apart from
+-- A data record moves: its segment does, if it has bytes; each of its fixups is inside it, moves with the program and reaches; and each relocation word is apart from
 -- the locations of the later fixups.
 pub record RecordMoves (mv : Movers) (pl : Places) (d : DataItem) (fixups : List (ℕ × PlainFixup)) : Type 0 where
-  pub segment : moves mv.segments d.segment.item ≡ true
+  pub segment : has_any d.bytes ≡ true → moves mv.segments d.segment.item ≡ true
   pub inside : AreInside (length d.bytes) fixups
   pub together : AreTogether mv d fixups
   pub reached : All (λ f. IsOk (outcome pl d f)) fixups
@@ -100,7 +103,7 @@ pub record RecordMoves (mv : Movers) (pl : Places) (d : DataItem) (fixups : List
 -- After an LIDATA an accepted module has no fixups.
 abbrev pub ContentsMove : Movers → Places → Contents → List Piece → Type 0
 ContentsMove mv pl (Plain d) after = RecordMoves mv pl d (fixups_of_data after)
-ContentsMove mv pl (Iterated d) after = (moves mv.segments d.segment.item ≡ true) × AreTogether mv d (fixups_of_data after)
+ContentsMove mv pl (Iterated d) after = (has_any d.bytes ≡ true → moves mv.segments d.segment.item ≡ true) × AreTogether mv d (fixups_of_data after)
 ContentsMove mv pl _ after = ⊤
 
 -- A start moves where its frame and its target do.
@@ -108,14 +111,27 @@ abbrev pub StartMoves : Movers → Option PlainReference → Type 0
 StartMoves mv None = ⊤
 StartMoves mv (Some r) = (frame_moves mv 0 r.target r.frame ≡ true) × (target_moves mv r.target ≡ true)
 
+-- The start of a main module moves. Nothing reads the start of another (TIS OMF 1.1, "MODEND": bit 7 of the type byte).
+abbrev pub MainStartMoves : Movers → ℕ → Option PlainReference → Type 0
+MainStartMoves mv byte start = nat_le 128 byte ≡ true → StartMoves mv start
+
 abbrev pub PieceMoves : Movers → Places → Piece → List Piece → Type 0
 PieceMoves mv pl (Kept r) after = ContentsMove mv pl r.contents after
 PieceMoves mv pl (Fixed kind fixups) after = ⊤
-PieceMoves mv pl (End kind byte start) after = StartMoves mv start
+PieceMoves mv pl (End kind byte start) after = MainStartMoves mv byte start
 
 abbrev pub PiecesMove : Movers → Places → List Piece → Type 0
 PiecesMove mv pl [] = ⊤
 PiecesMove mv pl (p ∷ ps) = PieceMoves mv pl p ps × PiecesMove mv pl ps
+
+-- The starts of all these pieces move.
+abbrev pub PieceStarts : Movers → Piece → Type 0
+PieceStarts mv (End kind byte start) = StartMoves mv start
+PieceStarts mv _ = ⊤
+
+abbrev pub AllStart : Movers → List Piece → Type 0
+AllStart mv [] = ⊤
+AllStart mv (p ∷ ps) = PieceStarts mv p × AllStart mv ps
 
 -- A module at its placement, with what moves of it.
 pub record MovingModule : Type 0 where
@@ -137,6 +153,9 @@ chunks_at k ms = flat_map (λ m. chunks m.movers (moved k m.movers m.places) m.r
 -- What a module lays in its segments, each at the address of its segment.
 abbrev pub lying : Places → Laid → ℕ × List ℕ
 lying pl l = (segment_address pl l.segment + l.offset, l.bytes)
+
+abbrev pub with_bytes : ℕ × List ℕ → List (ℕ × List ℕ)
+with_bytes x = only_if (has_any x.1) x
 
 -- The program of modules that lie in the first n bytes of memory, with CS:IP and SS:SP there.
 abbrev pub program : ℕ → List MovingModule → ℕ × ℕ → ℕ × ℕ → ℕ → Program

@@ -7,16 +7,16 @@ use Rattle.omf_records.specs.Values.{Rec}
 -- computed: threads_give_references and faults_are_walked of omf_reloc.
 use Rattle.omf_reloc.specs.Inner.Pieces.{single_pieces}
 use Rattle.omf_reloc.specs.Plain.{Piece, Kept, Fixed, End, data_contents, fixups_in, pieces}
-use Rattle.omf_output.specs.Exe.Moved.{Movers, moves}
-use Rattle.omf_output.specs.Exe.Judged.{pieces_move, start_moves}
+use Rattle.omf_output.specs.Exe.Moved.{Movers}
+use Rattle.omf_output.specs.Exe.Judged.{main_start_moves, pieces_move, segment_moves}
 use Rattle.omf_output.specs.Exe.Relocations.{moves_together}
 use Rattle.omf_output.specs.Located.{Located, located}
 
--- Whether a piece moves: the segment of a data record; each fixup with its data; the start.
+-- Whether a piece moves: the segment of a data record that has bytes; each fixup with its data; the start of a main module.
 abbrev pub own_moves : Movers → Piece → Bool
-own_moves mv (Kept r) = option_map_or (λ d. moves mv.segments d.segment.item) (data_contents r.contents) true
+own_moves mv (Kept r) = option_map_or (segment_moves mv) (data_contents r.contents) true
 own_moves mv (Fixed kind fixups) = true
-own_moves mv (End kind byte start) = start_moves mv start
+own_moves mv (End kind byte start) = main_start_moves mv byte start
 
 abbrev pub located_moves : Movers → Located → Bool
 located_moves mv x = own_moves mv x.piece && option_map_or (λ segment. list_all (moves_together mv segment) (fixups_in x.piece)) x.segment true

@@ -1,6 +1,6 @@
 -- Words of the worked examples.
 use Rattle.std.specs.Prelude.{ℕ, ◌+◌, List, [], ◌∷◌, ◌++◌, true, false, Some, None}
-use Rattle.omf_records.specs.Values.{At, Rec, Segment, Group, Plain, Iterated, Fixups, ModEnd, Fixup, SegmentItem}
+use Rattle.omf_records.specs.Values.{At, Rec, Names, Segment, Group, Plain, Iterated, Fixups, ModEnd, Fixup, SegmentItem}
 use Rattle.omf_check.specs.declared.method.FrameMethod.{FrameMethod}
 use Rattle.omf_check.specs.declared.method.TargetMethod.{TargetMethod}
 use Rattle.omf_placement.specs.declared.frame.Placed.{Placed}
@@ -65,6 +65,20 @@ two_segments = record { kind = 0x98; contents = Segment segment_of_4 } ∷ recor
 abbrev pub in_a_group : List Rec
 in_a_group = two_segments ++ record { kind = 0x9A; contents = Group (record { name = at 3 1; members = at 4 (at 5 1) ∷ at 6 (at 7 2) ∷ [] }) } ∷ []
 
+-- The same of two public segments with names, "T" and "D".
+abbrev pub public_segment : ℕ → SegmentItem
+public_segment name = record { attribute = 0x68; absolute = None; size = 4; name = at 6 name; class = at 7 0; overlay = 0 }
+
+abbrev pub joined_segments : List Rec
+joined_segments =
+    record { kind = 0x96; contents = Names (at 3 (0x54 ∷ []) ∷ at 5 (0x44 ∷ []) ∷ []) }
+    ∷ record { kind = 0x98; contents = Segment (public_segment 1) }
+    ∷ record { kind = 0x98; contents = Segment (public_segment 2) }
+    ∷ []
+
+abbrev pub joined_in_a_group : List Rec
+joined_in_a_group = joined_segments ++ record { kind = 0x9A; contents = Group (record { name = at 3 1; members = at 4 (at 5 1) ∷ at 6 (at 7 2) ∷ [] }) } ∷ []
+
 abbrev pub two_apart_grouped : Places
 two_apart_grouped = record { segments = two_apart.segments; groups = record { base = 0; selector = 0 } ∷ []; externals = [] }
 
@@ -95,12 +109,16 @@ base_under_offset =
 abbrev pub near_to_1 : List Piece
 near_to_1 = Kept (record { kind = 0xA0; contents = Plain (record { segment = at 3 2; offset = at 4 0; bytes = 0xE8 ∷ 0 ∷ 0 ∷ [] }) }) ∷ Fixed 0x9C ((fixup 0x8401 F5 (T0 1)).1 ∷ []) ∷ []
 
--- A fixup without data before it; data of segment 1 with two fixups; blocks of segment 2, a SEGDEF, and a fixup of the blocks.
+-- Blocks of segment 2: these bytes.
+abbrev pub blocks_of_2 : List ℕ → Piece
+blocks_of_2 bytes = Kept (record { kind = 0xA2; contents = Iterated (record { segment = at 3 2; offset = at 4 0; bytes = bytes }) })
+
+-- A fixup without data before it; data of segment 1 with two fixups; a block of segment 2, one byte once, a SEGDEF, and a fixup of the block.
 abbrev pub data_and_fixups : List Piece
 data_and_fixups =
     Fixed 0x9C ((fixup 0xC402 F5 (T0 2)).1 ∷ [])
     ∷ base_under_offset
-    ++ Kept (record { kind = 0xA2; contents = Iterated (record { segment = at 3 2; offset = at 4 0; bytes = [] }) })
+    ++ blocks_of_2 (1 ∷ 0 ∷ 0 ∷ 0 ∷ 1 ∷ 0xAA ∷ [])
     ∷ Kept (record { kind = 0x98; contents = Segment segment_of_4 })
     ∷ Fixed 0x9C ((fixup 0xC402 F5 (T0 1)).1 ∷ [])
     ∷ []

@@ -1,5 +1,5 @@
 -- Data records put in bytes from address 0 on, and their fixups applied there, one piece after the other.
-use Rattle.std.specs.Prelude.{ℕ, ◌+◌, ◌≤◌, List, [], ◌∷◌, ◌++◌, length, take, drop, map, flat_map, fold, All, Option, Some, None, ⊤}
+use Rattle.std.specs.Prelude.{ℕ, ◌+◌, ◌<◌, ◌≤◌, nat_lt, List, [], ◌∷◌, ◌++◌, length, take, drop, map, flat_map, fold, All, Option, Some, None, ⊤}
 use Rattle.omf_records.specs.Values.{Contents, Plain, Iterated, Rec, width, location_offset}
 use Rattle.omf_image.specs.Inner.Expanding.{expanded}
 use Rattle.omf_image.specs.Limits.{profile_limits}
@@ -13,6 +13,7 @@ use Rattle.omf_reloc.specs.Laws.{location_end}
 use Rattle.omf_reloc.specs.Offsets.{outcome_at}
 use Rattle.omf_reloc.specs.Plain.{Piece, Kept, Fixed, End, PlainFixup}
 use Rattle.omf_check.specs.Module.{recs_of}
+use Rattle.omf_output.specs.Exe.Filled.{only_if}
 use Rattle.omf_output.specs.Exe.Members.{Member}
 use Rattle.omf_output.specs.Exe.Memory.{segment_address}
 
@@ -60,10 +61,10 @@ abbrev pub all_laid : Places → Source → List Piece → List ℕ → List ℕ
 all_laid pl last [] bytes = bytes
 all_laid pl last (p ∷ ps) bytes = all_laid pl (source_after p last) ps (laid_by pl last p bytes)
 
--- A piece can be laid in n bytes: its data, or the location of its fixup, end there.
+-- A piece can be laid in n bytes: its data, if there are any, or the location of its fixup, end there.
 abbrev pub DataFit : Places → ℕ → ℕ → Contents → Type 0
-DataFit pl n kind (Plain d) = address_at pl d.segment.item d.offset.item + length d.bytes ≤ n
-DataFit pl n kind (Iterated d) = Expands kind d.bytes × (address_at pl d.segment.item d.offset.item + length (expanded (width kind) profile_limits d.bytes) ≤ n)
+DataFit pl n kind (Plain d) = 0 < length d.bytes → address_at pl d.segment.item d.offset.item + length d.bytes ≤ n
+DataFit pl n kind (Iterated d) = Expands kind d.bytes × (0 < length (expanded (width kind) profile_limits d.bytes) → address_at pl d.segment.item d.offset.item + length (expanded (width kind) profile_limits d.bytes) ≤ n)
 DataFit pl n kind _ = ⊤
 
 abbrev pub FixupFits : Places → ℕ → Source → ℕ × PlainFixup → Type 0
@@ -87,8 +88,12 @@ extent_end pl e = address_at pl e.segment e.first + e.len
 abbrev pub CanEnd : Rec → Type 0
 CanEnd r = CanMeasure r × All Fits (measured r)
 
+-- None after a record that has no bytes.
+abbrev pub end_of : Places → Extent → List ℕ
+end_of pl e = only_if (nat_lt 0 e.len) (extent_end pl e)
+
 abbrev pub record_ends : Places → Rec → List ℕ
-record_ends pl r = map (extent_end pl) (measured r)
+record_ends pl r = flat_map (end_of pl) (measured r)
 
 -- The data of a module end in n bytes.
 abbrev pub EndsIn : ℕ → Member → Type 0

@@ -1,4 +1,4 @@
-//! Which groups move: those of one name, over all modules, are one, and move exactly if their lowest member does.
+//! Which groups move: those of one name, over all modules, are one, and move exactly if the member with the lowest frame does.
 
 ghost use Rattle.std.specs.Prelude.{◌≡◌, ◌∷◌, [], List, IfOk, OnOk, filter_map, length};
 ghost use Rattle.omf_check.specs.Module.{recs_of};
@@ -40,13 +40,13 @@ pub(crate) fn segments_moving(alloc: Global, module: &Checked) -> Result<Vec<boo
     Ok(moving)
 }
 
-/// The place of a segment, with a mark in its frame that shows whether the segment moves.
+/// The place at the start of a segment's frame, with a mark that shows whether the segment moves.
 fn marked(moves: bool, place: Placed) -> Placed
     ensures { result ≡ marked (moves, place) }
 {
     let selector = if moves { 1 } else { 0 };
     Placed {
-        address: place.address,
+        address: place.frame.base,
         frame: Frame { base: 0, selector },
     }
 }
@@ -87,14 +87,14 @@ fn group_name(group: &Rec<'_>) -> u16
     name.item.0
 }
 
-/// The marked places of the lowest members of groups, by group name.
+/// The marked places of the members of groups that have the lowest frame, by group name.
 #[derive(Drop)]
 pub(crate) struct LowTable<'a> {
     by_name: BTreeMap<NameKey<'a>, Placed>,
 }
 
 impl<'a> LowTable<'a> {
-    /// Adds the marked place of a group's lowest member.
+    /// Adds the marked place of the member of a group that has the lowest frame.
     fn add(&mut self, name: &'a [u8], place: Placed) -> Result<(), AllocError>
         ensures { OnOk result (HasMore self.old.by_name self.new.by_name ((name.entry.now, place) ∷ [])) }
     {
@@ -148,7 +148,7 @@ impl<'a> LowTable<'a> {
         self.add_groups(module, &marks)
     }
 
-    /// The lowest members of the groups of all modules at their placements.
+    /// The members with the lowest frames, of the groups of all modules at their placements.
     pub(crate) fn of(
         alloc: Global,
         modules: &'a [Checked],

@@ -40,12 +40,12 @@ pub fn programs_are_loaded()
     ensures { ProgramsAreLoaded }
 {}
 
-/// The start of a module that moves is as many paragraphs higher at a moved placement, at the same offset.
+/// The start of a module that moves with its start is as many paragraphs higher at a moved placement, at the same offset.
 pub fn starts_move()
     ensures { StartsMove }
 {}
 
-/// The moved placement of a module that moves reaches where the placement does.
+/// The moved placement of a module that moves with its start reaches where the placement does.
 pub fn placements_reach()
     ensures { PlacementsReach }
 {}
@@ -65,7 +65,7 @@ pub fn words_stand_apart()
     ensures { WordsStandApart }
 {}
 
-/// A module has no part that does not move exactly if all its data records, their fixups and its start move.
+/// A module has no part that does not move exactly if all its data records, their fixups and its start, if it is a main module, move.
 pub fn moving_is_decided()
     ensures { MovingIsDecided }
 {}

@@ -4,13 +4,14 @@ ghost use Rattle.std.specs.Prelude.{◌≡◌, Some, ◌+◌, ◌<◌, ◌≤◌
 ghost use Rattle.omf_check.specs.Module.{recs_of};
 ghost use Rattle.omf_image.specs.Inner.Expanding.{expanded};
 ghost use Rattle.omf_image.specs.Limits.{profile_limits};
+ghost use Rattle.omf_image.specs.Painting.{Fits};
 ghost use Rattle.omf_records.specs.Inner.Seen.{odd_if};
 ghost use Rattle.omf_records.specs.Values.{width};
 ghost use Rattle.omf_reloc.specs.Inner.Measuring.{CanMeasure, measured};
 ghost use Rattle.omf_reloc.specs.Inner.PieceSeen.{piece_seen};
 ghost use Rattle.omf_reloc.specs.Inner.Walking.{Expands};
 ghost use Rattle.omf_reloc.specs.Inner.Widths.{fixupp_type};
-ghost use Rattle.omf_output.specs.Inner.Laying.{CanEnd, CanLay, DataFit, EndsIn, FixupFits, address_at, fixed_at, laid_by, overlaid, record_ends, source_after, source_in, with_data};
+ghost use Rattle.omf_output.specs.Inner.Laying.{CanEnd, CanLay, DataFit, EndsIn, FixupFits, address_at, end_of, fixed_at, laid_by, overlaid, record_ends, source_after, source_in, with_data};
 ghost use Rattle.omf_check.specs.Sound.{ModuleHolds};
 ghost use Rattle.omf_output.specs.Exe.Based.{Holds};
 ghost use Rattle.omf_output.specs.Exe.Members.{all_moving};
@@ -64,12 +65,23 @@ fn expanded(alloc: Global, blocks: Blocks<'_>) -> Result<Vec<u8>, AllocError>
     Ok(bytes)
 }
 
-/// Puts bytes at an address.
-fn put(image: &mut [u8], at: usize, bytes: &[u8])
+/// Puts bytes in place of those from an index on.
+fn overlay(image: &mut [u8], at: usize, bytes: &[u8])
     requires { at + length bytes.now ≤ length image.old }
     ensures { image.new ≡ overlaid at bytes.now image.old }
 {
     image[at..at + bytes.len()].copy_from_slice(bytes);
+}
+
+/// Puts bytes at an address, if there are any; without any the address need not be in the image.
+#[tactic(auto, using(crate::proofs::FilledLaws::nothing_overlaid))]
+fn put(image: &mut [u8], at: usize, bytes: &[u8])
+    requires { 0 < length bytes.now → at + length bytes.now ≤ length image.old }
+    ensures { image.new ≡ overlaid at bytes.now image.old }
+{
+    if bytes.len() > 0 {
+        overlay(image, at, bytes);
+    }
 }
 
 /// The segment of an LEDATA and the offset of its first byte there.
@@ -186,16 +198,28 @@ fn lay_all(alloc: Global, image: &mut [u8], members: &[Member<'_>]) -> Result<()
     Ok(())
 }
 
-/// The first address after the data of a record; 0 if it has none. No record without data is decoded.
+/// The first address after an extent; 0 if it has no bytes.
+#[tactic(auto, using(crate::proofs::FilledLaws::end_there, crate::proofs::FilledLaws::no_end))]
+fn extent_end(placement: &Placement, extent: Extent) -> usize
+    requires { Fits extent }
+    ensures { result ≡ fold max 0 (end_of placement.now extent) }
+{
+    if extent.len > 0 {
+        let first = segment_address(placement, extent.segment) + extent.first as usize;
+        first + extent.len as usize
+    } else {
+        0
+    }
+}
+
+/// The first address after the bytes of a record; 0 if it has none. No record without data is decoded.
+#[tactic(auto, using(crate::proofs::FilledLaws::fits_one, crate::proofs::FilledLaws::one_end, crate::proofs::FilledLaws::none_end))]
 fn record_end(placement: &Placement, rec: &Undecoded<'_>) -> usize
     requires { CanEnd rec.now }
     ensures { result ≡ fold max 0 (record_ends placement.now rec.now) }
 {
     match extent_of(rec) {
-        Some(extent) => {
-            let first = segment_address(placement, extent.segment) + extent.first as usize;
-            first + extent.len as usize
-        }
+        Some(extent) => extent_end(placement, extent),
         None => 0,
     }
 }

@@ -1,10 +1,10 @@
 //! A DOS program (.EXE) of linked modules.
 
-ghost use Rattle.std.specs.Prelude.{◌≡◌, ◌+◌, ◌∷◌, ◌≤◌, ◌<◌, ◌^◌, ℕ, All, IfOk, IfErr, [], Ok, Err, Some, filter_map, is_some, length, max, slice_get};
+ghost use Rattle.std.specs.Prelude.{◌≡◌, ◌+◌, ◌∷◌, ◌≤◌, ◌<◌, ◌^◌, ℕ, All, IfOk, IfErr, [], Ok, Err, None, Some, filter_map, is_some, length, max, slice_get};
 ghost use Rattle.omf_output.specs.Exe.Based.{HasReached, IsBased, Holds};
 ghost use Rattle.omf_output.specs.Exe.Exe.{CanBeWritten, exe};
 ghost use Rattle.omf_output.specs.Inner.Plans.{IsManyOrMemory, IsPlan};
-ghost use Rattle.omf_output.specs.Exe.Linked.{IsExeFault, IsOverlap, extra, far_pair, later_faults, linked, linked_at, member_fault, words_from};
+ghost use Rattle.omf_output.specs.Exe.Linked.{IsExeFault, IsOverlap, exe_fault, extra, far_pair, later_faults, linked, linked_at, member_fault, words_from};
 ghost use Rattle.omf_output.specs.Exe.Loading.{loaded};
 ghost use Rattle.omf_output.specs.Exe.Members.{all_moving, portions, stack};
 ghost use Rattle.omf_output.specs.Exe.Memory.{all_chunks, flat};
@@ -178,6 +178,7 @@ pub fn link_exe(alloc: Global, members: &[Member<'_>]) -> Result<ExeFile, ExeFau
     ensures file { IfOk result (λ e. e.bytes.items ≡ exe (linked members.now)) }
     ensures loaded { IfOk result (λ e. (k : ℕ) → loaded e.bytes.items k ≡ linked_at k members.now) }
     ensures stack { IfOk result (λ e. e.has_stack ≡ is_some (stack (portions members.now))) }
+    ensures none { IfOk result (λ _. exe_fault members.now ≡ None) }
     ensures fault { IfErr result (IsExeFault members.now) }
 {
     if let Some(fault) = first_fault(members) {

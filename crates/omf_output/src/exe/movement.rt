@@ -189,7 +189,7 @@ fn all_movers(
 /// by hand:
 ///
 /// - a segment, unless it is absolute;
-/// - a group, if the lowest member of the groups of its name, over all modules, moves;
+/// - a group, if of the members of the groups of its name, over all modules, the one with the lowest frame moves;
 /// - an external as the base of the public whose place it has: its address as the segment does, its frame as the group does, or the segment
 ///   if there is no group. One with a place given by hand does not move; a weak one without a public moves as its default does.
 ///

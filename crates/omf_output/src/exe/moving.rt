@@ -1,6 +1,6 @@
 //! Whether a module moves with a program, and its relocation words.
 
-ghost use Rattle.std.specs.Prelude.{◌≡◌, ◌↔◌, ℕ, ◌==◌, true, None};
+ghost use Rattle.std.specs.Prelude.{◌≡◌, ◌↔◌, ℕ, ◌==◌, if◌then◌else◌, true, None};
 ghost use Rattle.std.specs.Option.{option_map_or};
 ghost use Rattle.omf_check.specs.Listed.{placed_from};
 ghost use Rattle.omf_check.specs.Module.{recs_of, records_in};
@@ -9,14 +9,15 @@ ghost use Rattle.omf_reloc.specs.Additions.{type_of_number};
 ghost use Rattle.omf_reloc.specs.Inner.Pieces.{placed_pieces};
 ghost use Rattle.omf_reloc.specs.Inner.Widths.{fixupp_type};
 ghost use Rattle.omf_reloc.specs.Plain.{data_contents, pieces};
-ghost use Rattle.omf_output.specs.Exe.Judged.{pieces_move, start_moves};
+ghost use Rattle.omf_output.specs.Exe.Filled.{has_any};
+ghost use Rattle.omf_output.specs.Exe.Judged.{main_start_moves, pieces_move, segment_moves, start_moves};
 ghost use Rattle.omf_output.specs.Exe.Movable.{first_unmoved, located_moves};
 ghost use Rattle.omf_output.specs.Exe.Moved.{moves};
 ghost use Rattle.omf_output.specs.Exe.Relocations.{moves_together, selector_at, site};
 
 use crate::exe::movers::Movers;
-use crate::located::{Located, located_of, segment_of};
-use omf_check::{Checked, Undecoded};
+use crate::located::{Located, located_of};
+use omf_check::{Checked, Data, Undecoded};
 use omf_frame::{Place, Width};
 use omf_records::LocationType;
 use omf_reloc::{Piece, PlainFixup, PlainReference};
@@ -98,13 +99,38 @@ fn start_moves(movers: &Movers, start: &Option<PlainReference>) -> bool
     }
 }
 
-/// Whether a record moves: a data record if its segment does.
-fn record_moves(movers: &Movers, rec: &Undecoded<'_>) -> bool
-    ensures { result ≡ option_map_or (λ d. moves movers.now.segments d.segment.item) (data_contents rec.now.contents) true }
+/// Whether the start of a module with this type byte in its MODEND moves. That of a module that is not main need not (TIS OMF 1.1, "MODEND").
+fn main_start_moves(movers: &Movers, type_byte: u8, start: &Option<PlainReference>) -> bool
+    ensures { result ≡ main_start_moves movers.now type_byte start.now }
 {
-    match segment_of(rec) {
-        Some(segment) => movers.segment_moves(usize::from(segment)),
-        None => true,
+    type_byte < 128 || start_moves(movers, start)
+}
+
+/// Whether data of a segment move: if the segment does, or if there are none.
+fn data_moves(movers: &Movers, segment: u16, data: &[u8]) -> bool
+    ensures { result ≡ (if has_any data.now then moves movers.now.segments segment else true) }
+{
+    if data.len() > 0 {
+        movers.segment_moves(usize::from(segment))
+    } else {
+        true
+    }
+}
+
+/// Whether a record moves: a data record if its segment does, or if it has no bytes.
+fn record_moves(movers: &Movers, rec: &Undecoded<'_>) -> bool
+    ensures { result ≡ option_map_or (segment_moves movers.now) (data_contents rec.now.contents) true }
+{
+    let Some(data) = rec.as_data() else {
+        return true;
+    };
+    match &data {
+        Data::Plain { segment, bytes, .. } => data_moves(movers, segment.item.0, bytes),
+        Data::Iterated {
+            segment,
+            blocks,
+            ..
+        } => data_moves(movers, segment.item.0, blocks.bytes),
     }
 }
 
@@ -118,7 +144,14 @@ fn located_moves(movers: &Movers, located: &Located<'_>) -> bool
             moves_together(movers, segment, *width, fixup)
         }
         (Piece::Fixed { .. }, None) => true,
-        (Piece::End { start, .. }, _) => start_moves(movers, start),
+        (
+            Piece::End {
+                type_byte,
+                start,
+                ..
+            },
+            _,
+        ) => main_start_moves(movers, *type_byte, start),
     }
 }
 
@@ -134,8 +167,8 @@ fn first_unmoved(module: &Checked, movers: &Movers) -> Option<Place>
     None
 }
 
-/// The place of the first part of a module that does not move with the program: a data record of a segment that stays; a fixup of which the
-/// frame moves and the target does not, or the reverse, or whose data do not move with both; a start that stays. `None` if all move.
+/// The place of the first part of a module that does not move with the program: a data record with bytes, of a segment that stays; a fixup of which the
+/// frame moves and the target does not, or the reverse, or whose data do not move with both; a start of a main module that stays. `None` if all move.
 pub fn movable(module: &Checked, movers: &Movers) -> Option<Place>
     ensures first { result ≡ first_unmoved movers.now (placed_pieces (placed_from 0 0 (records_in «module».now.bytes))) }
     ensures decided { (result ≡ None) ↔ (pieces_move movers.now (pieces (recs_of «module».now.bytes)) ≡ true) }

@@ -13,7 +13,7 @@ ghost use Rattle.omf_output.specs.Exe.Judged.{pieces_move};
 ghost use Rattle.omf_reloc.specs.Plain.{Fixed, pieces};
 ghost use Rattle.omf_output.specs.Exe.Loading.{loaded};
 ghost use Rattle.omf_output.specs.Exe.Moved.{moved};
-ghost use Rattle.omf_output.specs.Exe.Rows.{at_0, base_under_offset, both_move, data_and_fixups, file, fixup, in_a_group, loads_its_segment, member_0, near_to_1, numbered, numbered_records, one_of_two, place, stack_portion, two_apart, two_apart_grouped, two_segments};
+ghost use Rattle.omf_output.specs.Exe.Rows.{at_0, base_under_offset, blocks_of_2, both_move, data_and_fixups, file, fixup, in_a_group, joined_in_a_group, joined_segments, loads_its_segment, member_0, near_to_1, numbered, numbered_records, one_of_two, place, stack_portion, two_apart, two_apart_grouped, two_segments};
 ghost use Rattle.omf_output.specs.Near.{first_stray, group_of, strays};
 ghost use Rattle.omf_output.specs.Exe.Movable.{first_unmoved};
 ghost use Rattle.omf_output.specs.Located.{located};
@@ -89,14 +89,17 @@ pub fn stack_of_a_com_program()
     ensures one_over { stack_bytes (stack_portion 0 65535 ∷ stack_portion 0 2 ∷ stack_portion 0 1 ∷ []) ≡ 65536 }
 {}
 
-/// A near reference of a location in segment 2, at 40H, to segment 1, at 0, is into another frame, unless a group has both; the reverse is not. A far
-/// one, and one of 32 bits, is no near reference.
+/// A near reference of a location in segment 2, at 40H, to segment 1, at 0, is into another frame, unless a group has both; the reverse is not. The group
+/// may be of another module, if both segments are joined with those of this. A far reference, and one of 32 bits, is no near reference.
 pub fn near_references()
-    ensures back { strays (two_segments, two_apart) 2 (fixup 0x8401 F5 (T0 1)) ≡ true }
-    ensures forth { strays (two_segments, two_apart) 1 (fixup 0x8401 F5 (T0 2)) ≡ false }
-    ensures grouped { strays (in_a_group, two_apart_grouped) 2 (fixup 0x8401 F5 (T0 1)) ≡ false }
-    ensures far { strays (two_segments, two_apart) 2 (fixup 0xC401 F5 (T0 1)) ≡ false }
-    ensures wide { strays (two_segments, two_apart) 2 (fixup 0xA401 F5 (T0 1)) ≡ false }
+    ensures back { strays ((two_segments, two_apart) ∷ []) (two_segments, two_apart) 2 (fixup 0x8401 F5 (T0 1)) ≡ true }
+    ensures forth { strays ((two_segments, two_apart) ∷ []) (two_segments, two_apart) 1 (fixup 0x8401 F5 (T0 2)) ≡ false }
+    ensures joined { strays ((joined_segments, two_apart) ∷ []) (joined_segments, two_apart) 2 (fixup 0x8401 F5 (T0 1)) ≡ true }
+    ensures grouped_elsewhere { strays ((joined_segments, two_apart) ∷ (joined_in_a_group, two_apart_grouped) ∷ []) (joined_segments, two_apart) 2 (fixup 0x8401 F5 (T0 1)) ≡ false }
+    ensures others_grouped { strays ((two_segments, two_apart) ∷ (in_a_group, two_apart_grouped) ∷ []) (two_segments, two_apart) 2 (fixup 0x8401 F5 (T0 1)) ≡ true }
+    ensures grouped { strays ((in_a_group, two_apart_grouped) ∷ []) (in_a_group, two_apart_grouped) 2 (fixup 0x8401 F5 (T0 1)) ≡ false }
+    ensures far { strays ((two_segments, two_apart) ∷ []) (two_segments, two_apart) 2 (fixup 0xC401 F5 (T0 1)) ≡ false }
+    ensures wide { strays ((two_segments, two_apart) ∷ []) (two_segments, two_apart) 2 (fixup 0xA401 F5 (T0 1)) ≡ false }
     ensures group { group_of in_a_group 2 ≡ Some 1 }
     ensures alone { group_of two_segments 2 ≡ None }
 {}
@@ -105,16 +108,17 @@ pub fn near_references()
 /// in another frame.
 pub fn segments_of_fixups()
     ensures segments { map (λ x. x.segment) (located (numbered 0 data_and_fixups)) ≡ None ∷ None ∷ Some 1 ∷ Some 1 ∷ Some 1 ∷ Some 2 ∷ Some 2 ∷ [] }
-    ensures stray { first_stray (two_segments, two_apart) (numbered 0 near_to_1) ≡ Some (place 1) }
-    ensures grouped { first_stray (in_a_group, two_apart_grouped) (numbered 0 near_to_1) ≡ None }
-    ensures without_data { first_stray (two_segments, two_apart) (numbered 0 (drop 1 near_to_1)) ≡ None }
+    ensures stray { first_stray ((two_segments, two_apart) ∷ []) (two_segments, two_apart) (numbered 0 near_to_1) ≡ Some (place 1) }
+    ensures grouped { first_stray ((in_a_group, two_apart_grouped) ∷ []) (in_a_group, two_apart_grouped) (numbered 0 near_to_1) ≡ None }
+    ensures without_data { first_stray ((two_segments, two_apart) ∷ []) (two_segments, two_apart) (numbered 0 (drop 1 near_to_1)) ≡ None }
 {}
 
-/// The first piece that does not move: blocks of a segment that stays; before them, a far pointer whose frame moves and whose target does not. A fixup
-/// without data before it is none.
+/// The first piece that does not move: a block of a segment that stays; before it, a far pointer whose frame moves and whose target does not. A fixup
+/// without data before it is none, nor are blocks without bytes.
 pub fn first_pieces_that_stay()
     ensures none { first_unmoved both_move (numbered 0 data_and_fixups) ≡ None }
     ensures blocks { first_unmoved one_of_two (numbered 0 data_and_fixups) ≡ Some (place 4) }
+    ensures empty { first_unmoved one_of_two (numbered 0 (blocks_of_2 [] ∷ [])) ≡ None }
     ensures pointer { first_unmoved one_of_two (numbered 0 (base_under_offset ++ Fixed 0x9C ((fixup 0xCC00 (F0 1) (T0 2)).1 ∷ []) ∷ data_and_fixups)) ≡ Some (place 3) }
 {}
 

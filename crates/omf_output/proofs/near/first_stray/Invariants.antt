@@ -13,4 +13,4 @@ abbrev pub invariant-loop-located : goal.invariant-loop-located
 invariant-loop-located l =
     let bytes = l.part.owners.now.bytes in
     let m : PlacedModule = (recs (records_in bytes), l.part.placement.now) in
-    option_map (λ x. x.place) (find (has_stray m) l.located-iterator) ≡ first_stray m (placed_pieces (placed_from 0 0 (records_in bytes)))
+    option_map (λ x. x.place) (find (has_stray l.part.all.now m) l.located-iterator) ≡ first_stray l.part.all.now m (placed_pieces (placed_from 0 0 (records_in bytes)))

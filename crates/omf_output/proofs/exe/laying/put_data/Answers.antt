@@ -15,7 +15,7 @@ put-requires-in-Iterated c =
     let low = (subst (λ (r : Rec). DataFit c.args.placement.now (length c.args.image.now) r.kind r.contents) (sym seen) c.requires).1 in
     let at = c.address_at-in-Iterated.ensures in
     let size = ap length (c.deref.ensures.value ∙ c.in_ok-bytes-in-Iterated.ensures) in
-    omega (arith, low, at, size)
+    λ some. let fits = low (omega (arith, some, size)) in omega (arith, fits, at, size)
 
 pub returns-in_ok-bytes-in-Iterated-clause-image : goal.returns-in_ok-bytes-in-Iterated-clause-image
 returns-in_ok-bytes-in-Iterated-clause-image c =

@@ -3,7 +3,7 @@ use Rattle.std.specs.Prelude.{Err, IfErr, filter_map}
 use Rattle.omf_output.specs.Exe.Exe.{exe}
 use Rattle.omf_output.specs.Exe.Linked.{IsExeFault, member_fault}
 use Rattle.omf_output.specs.Exe.Loading.{loaded}
-use Rattle.omf_output.proofs.LinkedLaws.{get-none, image-short, judged-of, later-first, many-or-memory, member-first, plan-none, plain-none, program-linked, program-loaded, reached-of, ready, words-first, words-in-image}
+use Rattle.omf_output.proofs.LinkedLaws.{exe-none, get-none, image-short, judged-of, later-first, many-or-memory, member-first, plan-none, plain-none, program-linked, program-loaded, reached-of, ready, words-first, words-in-image}
 use Rattle.omf_output.proofs.exe.link.link_exe.Goals as goal
 
 pub returns-in-Some-clause-fault : goal.returns-in-Some-clause-fault
@@ -67,3 +67,9 @@ returns-clause-loaded c =
     λ k.
     ap (λ l. loaded l k) c.in_ok-bytes.ensures.file
     ∙ program-loaded ms c.in_ok-plan.plan c.in_ok-plan.ensures.plan p e.image (judged-of ms p.words r e.adds) e.registers.0 e.registers.1 e.extra c.in_ok-bytes.ensures.writable r k
+
+pub returns-clause-none : goal.returns-clause-none
+returns-clause-none c =
+    let ms = c.args.members.now in
+    let none = get-none (filter_map member_fault ms) (sym c.first_fault.ensures ∙ c.in_default.is) in
+    exe-none ms c.in_ok-program.program.words (plain-none ms none (plan-none ms c.in_ok-plan.plan c.in_ok-plan.ensures.plan)) c.in_ok-program.ensures.words c.in_ok-bytes.ensures.writable.few
