@@ -2,7 +2,7 @@
 use Rattle.std.proofs.Common.{◌≡◌, ℕ, zero, suc, ◌+◌, ◌≤◌, Bool, true, false, ◌&&◌, List, [], ◌∷◌, ◌++◌, length, refl, sym, ap, ap₂, subst, ◌∙◌, inl, inr, append-nil, arith, cond}
 use Rattle.std.specs.Prelude.{◌==◌, bytes_eq, filter, flat_map, option_map, slice_get, Option, Some, None, Result, Ok, Err}
 use Rattle.std.specs.List.{list_all}
-use Rattle.std.specs.BTreeMap.{BTreeMap, UpdatesBy, is_at}
+use Rattle.std.specs.BTreeMap.{BTreeMap, UpdatesBy, get_by, is_at}
 use Rattle.std.specs.Cmp.{eq_by_cmp_equiv}
 use Rattle.std.specs.Cmp.Lexicographic.{slice_cmp, nat_list_cmp_total}
 use Rattle.std.specs.Global.{Vec}
@@ -31,7 +31,7 @@ use Rattle.omf_linking.proofs.KeyNames.{filter-none, filter-one}
 abbrev Kept : Type 0
 Kept = BTreeMap (Vec ℕ) Holder
 
-bytes-flip : (xs ys : List ℕ) → bytes_eq xs ys ≡ false → bytes_eq ys xs ≡ false
+pub bytes-flip : (xs ys : List ℕ) → bytes_eq xs ys ≡ false → bytes_eq ys xs ≡ false
 bytes-flip xs ys h = elim (cases_Bool (bytes_eq ys xs)) [
   | inr f ↦ f
   | inl t ↦ absurd (false≢true (sym h ∙ (bytes_eq-Decides xs ys).1 (sym ((bytes_eq-Decides ys xs).0 t))))
@@ -47,12 +47,15 @@ apart bs cs ks n y =
     is_eq-slice_cmp cs ks ∙ ap (bytes_eq cs) (sym same) ∙ bytes-flip bs cs n
 
 -- the text t was given w, and each other text keeps what it had
-updated : (t : List ℕ) (m n : Kept) (w : Option Holder) → UpdatesBy (λ x y. slice_cmp nat_cmp x.items y.items) (λ k. slice_cmp nat_cmp t k.items) m n w → (q : List ℕ) → kept n q ≡ cond (bytes_eq t q) w (kept m q)
+abbrev pub at_text : {X : Type 0} → BTreeMap (Vec ℕ) X → List ℕ → Option X
+at_text m q = get_by (λ k. slice_cmp nat_cmp q k.items) m
+
+pub updated : {X : Type 0} (t : List ℕ) (m n : BTreeMap (Vec ℕ) X) (w : Option X) → UpdatesBy (λ x y. slice_cmp nat_cmp x.items y.items) (λ k. slice_cmp nat_cmp t k.items) m n w → (q : List ℕ) → at_text n q ≡ cond (bytes_eq t q) w (at_text m q)
 updated t m n w h q = elim (cases_Bool (bytes_eq t q)) [
-  | inl y ↦ subst (λ (l : List ℕ). kept n l ≡ w) ((bytes_eq-Decides t q).0 y) h.1 ∙ sym (cond-true (bytes_eq t q) w (kept m q) y)
+  | inl y ↦ subst (λ (l : List ℕ). at_text n l ≡ w) ((bytes_eq-Decides t q).0 y) h.1 ∙ sym (cond-true (bytes_eq t q) w (at_text m q) y)
   | inr f ↦
       others _ _ _ _ h.3 _ (λ x y. (eq_by_cmp_equiv nat_list_cmp_total).congr q x.items y.items) (λ k. apart t q k.items f)
-      ∙ sym (cond-false (bytes_eq t q) w (kept m q) f)
+      ∙ sym (cond-false (bytes_eq t q) w (at_text m q) f)
 ]
 
 -- ---- one more
@@ -159,7 +162,7 @@ both-parts (a ∷ x) y (b ∷ n) c t h k e =
     let more = both-parts x y n c t (and_parts (is_printed a) (list_all is_printed (x ++ t)) h).1 k (ap rest_of e) in
     (ap₂ (λ p q. p ∷ q) (ap head_or e) more.0, more.1)
 
-spelled-both : (n c name class : List ℕ) → bytes_eq (n ++ 10 ∷ c) (flat_map escaped name ++ 10 ∷ flat_map escaped class) ≡ (bytes_eq n (flat_map escaped name) && bytes_eq c (flat_map escaped class))
+pub spelled-both : (n c name class : List ℕ) → bytes_eq (n ++ 10 ∷ c) (flat_map escaped name ++ 10 ∷ flat_map escaped class) ≡ (bytes_eq n (flat_map escaped name) && bytes_eq c (flat_map escaped class))
 spelled-both n c name class =
     let x = flat_map escaped name in
     let y = flat_map escaped class in

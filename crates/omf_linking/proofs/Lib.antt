@@ -20,5 +20,6 @@ pub mod EachLaws
 pub mod KeyLaws
 pub mod KeyNames
 pub mod KeyTableLaws
+pub mod TitleLaws
 pub mod ItemLaws
 pub mod FoldLaws

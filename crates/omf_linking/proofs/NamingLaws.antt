@@ -16,7 +16,7 @@ use Rattle.std.specs.Fmt.{digit_glyph}
 use Rattle.omf_placement.specs.Quoted.{escaped, hex, is_plain}
 use Rattle.omf_placement.proofs.HexadecimalLaws.{hex_two}
 use Rattle.omf_linking.specs.Locator.Keys.{header_name, module_name}
-use Rattle.omf_linking.specs.Locator.LinkEntries.{Key, Named, class_after, classed_entry, entry_of_parts, frame_in, has_comment, name_entry, named_entry, opens, place_in}
+use Rattle.omf_linking.specs.Locator.LinkEntries.{Key, Named, class_after, classed_entry, entry_of_parts, frame_in, has_comment, name_entry, named_entry, opens, place_in, shared_place, shared_word}
 use Rattle.omf_placement.specs.Entries.{said}
 
 -- the name of the first record
@@ -45,6 +45,17 @@ module _ (a b s : List ℕ) where
   no_place_more [] n e = absurd (omega arith)
   no_place_more (w ∷ ws) n e = refl
 
+  pub no_shared_more : (more : List (List ℕ)) (n : ℕ) → length more ≡ n + 1 → shared_place (a ∷ b ∷ more) ≡ None
+  no_shared_more [] n e = absurd (omega arith)
+  no_shared_more (w ∷ ws) n e = refl
+
+pub too_many_words : (ws rest : List (List ℕ)) (a : List ℕ) → ws ≡ a ∷ rest → (n : ℕ) → length rest ≡ n + 1 → None ≡ shared_word ws
+too_many_words ws rest a one n e = sym (ap shared_word one ∙ more rest n e)
+  where
+    more : (rest : List (List ℕ)) (n : ℕ) → length rest ≡ n + 1 → shared_word (a ∷ rest) ≡ None
+    more [] n e = absurd (omega arith)
+    more (w ∷ ws) n e = refl
+
 pub no_opens_more : (k : Key) (ws : List (List ℕ)) (n : ℕ) → length ws ≡ n + 1 → opens k ws ≡ None
 no_opens_more k [] n e = absurd (omega arith)
 no_opens_more k (w ∷ ws) n e = refl
@@ -59,6 +70,9 @@ parts_some f (Some t) e = (count_by (λ c. c == 32) (f t), length-slice_split (�
 module _ (ws a_rest b_rest : List (List ℕ)) (a b : List ℕ) (one : ws ≡ a ∷ a_rest) (two : a_rest ≡ b ∷ b_rest) where
   pub too_many_frame : (n : ℕ) → length b_rest ≡ n + 1 → None ≡ frame_in ws
   too_many_frame n e = sym (ap frame_in (one ∙ ap (λ (t : List (List ℕ)). a ∷ t) two) ∙ no_frame_more a b [] b_rest n e)
+
+  pub too_many_shared : (n : ℕ) → length b_rest ≡ n + 1 → None ≡ shared_place ws
+  too_many_shared n e = sym (ap shared_place (one ∙ ap (λ (t : List (List ℕ)). a ∷ t) two) ∙ no_shared_more a b [] b_rest n e)
 
   pub too_many_place : (s : List ℕ) (s_rest : List (List ℕ)) → b_rest ≡ s ∷ s_rest → (n : ℕ) → length s_rest ≡ n + 1 → None ≡ place_in ws
   too_many_place s s_rest three n e = sym (ap place_in (one ∙ ap (λ (t : List (List ℕ)). a ∷ t) (two ∙ ap (λ (t : List (List ℕ)). b ∷ t) three)) ∙ no_place_more a b s s_rest n e)

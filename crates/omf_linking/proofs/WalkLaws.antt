@@ -15,12 +15,15 @@ use Rattle.omf_frame.specs.Bytes.{last}
 use Rattle.omf_records.specs.Values.{Rec}
 use Rattle.omf_records.specs.Inner.Seen.{map_ok}
 use Rattle.omf_reloc.specs.Reach.{entries}
+use Rattle.omf_placement.specs.declared.frame.Frame.{Frame}
 use Rattle.omf_reloc.specs.declared.fault.Kind.{Kind}
+use Rattle.omf_reloc.specs.declared.fault.Kind.TheVariants as kinds
 use Rattle.omf_linking.specs.Inner.KeyTables.{AreEntryKeys, AreModuleKeys}
 use Rattle.omf_linking.specs.Inner.Walking.{AreLines, IsCurrent, IsGiven, IsTaken}
-use Rattle.omf_linking.specs.Locator.Items.{Item, Nothing, Opened, Given, current, is_again, item_of, item_in, kind_of, module_at, opened, unless_again}
+use Rattle.omf_linking.specs.Inner.Titling.{AreTitles}
+use Rattle.omf_linking.specs.Locator.Items.{Item, Nothing, Opened, Given, current, given_at, group_given, group_title, in_quotes, is_again, item_of, item_in, kind_of, module_at, opened, or_unshared, segment_framed, segment_title, settled, shared_frame, told_kind, unless_again}
 use Rattle.omf_linking.specs.Locator.Keys.{count_from, entry_named, module_named, names_entry, names_module, the_one}
-use Rattle.omf_linking.specs.Locator.LinkEntries.{Key, Target, Opens, Gives}
+use Rattle.omf_linking.specs.Locator.LinkEntries.{Key, Target, SegmentPlace, GroupFrame, Told, Own, SharedPlace, SharedFrame, Opens, Gives}
 use Rattle.omf_linking.specs.Locator.Sparse.{Sparse, sparse_all, sparse_of}
 use Rattle.omf_linking.specs.declared.locator.fault.LineFault.{LineFault}
 use Rattle.omf_linking.specs.declared.locator.fault.LineFault.TheVariants as why
@@ -29,18 +32,20 @@ use Rattle.omf_linking.specs.declared.locator.fault.LocatorFault.TheVariants as 
 use Rattle.omf_linking.specs.declared.locator.lines.Current.{Current}
 use Rattle.omf_linking.specs.declared.locator.lines.Lines.{Lines}
 use Rattle.omf_linking.specs.declared.locator.tables.EntryKeys.{EntryKeys}
+use Rattle.omf_linking.proofs.TitleLaws.{titles-same}
 use Rattle.omf_linking.proofs.SparseLaws.{all_nothing_more, all_set, other_module, slice_get_all}
 
 -- what is kept of the lines, where a line opens no module
 abbrev IsSameWalk : Lines → Lines → Type 0
 IsSameWalk s new = (new.keys ≡ s.keys) × (new.opened ≡ s.opened) × (new.current ≡ s.current)
 
-same_walk : (ms : List (List Rec)) (s new : Lines) (items more : List Item) → AreLines ms s items → filter_map opened more ≡ filter_map opened items → IsSameWalk s new → new.given.items ≡ sparse_all ms more → AreLines ms new more
-same_walk ms s new items more at e same g = record {
+same_walk : (ms : List (List Rec)) (s new : Lines) (items more : List Item) → AreLines ms s items → filter_map opened more ≡ filter_map opened items → IsSameWalk s new → new.given.items ≡ sparse_all ms more → AreTitles ms new.titles more → AreLines ms new more
+same_walk ms s new items more at e same g titles = record {
   keys_are = subst (AreModuleKeys ms) (sym same.0) at.keys_are;
   opened_is = λ j. ap (λ o. contains nat_cmp o j) same.1 ∙ at.opened_is j ∙ ap (list_any (λ k. k == j)) (sym e);
   current_is = subst (λ (o : Option ℕ). IsCurrent ms new.current o) (ap last (sym e)) (subst (λ (c : Option Current). IsCurrent ms c (current items)) (sym same.2) at.current_is);
   given_is = g;
+  titles_are = titles;
 }
 
 -- a fault of a line
@@ -86,8 +91,8 @@ or_only false true = refl
 or_only false false = refl
 
 pub more_opened : (ms : List (List Rec)) (s new : Lines) (items : List Item) (j : ℕ) (k : EntryKeys) → AreLines ms s items → Updates nat_cmp s.opened new.opened j true → ((m : List Rec) → slice_get ms j ≡ Some m → AreEntryKeys m k)
-    → new.keys ≡ s.keys → new.current ≡ Some (record { number = j; keys = k }) → new.given ≡ s.given → AreLines ms new (items ++ Opened j ∷ [])
-more_opened ms s new items j k at u own same here g =
+    → new.keys ≡ s.keys → new.current ≡ Some (record { number = j; keys = k }) → new.given ≡ s.given → new.titles ≡ s.titles → AreLines ms new (items ++ Opened j ∷ [])
+more_opened ms s new items j k at u own same here g kept =
     let begun : filter_map opened (items ++ Opened j ∷ []) ≡ filter_map opened items ++ j ∷ [] = filter_map-append opened items (Opened j ∷ []) in
     let now : current (items ++ Opened j ∷ []) ≡ Some j = ap last begun ∙ last_more None (filter_map opened items) j in
     record {
@@ -97,40 +102,61 @@ more_opened ms s new items j k at u own same here g =
           ∙ sym (ap (list_any (λ i. i == q)) begun ∙ list_any-append (λ i. i == q) (filter_map opened items) (j ∷ []));
       current_is = subst (λ (c : Option Current). IsCurrent ms c (current (items ++ Opened j ∷ []))) (sym here) (now, own);
       given_is = ap (λ (v : Vec Sparse). v.items) g ∙ at.given_is ∙ sym (all_nothing_more items (Opened j) ms refl refl refl);
+      titles_are = subst (λ t. AreTitles ms t (items ++ Opened j ∷ [])) (sym kept) (titles-same ms s.titles items (Opened j) at.titles_are refl refl);
     }
 
 -- a line that does nothing
 pub more_nothing : (ms : List (List Rec)) (s : Lines) (items : List Item) → AreLines ms s items → AreLines ms s (items ++ Nothing ∷ [])
-more_nothing ms s items at = same_walk ms s s items (items ++ Nothing ∷ []) at (filter_map-append opened items (Nothing ∷ []) ∙ append-nil (filter_map opened items)) (refl, refl, refl) (at.given_is ∙ sym (all_nothing_more items Nothing ms refl refl refl))
+more_nothing ms s items at = same_walk ms s s items (items ++ Nothing ∷ []) at (filter_map-append opened items (Nothing ∷ []) ∙ append-nil (filter_map opened items)) (refl, refl, refl) (at.given_is ∙ sym (all_nothing_more items Nothing ms refl refl refl)) (titles-same ms s.titles items Nothing at.titles_are refl refl)
 
 -- ---- an entry is given something
 
-module _ (ms : List (List Rec)) (items : List Item) (k : Key) (t : Target) (j : ℕ) (now : current items ≡ Some j) where
-  gives_by : item_of ms items (Some (Gives k t)) ≡ item_in items (module_at ms j) k t
-  gives_by = ap (λ (o : Option ℕ). item_in items (option_and_then (module_at ms) o) k t) now
+-- what is settled is of the line's kind
+place_kind : (a : ℕ) (o : Option Frame) (x : Target) → or_unshared (option_map (λ f. SegmentPlace (record { address = a; frame = f })) o) ≡ Ok x → kind_of x ≡ kinds.Segment
+place_kind a None x e = absurd cc
+place_kind a (Some f) x e = let same : SegmentPlace (record { address = a; frame = f }) ≡ x = cc in ap kind_of (sym same)
+
+frame_kind : (o : Option Frame) (x : Target) → or_unshared (option_map (λ f. GroupFrame (Some f)) o) ≡ Ok x → kind_of x ≡ kinds.Group
+frame_kind None x e = absurd cc
+frame_kind (Some f) x e = let same : GroupFrame (Some f) ≡ x = cc in ap kind_of (sym same)
+
+pub settled_kind : (ms : List (List Rec)) (items : List Item) (m : List Rec) (t : Told) (i : ℕ) (x : Target) → settled ms items m t i ≡ Ok x → kind_of x ≡ told_kind t
+settled_kind ms items m (Own y) i x e = let same : y ≡ x = cc in ap kind_of (sym same)
+settled_kind ms items m (SharedPlace a) i x e = place_kind a (shared_frame segment_title ms (in_quotes (segment_title m i)) (filter_map segment_framed items)) x e
+settled_kind ms items m SharedFrame i x e = frame_kind (shared_frame group_title ms (in_quotes (group_title m i)) (filter_map group_given items)) x e
+
+module _ (ms : List (List Rec)) (items : List Item) (k : Key) (t : Told) (j : ℕ) (now : current items ≡ Some j) where
+  gives_by : item_of ms items (Some (Gives k t)) ≡ item_in ms items (module_at ms j) k t
+  gives_by = ap (λ (o : Option ℕ). item_in ms items (option_and_then (module_at ms) o) k t) now
 
   pub gives_far : length ms ≤ j → item_of ms items (Some (Gives k t)) ≡ Err why.NoModule
-  gives_far far = gives_by ∙ ap (λ (o : Option (List Rec)). item_in items (option_map (λ m. (j, m)) o) k t) (slice_get_past ms j far)
+  gives_far far = gives_by ∙ ap (λ (o : Option (List Rec)). item_in ms items (option_map (λ m. (j, m)) o) k t) (slice_get_past ms j far)
 
   module _ (m : List Rec) (found : slice_get ms j ≡ Some m) where
-    gives_in : item_of ms items (Some (Gives k t)) ≡ unless_again items (map_ok (λ i. Given j i t) (entry_named m (kind_of t) k))
-    gives_in = gives_by ∙ ap (λ (o : Option (List Rec)). item_in items (option_map (λ x. (j, x)) o) k t) found
+    gives_in : item_of ms items (Some (Gives k t)) ≡ given_at ms items (j, m) t (entry_named m (told_kind t) k)
+    gives_in = gives_by ∙ ap (λ (o : Option (List Rec)). item_in ms items (option_map (λ x. (j, x)) o) k t) found
 
-    pub gives_none : (w : LineFault) → entry_named m (kind_of t) k ≡ Err w → item_of ms items (Some (Gives k t)) ≡ Err w
-    gives_none w e = gives_in ∙ ap (λ (r : Result ℕ LineFault). unless_again items (map_ok (λ i. Given j i t) r)) e
+    pub gives_none : (w : LineFault) → entry_named m (told_kind t) k ≡ Err w → item_of ms items (Some (Gives k t)) ≡ Err w
+    gives_none w e = gives_in ∙ ap (λ (r : Result ℕ LineFault). given_at ms items (j, m) t r) e
 
-    module _ (i : ℕ) (named : entry_named m (kind_of t) k ≡ Ok i) where
-      gives_one : item_of ms items (Some (Gives k t)) ≡ unless_again items (Ok (Given j i t))
-      gives_one = gives_in ∙ ap (λ (r : Result ℕ LineFault). unless_again items (map_ok (λ x. Given j x t) r)) named
+    module _ (i : ℕ) (named : entry_named m (told_kind t) k ≡ Ok i) where
+      gives_one : item_of ms items (Some (Gives k t)) ≡ unless_again items (map_ok (Given j i) (settled ms items m t i))
+      gives_one = gives_in ∙ ap (λ (r : Result ℕ LineFault). given_at ms items (j, m) t r) named
 
-      pub gives_again : is_again items (Given j i t) ≡ true → item_of ms items (Some (Gives k t)) ≡ Err why.Twice
-      gives_again e = gives_one ∙ unless_true items (Given j i t) e
+      pub gives_unshared : (w : LineFault) → settled ms items m t i ≡ Err w → item_of ms items (Some (Gives k t)) ≡ Err w
+      gives_unshared w e = gives_one ∙ ap (λ (r : Result Target LineFault). unless_again items (map_ok (Given j i) r)) e
+
+      gives_settled : (x : Target) → settled ms items m t i ≡ Ok x → item_of ms items (Some (Gives k t)) ≡ unless_again items (Ok (Given j i x))
+      gives_settled x e = gives_one ∙ ap (λ (r : Result Target LineFault). unless_again items (map_ok (Given j i) r)) e
+
+      pub gives_again : (x : Target) → settled ms items m t i ≡ Ok x → is_again items (Given j i x) ≡ true → item_of ms items (Some (Gives k t)) ≡ Err why.Twice
+      gives_again x s e = gives_settled x s ∙ unless_true items (Given j i x) e
         where
           unless_true : (xs : List Item) (x : Item) → is_again xs x ≡ true → unless_again xs (Ok x) ≡ Err why.Twice
           unless_true xs x e = rw e refl
 
-      pub gives_first : is_again items (Given j i t) ≡ false → item_of ms items (Some (Gives k t)) ≡ Ok (Given j i t)
-      gives_first e = gives_one ∙ unless_false items (Given j i t) e
+      pub gives_first : (x : Target) → settled ms items m t i ≡ Ok x → is_again items (Given j i x) ≡ false → item_of ms items (Some (Gives k t)) ≡ Ok (Given j i x)
+      gives_first x s e = gives_settled x s ∙ unless_false items (Given j i x) e
         where
           unless_false : (xs : List Item) (x : Item) → is_again xs x ≡ false → unless_again xs (Ok x) ≡ Ok x
           unless_false xs x e = rw e refl
@@ -143,10 +169,10 @@ all_put items j i t ms m found =
 
 -- one module's tables after the line
 pub more_given : (ms : List (List Rec)) (s new : Lines) (items : List Item) (j i : ℕ) (t : Target) (m : List Rec) (v : Sparse) → AreLines ms s items → slice_get ms j ≡ Some m → v ≡ sparse_of (items ++ Given j i t ∷ []) (j, m)
-    → new.keys ≡ s.keys → new.opened ≡ s.opened → new.current ≡ s.current → new.given.items ≡ set s.given.items j v → AreLines ms new (items ++ Given j i t ∷ [])
-more_given ms s new items j i t m v at found is k o c g =
+    → new.keys ≡ s.keys → new.opened ≡ s.opened → new.current ≡ s.current → new.given.items ≡ set s.given.items j v → AreTitles ms new.titles (items ++ Given j i t ∷ []) → AreLines ms new (items ++ Given j i t ∷ [])
+more_given ms s new items j i t m v at found is k o c g titles =
     same_walk ms s new items (items ++ Given j i t ∷ []) at (filter_map-append opened items (Given j i t ∷ []) ∙ append-nil (filter_map opened items)) (k, o, c)
-    (g ∙ ap₂ (λ (xs : List Sparse) (x : Sparse). set xs j x) at.given_is is ∙ sym (all_put items j i t ms m found))
+    (g ∙ ap₂ (λ (xs : List Sparse) (x : Sparse). set xs j x) at.given_is is ∙ sym (all_put items j i t ms m found)) titles
 
 pub as_many_lines : (ms : List (List Rec)) (s : Lines) (items : List Item) → AreLines ms s items → length s.given.items ≡ length ms
 as_many_lines ms s items at = ap length at.given_is ∙ length-map (enumerate_from 0 ms) (sparse_of items) ∙ length-enumerate_from 0 ms

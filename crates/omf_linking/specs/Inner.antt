@@ -6,6 +6,7 @@ pub mod Searching
 pub mod Gathering
 pub mod LineParsing
 pub mod KeyTables
+pub mod Titling
 pub mod Walking
 pub mod Forms
 pub mod Folding

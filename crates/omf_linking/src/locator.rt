@@ -4,7 +4,8 @@
 //! M "main.asm"                 ; the lines after it are for this module, up to the next M
 //! S "_TEXT" 7C00 0 0           ; a segment: address, base of the frame, selector
 //! S "_DATA" "DATA" 7C40 real   ; the segment of this name and class; its real-mode frame
-//! G "DGROUP" 7C40 7C4          ; a group: base and selector; or `real` for the frame of its lowest member
+//! S "_CODE" 7C35 shared        ; the frame of the first line for a segment of this name and class
+//! G "DGROUP" 7C40 7C4          ; a group: base and selector; `real` for the frame of its lowest member; `shared`
 //! X "_printf" FFFF0 F0000 F000 ; an external
 //! M #2                         ; the second module of the input
 //! S #1 7D00 real               ; its first segment
@@ -24,9 +25,11 @@ mod lines;
 pub mod rows;
 mod sparse;
 mod tables;
+mod titles;
 
-pub use entry::{Key, LinkEntry, Target, link_entry_on};
+pub use entry::{Key, LinkEntry, Target, Told, link_entry_on};
 pub use fault::{LineFault, LocatorFault};
 pub use keys::{class_name, entry_count, entry_name, module_name};
 pub use lines::sparse_places;
 pub use sparse::Sparse;
+pub use titles::Titles;

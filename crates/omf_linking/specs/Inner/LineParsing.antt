@@ -1,11 +1,13 @@
 -- The entries of the code, and the steps of parsing a line.
 use Rattle.std.specs.Prelude.{ℕ, List, [], Option, Some, None}
 use Rattle.omf_placement.specs.Inner.EntryReading.{words_of}
-use Rattle.omf_linking.specs.Locator.LinkEntries.{Key, Named, OfClass, Numbered, Target, SegmentPlace, GroupFrame, ExternalPlace, LinkEntry, Blank, Opens, Gives}
+use Rattle.omf_linking.specs.Locator.LinkEntries.{Key, Named, OfClass, Numbered, Target, SegmentPlace, GroupFrame, ExternalPlace, Told, Own, SharedPlace, SharedFrame, LinkEntry, Blank, Opens, Gives}
 use Rattle.omf_linking.specs.declared.locator.entry.Key.TheVariants as keys
 use Rattle.omf_linking.specs.declared.locator.entry.Key as written_key
 use Rattle.omf_linking.specs.declared.locator.entry.Target.TheVariants as targets
 use Rattle.omf_linking.specs.declared.locator.entry.Target as written_target
+use Rattle.omf_linking.specs.declared.locator.entry.Told.TheVariants as tellings
+use Rattle.omf_linking.specs.declared.locator.entry.Told as written_told
 use Rattle.omf_linking.specs.declared.locator.entry.LinkEntry.TheVariants as code
 use Rattle.omf_linking.specs.declared.locator.entry.LinkEntry as written
 use denote.Ref.{Bor}
@@ -20,11 +22,16 @@ target_seen (targets.Segment p) = SegmentPlace p
 target_seen (targets.Group f) = GroupFrame f
 target_seen (targets.External p) = ExternalPlace p
 
+abbrev pub told_seen : written_told.Told → Told
+told_seen (tellings.Own t) = Own (target_seen t)
+told_seen (tellings.SharedPlace a) = SharedPlace a
+told_seen tellings.SharedFrame = SharedFrame
+
 -- An entry of the code.
 abbrev pub seen : written.LinkEntry → LinkEntry
 seen code.Blank = Blank
 seen (code.Opens k) = Opens (key_seen k)
-seen (code.Gives k t) = Gives (key_seen k) (target_seen t)
+seen (code.Gives k t) = Gives (key_seen k) (told_seen t)
 
 -- The words of the text that is left, if any.
 abbrev pub words_left : Option (Bor (List ℕ)) → List (List ℕ)

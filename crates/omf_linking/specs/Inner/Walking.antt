@@ -5,6 +5,7 @@ use Rattle.std.specs.List.{list_any}
 use Rattle.std.specs.Ordering.{nat_cmp}
 use Rattle.omf_records.specs.Values.{Rec}
 use Rattle.omf_linking.specs.Inner.KeyTables.{AreEntryKeys, AreModuleKeys}
+use Rattle.omf_linking.specs.Inner.Titling.{AreTitles}
 use Rattle.omf_linking.specs.Locator.Items.{Item, Given, current, is_again, kind_of, opened}
 use Rattle.omf_linking.specs.Locator.LinkEntries.{Target}
 use Rattle.omf_reloc.specs.Reach.{entries}
@@ -25,6 +26,7 @@ pub record AreLines (ms : List (List Rec)) (s : Lines) (items : List Item) : Typ
   pub opened_is : (j : ℕ) → contains nat_cmp s.opened j ≡ list_any (λ k. k == j) (filter_map opened items)
   pub current_is : IsCurrent ms s.current (current items)
   pub given_is : s.given.items ≡ sparse_all ms items
+  pub titles_are : AreTitles ms s.titles items
 
 -- The result of a line after these items: it has an item, or this is why it has none; or memory ran out.
 abbrev pub IsTaken : List (List Rec) → Lines → List Item → ℕ → Result Item LineFault → Result (Unit {0}) LocatorFault → Type 0

@@ -1,5 +1,5 @@
 -- The lines of a draft, by their entries: each names its module or entry by a key (this profile's rule).
-use Rattle.std.specs.Prelude.{◌≡◌, ◌≤◌, ⊤, ℕ, zero, suc, ◌+◌, List, [], ◌∷◌, ◌++◌, length, map, Option, Some, None, Ok}
+use Rattle.std.specs.Prelude.{◌≡◌, ◌≤◌, ⊤, ℕ, zero, suc, ◌+◌, List, [], ◌∷◌, ◌++◌, length, map, flat_map, Bool, true, false, ◌==◌, ◌&&◌, not, Option, Some, None, Ok, if◌then◌else◌}
 use Rattle.std.specs.List.{enumerate_from}
 use Rattle.omf_records.specs.Values.{Rec}
 use Rattle.omf_check.specs.Tables.{segments, groups, externals}
@@ -8,8 +8,9 @@ use Rattle.omf_placement.specs.declared.frame.Frame.{Frame}
 use Rattle.omf_placement.specs.declared.frame.Placed.{Placed}
 use Rattle.omf_reloc.specs.declared.fault.Kind.TheVariants as kinds
 use Rattle.omf_linking.specs.Locator.KeyForms.{key_form, key_of, module_key}
+use Rattle.omf_linking.specs.Locator.Items.{Title, first_titled, group_title, in_quotes, segment_title}
 use Rattle.omf_linking.specs.Locator.Keys.{entry_named, module_named}
-use Rattle.omf_linking.specs.Locator.LinkEntries.{Key, SegmentPlace, GroupFrame, LinkEntry, Blank, Opens, Gives}
+use Rattle.omf_linking.specs.Locator.LinkEntries.{Key, SegmentPlace, GroupFrame, Told, Own, SharedPlace, SharedFrame, LinkEntry, Blank, Opens, Gives}
 use Rattle.omf_linking.specs.Locator.Sparse.{Sparse}
 
 -- There are as many places and frames as the module has segments and groups.
@@ -22,26 +23,60 @@ pub record HasEntries (m : List Rec) (pl : Places) : Type 0 where
 abbrev pub told_places : List Rec × Places → Sparse
 told_places m = record { segments = map Some m.1.segments; groups = map (λ f. Some (Some f)) m.1.groups; externals = map (λ e. None) (externals m.0) }
 
--- The keys by which the lines of a module name it, its segments and its groups; and how many comments are after these lines.
+-- The keys by which the lines of a module name it, its segments and its groups; which of these share the frame of their name; and how many comments are after these
+-- lines.
 pub record Labels : Type 0 where
   pub opening : Key
   pub segment : ℕ → Key
   pub group : ℕ → Key
+  pub shares_segment : ℕ → Frame → Bool
+  pub shares_group : ℕ → Frame → Bool
   pub count : ℕ
+
+abbrev pub segment_told : Bool → Placed → Told
+segment_told shared p = if shared then SharedPlace p.address else Own (SegmentPlace p)
+
+abbrev pub group_told : Bool → Frame → Told
+group_told shared f = if shared then SharedFrame else Own (GroupFrame (Some f))
 
 -- The lines of segments, of groups and of a module: the line that begins them, one for each segment and each group, and comments.
 abbrev pub blanks : ℕ → List LinkEntry
 blanks zero = []
 blanks (suc c) = Blank ∷ blanks c
 
-abbrev pub segment_lines_of : (ℕ → Key) → ℕ → List Placed → List LinkEntry
-segment_lines_of key s ps = map (λ y. Gives (key y.0) (SegmentPlace y.1)) (enumerate_from s ps)
+abbrev pub segment_lines_of : Labels → ℕ → List Placed → List LinkEntry
+segment_lines_of q s ps = map (λ y. Gives (q.segment y.0) (segment_told (q.shares_segment y.0 y.1.frame) y.1)) (enumerate_from s ps)
 
-abbrev pub group_lines_of : (ℕ → Key) → ℕ → List Frame → List LinkEntry
-group_lines_of key g fs = map (λ y. Gives (key y.0) (GroupFrame (Some y.1))) (enumerate_from g fs)
+abbrev pub group_lines_of : Labels → ℕ → List Frame → List LinkEntry
+group_lines_of q g fs = map (λ y. Gives (q.group y.0) (group_told (q.shares_group y.0 y.1) y.1)) (enumerate_from g fs)
 
 abbrev pub module_lines : Labels → Places → List LinkEntry
-module_lines q pl = Opens q.opening ∷ (segment_lines_of q.segment 1 pl.segments ++ (group_lines_of q.group 1 pl.groups ++ blanks q.count))
+module_lines q pl = Opens q.opening ∷ (segment_lines_of q 1 pl.segments ++ (group_lines_of q 1 pl.groups ++ blanks q.count))
+
+-- The frames of segments and of groups of modules, in the order of the lines.
+abbrev pub segments_framed : ℕ → ℕ → List Placed → List ((ℕ × ℕ) × Option Frame)
+segments_framed j s ps = map (λ y. ((j, y.0), Some y.1.frame)) (enumerate_from s ps)
+
+abbrev pub groups_framed : ℕ → ℕ → List Frame → List ((ℕ × ℕ) × Option Frame)
+groups_framed j g fs = map (λ y. ((j, y.0), Some y.1)) (enumerate_from g fs)
+
+abbrev pub all_segments : ℕ → List Places → List ((ℕ × ℕ) × Option Frame)
+all_segments a pls = flat_map (λ x. segments_framed x.0 1 x.1.segments) (enumerate_from a pls)
+
+abbrev pub all_groups : ℕ → List Places → List ((ℕ × ℕ) × Option Frame)
+all_groups a pls = flat_map (λ x. groups_framed x.0 1 x.1.groups) (enumerate_from a pls)
+
+-- An entry in this frame shares that of the first of its name, if it is not the first itself and is in the same frame.
+abbrev pub is_same : Option Frame → Frame → Bool
+is_same None f = false
+is_same (Some g) f = (g.base == f.base) && (g.selector == f.selector)
+
+abbrev pub is_sharing : ℕ × ℕ → Frame → Option ((ℕ × ℕ) × Option Frame) → Bool
+is_sharing at f None = false
+is_sharing at f (Some first) = not ((first.0.0 == at.0) && (first.0.1 == at.1)) && is_same first.1 f
+
+abbrev pub sharing : (List Rec → ℕ → Title) → List (List Rec) → List ((ℕ × ℕ) × Option Frame) → ℕ → List Rec → ℕ → Frame → Bool
+sharing title ms all j m i f = is_sharing (j, i) f (first_titled title ms (in_quotes (title m i)) all)
 
 -- The lines of all modules.
 abbrev pub all_lines : List Places → List Labels → List LinkEntry
@@ -52,26 +87,30 @@ all_lines _ _ = []
 abbrev pub told_from : {E : Type 0} → ℕ → List E → List (ℕ × Option E)
 told_from n es = map (λ l. (l.0, Some l.1)) (enumerate_from n es)
 
--- The keys name module j of the input, and each segment and group of it. Those of each module, the first with number a.
-pub record AreNamed (ms : List (List Rec)) (j : ℕ) (m : List Rec) (q : Labels) : Type 0 where
+-- The keys name module j of the input, and each segment and group of it; those that share a frame share it. Those of each module, the first with number a.
+pub record AreNamed (ms : List (List Rec)) (all : List Places) (j : ℕ) (m : List Rec) (q : Labels) : Type 0 where
   pub «module» : module_named ms q.opening ≡ Ok j
   pub segments : (i : ℕ) → 1 ≤ i → i ≤ length (segments m) → entry_named m kinds.Segment (q.segment i) ≡ Ok i
   pub groups : (i : ℕ) → 1 ≤ i → i ≤ length (groups m) → entry_named m kinds.Group (q.group i) ≡ Ok i
+  pub shared_segments : (i : ℕ) (f : Frame) → q.shares_segment i f ≡ true → sharing segment_title ms (all_segments 0 all) j m i f ≡ true
+  pub shared_groups : (i : ℕ) (f : Frame) → q.shares_group i f ≡ true → sharing group_title ms (all_groups 0 all) j m i f ≡ true
 
-abbrev pub AllNamed : List (List Rec) → ℕ → List (List Rec) → List Places → List Labels → Type 0
-AllNamed ms a [] [] [] = ⊤
-AllNamed ms a (m ∷ ns) (pl ∷ pls) (q ∷ qs) = AreNamed ms a m q × (HasEntries m pl × AllNamed ms (a + 1) ns pls qs)
-AllNamed ms a _ _ _ = ⊥
+abbrev pub AllNamed : List (List Rec) → List Places → ℕ → List (List Rec) → List Places → List Labels → Type 0
+AllNamed ms all a [] [] [] = ⊤
+AllNamed ms all a (m ∷ ns) (pl ∷ pls) (q ∷ qs) = AreNamed ms all a m q × (HasEntries m pl × AllNamed ms all (a + 1) ns pls qs)
+AllNamed ms all a _ _ _ = ⊥
 
--- The keys of drafts.
-abbrev pub labels : List (List Rec) → ℕ → List Rec → ℕ → Labels
-labels ms j m c = record {
+-- The labels of drafts; those that share frames where the first argument is set.
+abbrev pub labels : Bool → List (List Rec) → List Places → ℕ → List Rec → ℕ → Labels
+labels shared ms pls j m c = record {
   opening = module_key ms j m;
   segment = λ i. key_of m kinds.Segment (key_form m kinds.Segment i) i;
   group = λ i. key_of m kinds.Group (key_form m kinds.Group i) i;
+  shares_segment = λ i f. shared && sharing segment_title ms (all_segments 0 pls) j m i f;
+  shares_group = λ i f. shared && sharing group_title ms (all_groups 0 pls) j m i f;
   count = c;
 }
 
-abbrev pub labels_from : List (List Rec) → ℕ → List (List Rec) → List ℕ → List Labels
-labels_from ms a (m ∷ ns) (c ∷ cs) = labels ms a m c ∷ labels_from ms (a + 1) ns cs
-labels_from ms a _ _ = []
+abbrev pub labels_from : Bool → List (List Rec) → List Places → ℕ → List (List Rec) → List ℕ → List Labels
+labels_from shared ms pls a (m ∷ ns) (c ∷ cs) = labels shared ms pls a m c ∷ labels_from shared ms pls (a + 1) ns cs
+labels_from shared ms pls a _ _ = []

@@ -1,15 +1,17 @@
 -- The lines of a locator's text, each by the modules and by the lines before it (this profile's rule).
-use Rattle.std.specs.Prelude.{ℕ, List, [], ◌∷◌, ◌++◌, filter_map, find, Bool, false, ◌==◌, ◌&&◌, Option, Some, None, option_map, option_and_then, is_some, slice_get, Result, Ok, Err, if◌then◌else◌}
+use Rattle.std.specs.Prelude.{ℕ, List, [], ◌∷◌, ◌++◌, filter_map, find, flat_map, Bool, false, ◌==◌, ◌&&◌, Option, Some, None, bytes_eq, option_map, option_and_then, unwrap_or, is_some, slice_get, Result, Ok, Err, if◌then◌else◌}
 use Rattle.std.specs.List.{list_any}
+use Rattle.std.specs.Option.{option_map_or}
 use Rattle.omf_frame.specs.Bytes.{last}
 use Rattle.omf_records.specs.Values.{Rec}
 use Rattle.omf_records.specs.Inner.Seen.{map_ok}
+use Rattle.omf_placement.specs.Quoted.{escaped}
 use Rattle.omf_placement.specs.declared.frame.Frame.{Frame}
 use Rattle.omf_placement.specs.declared.frame.Placed.{Placed}
 use Rattle.omf_reloc.specs.declared.fault.Kind.{Kind}
 use Rattle.omf_reloc.specs.declared.fault.Kind.TheVariants as kinds
-use Rattle.omf_linking.specs.Locator.Keys.{entry_named, module_named}
-use Rattle.omf_linking.specs.Locator.LinkEntries.{Key, Target, SegmentPlace, GroupFrame, ExternalPlace, LinkEntry, Blank, Opens, Gives, Line}
+use Rattle.omf_linking.specs.Locator.Keys.{class_name, entry_name, entry_named, module_named}
+use Rattle.omf_linking.specs.Locator.LinkEntries.{Key, Target, SegmentPlace, GroupFrame, ExternalPlace, Told, Own, SharedPlace, SharedFrame, LinkEntry, Blank, Opens, Gives, Line}
 use Rattle.omf_linking.specs.declared.locator.fault.LineFault.{LineFault}
 use Rattle.omf_linking.specs.declared.locator.fault.LineFault.TheVariants as why
 use Rattle.omf_linking.specs.declared.locator.fault.LocatorFault.{LocatorFault}
@@ -73,20 +75,67 @@ kind_of (SegmentPlace p) = kinds.Segment
 kind_of (GroupFrame f) = kinds.Group
 kind_of (ExternalPlace p) = kinds.External
 
+abbrev pub told_kind : Told → Kind
+told_kind (Own t) = kind_of t
+told_kind (SharedPlace a) = kinds.Segment
+told_kind SharedFrame = kinds.Group
+
+-- What segments and groups share a frame by: a segment its name and its class, a group its name; without a name it is empty. As it is written in quotes.
+abbrev pub Title : Type 0
+Title = List ℕ × List ℕ
+
+abbrev pub segment_title : List Rec → ℕ → Title
+segment_title m i = (unwrap_or (entry_name m kinds.Segment i) [], unwrap_or (class_name m i) [])
+
+abbrev pub group_title : List Rec → ℕ → Title
+group_title m i = (unwrap_or (entry_name m kinds.Group i) [], [])
+
+abbrev pub in_quotes : Title → Title
+in_quotes t = (flat_map escaped t.0, flat_map escaped t.1)
+
+abbrev pub is_titled : (List Rec → ℕ → Title) → List (List Rec) → Title → ℕ × ℕ → Bool
+is_titled title ms t e = option_map_or (λ m. bytes_eq t.0 (in_quotes (title m e.1)).0 && bytes_eq t.1 (in_quotes (title m e.1)).1) (slice_get ms e.0) false
+
+-- The frame that a name shares: that of the first of these lines for a segment of this name and class, or for a group of this name. None if there is no such line, or
+-- that line names no frame: it is `real`, of a group.
+abbrev pub segment_framed : Item → Option ((ℕ × ℕ) × Option Frame)
+segment_framed (Given j i (SegmentPlace p)) = Some ((j, i), Some p.frame)
+segment_framed _ = None
+
+abbrev pub first_titled : (List Rec → ℕ → Title) → List (List Rec) → Title → List ((ℕ × ℕ) × Option Frame) → Option ((ℕ × ℕ) × Option Frame)
+first_titled title ms t gs = find (λ g. is_titled title ms t g.0) gs
+
+abbrev pub shared_frame : (List Rec → ℕ → Title) → List (List Rec) → Title → List ((ℕ × ℕ) × Option Frame) → Option Frame
+shared_frame title ms t gs = option_and_then (λ g. g.1) (first_titled title ms t gs)
+
+-- What a line gives entry i of a module, after others.
+abbrev pub or_unshared : Option Target → Result Target LineFault
+or_unshared (Some t) = Ok t
+or_unshared None = Err why.Unshared
+
+abbrev pub settled : List (List Rec) → List Item → List Rec → Told → ℕ → Result Target LineFault
+settled ms before m (Own t) i = Ok t
+settled ms before m (SharedPlace a) i = or_unshared (option_map (λ f. SegmentPlace (record { address = a; frame = f })) (shared_frame segment_title ms (in_quotes (segment_title m i)) (filter_map segment_framed before)))
+settled ms before m SharedFrame i = or_unshared (option_map (λ f. GroupFrame (Some f)) (shared_frame group_title ms (in_quotes (group_title m i)) (filter_map group_given before)))
+
 -- The module that a line is for: its number, and its records.
 abbrev pub module_at : List (List Rec) → ℕ → Option (ℕ × List Rec)
 module_at ms j = option_map (λ m. (j, m)) (slice_get ms j)
 
 -- The item of a line after others, by its entry; or why it has none.
-abbrev pub item_in : List Item → Option (ℕ × List Rec) → Key → Target → Result Item LineFault
-item_in before None k t = Err why.NoModule
-item_in before (Some m) k t = unless_again before (map_ok (λ i. Given m.0 i t) (entry_named m.1 (kind_of t) k))
+abbrev pub given_at : List (List Rec) → List Item → ℕ × List Rec → Told → Result ℕ LineFault → Result Item LineFault
+given_at ms before m t (Ok i) = unless_again before (map_ok (Given m.0 i) (settled ms before m.1 t i))
+given_at ms before m t (Err w) = Err w
+
+abbrev pub item_in : List (List Rec) → List Item → Option (ℕ × List Rec) → Key → Told → Result Item LineFault
+item_in ms before None k t = Err why.NoModule
+item_in ms before (Some m) k t = given_at ms before m t (entry_named m.1 (told_kind t) k)
 
 abbrev pub item_of : List (List Rec) → List Item → Option LinkEntry → Result Item LineFault
 item_of ms before None = Err why.NotUnderstood
 item_of ms before (Some Blank) = Ok Nothing
 item_of ms before (Some (Opens k)) = unless_again before (map_ok Opened (module_named ms k))
-item_of ms before (Some (Gives k t)) = item_in before (option_and_then (module_at ms) (current before)) k t
+item_of ms before (Some (Gives k t)) = item_in ms before (option_and_then (module_at ms) (current before)) k t
 
 -- The items of lines after others; or the first line that has none, and why.
 abbrev pub items_after : List (List Rec) → List Item → List Line → Result (List Item) LocatorFault

@@ -1,5 +1,5 @@
 -- Laws of the keys of drafts, each the contract of a function of the same name.
-use Rattle.std.specs.Prelude.{◌≡◌, ◌≤◌, ℕ, List, [], ◌∷◌, ◌++◌, length, map, zip, slice_get, Some, Ok}
+use Rattle.std.specs.Prelude.{◌≡◌, ◌≤◌, ℕ, List, [], ◌∷◌, ◌++◌, length, map, zip, Bool, slice_get, Some, Ok}
 use Rattle.std.specs.List.{AllZip}
 use Rattle.omf_records.specs.Values.{Rec}
 use Rattle.omf_records.specs.Inner.Seen.{map_ok}
@@ -26,7 +26,7 @@ abbrev pub KeysNameModules : Type 0
 KeysNameModules = (ms : List (List Rec)) (j : ℕ) (m : List Rec) → slice_get ms j ≡ Some m → module_named ms (module_key ms j m) ≡ Ok j
 
 -- The entries of the lines of a draft, a line for each segment and each group, and any number of comments after those of each module, give each module exactly its
--- places.
+-- places; also where lines share frames.
 abbrev pub DraftedEntriesGivePlaces : Type 0
-DraftedEntriesGivePlaces = (ms : List (List Rec)) (pls : List Places) (comments : List ℕ) → AllZip HasEntries ms pls → length comments ≡ length ms
-    → map_ok (sparse_all ms) (items_after ms [] (told_from 1 (all_lines pls (labels_from ms 0 ms comments) ++ Blank ∷ []))) ≡ Ok (map told_places (zip ms pls))
+DraftedEntriesGivePlaces = (shared : Bool) (ms : List (List Rec)) (pls : List Places) (comments : List ℕ) → AllZip HasEntries ms pls → length comments ≡ length ms
+    → map_ok (sparse_all ms) (items_after ms [] (told_from 1 (all_lines pls (labels_from shared ms pls 0 ms comments) ++ Blank ∷ []))) ≡ Ok (map told_places (zip ms pls))

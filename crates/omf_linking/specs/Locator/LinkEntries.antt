@@ -1,11 +1,11 @@
--- The entry of a line of a locator's text (this profile's rule): a letter, a key, and a place or a frame.
+-- The entry of a line of a locator's text (this profile's rule): a letter, a key, and a place, a frame, or `shared`.
 use Rattle.std.specs.Prelude.{ℕ, List, [], ◌∷◌, length, map, Bool, ◌==◌, ◌&&◌, ◌^◌, nat_le, nat_lt, Option, Some, None, option_map, option_and_then, codes, if◌then◌else◌, bytes_eq}
 use Rattle.std.specs.List.{list_all, list_any, slice_split}
 use Rattle.std.specs.Char.{is_digit}
 use Rattle.std.specs.Str.Parse.{digits_value}
 use Rattle.omf_placement.specs.Entries.{said}
 -- computed: entries_are_read, places_are_read and numbers_are_read of omf_placement.
-use Rattle.omf_placement.specs.Inner.EntryReading.{frame_of, placed_of, real_of, words_of}
+use Rattle.omf_placement.specs.Inner.EntryReading.{frame_of, hexadecimal, placed_of, real_of, words_of}
 use Rattle.omf_placement.specs.PlacementText.{numbered_lines}
 use Rattle.omf_placement.specs.declared.frame.Frame.{Frame}
 use Rattle.omf_placement.specs.declared.frame.Placed.{Placed}
@@ -22,10 +22,16 @@ pub data Target : Type 0 where
   GroupFrame : Option Frame → Target
   ExternalPlace : Placed → Target
 
+-- What a line says: a place or a frame of its own; the address of a segment, in the frame that its name shares; or that a group is in the frame that its name shares.
+pub data Told : Type 0 where
+  Own : Target → Told
+  SharedPlace : ℕ → Told
+  SharedFrame : Told
+
 pub data LinkEntry : Type 0 where
   Blank : LinkEntry
   Opens : Key → LinkEntry
-  Gives : Key → Target → LinkEntry
+  Gives : Key → Told → LinkEntry
 
 -- A place is `address base selector` or `address real`; a frame is `base selector` or `real`.
 abbrev pub place_in : List (List ℕ) → Option Placed
@@ -37,6 +43,29 @@ abbrev pub frame_in : List (List ℕ) → Option (Option Frame)
 frame_in (r ∷ []) = if bytes_eq r (codes "real") then Some None else None
 frame_in (b ∷ s ∷ []) = option_map Some (frame_of b s)
 frame_in _ = None
+
+-- A segment's line may say `address shared`, and a group's `shared`.
+abbrev pub is_shared : List ℕ → Bool
+is_shared w = bytes_eq w (codes "shared")
+
+abbrev pub shared_place : List (List ℕ) → Option Told
+shared_place (a ∷ w ∷ []) = if is_shared w then option_map SharedPlace (hexadecimal 8 a) else None
+shared_place _ = None
+
+abbrev pub shared_word : List (List ℕ) → Option Told
+shared_word (w ∷ []) = if is_shared w then Some SharedFrame else None
+shared_word _ = None
+
+-- What the words of an `S` and of a `G` line say.
+abbrev pub own_or : Option Target → Option Told → Option Told
+own_or (Some t) o = Some (Own t)
+own_or None o = o
+
+abbrev pub segment_in : List (List ℕ) → Option Told
+segment_in ws = own_or (option_map SegmentPlace (place_in ws)) (shared_place ws)
+
+abbrev pub group_in : List (List ℕ) → Option Told
+group_in ws = own_or (option_map GroupFrame (frame_in ws)) (shared_word ws)
 
 -- The words after a key; none after that of an `M`.
 abbrev pub words_in : List ℕ → List (List ℕ)
@@ -50,9 +79,9 @@ opens k _ = None
 abbrev pub entry_by : List ℕ → Key → List (List ℕ) → Option LinkEntry
 entry_by letter k ws =
     if bytes_eq letter (codes "M") then opens k ws
-    else if bytes_eq letter (codes "S") then option_map (λ p. Gives k (SegmentPlace p)) (place_in ws)
-    else if bytes_eq letter (codes "G") then option_map (λ f. Gives k (GroupFrame f)) (frame_in ws)
-    else if bytes_eq letter (codes "X") then option_map (λ p. Gives k (ExternalPlace p)) (place_in ws)
+    else if bytes_eq letter (codes "S") then option_map (λ t. Gives k t) (segment_in ws)
+    else if bytes_eq letter (codes "G") then option_map (λ t. Gives k t) (group_in ws)
+    else if bytes_eq letter (codes "X") then option_map (λ p. Gives k (Own (ExternalPlace p))) (place_in ws)
     else None
 
 -- A number: `#` and 1 to 10 decimal digits. It is below 2^32.

@@ -3,8 +3,8 @@
 ghost use Rattle.std.specs.Prelude.{◌≡◌, ◌∷◌, ◌==◌, ◌<◌, [], option_map, length, IfSome};
 ghost use Rattle.std.specs.List.{list_all, list_any, slice_split};
 ghost use Rattle.omf_placement.specs.Inner.EntryReading.{frame_of, real_of, words_of};
-ghost use Rattle.omf_linking.specs.Locator.LinkEntries.{class_after, classed_entry, decimal_of, entry_by, entry_of_parts, frame_in, has_comment, if_short, is_printed, link_entry_on, name_entry, named_entry, number_of, numbered_entry, opens, place_in, unnamed_entry, words_in};
-ghost use Rattle.omf_linking.specs.Inner.LineParsing.{key_seen, seen, target_seen, words_left};
+ghost use Rattle.omf_linking.specs.Locator.LinkEntries.{class_after, classed_entry, decimal_of, entry_by, entry_of_parts, frame_in, group_in, has_comment, if_short, is_printed, is_shared, link_entry_on, name_entry, named_entry, number_of, numbered_entry, opens, place_in, segment_in, shared_place, shared_word, unnamed_entry, words_in};
+ghost use Rattle.omf_linking.specs.Inner.LineParsing.{key_seen, seen, told_seen, words_left};
 
 use omf_placement::cut::cut;
 use omf_placement::{Frame, Placed, hexadecimal, placed_of, said_by};
@@ -20,7 +20,7 @@ pub enum Key<'a> {
     Numbered(u32),
 }
 
-/// What a line gives.
+/// What an entry is given.
 #[derive(Clone, Copy)]
 pub enum Target {
     /// The place of a segment.
@@ -31,6 +31,17 @@ pub enum Target {
     External(Placed),
 }
 
+/// What a line says of an entry.
+#[derive(Clone, Copy)]
+pub enum Told {
+    /// A place or a frame of its own.
+    Own(Target),
+    /// `S key address shared`: a segment is at this address, in the frame that its name and class share.
+    SharedPlace(u32),
+    /// `G key shared`: a group is in the frame that its name shares.
+    SharedFrame,
+}
+
 /// The entry of a line.
 #[derive(Clone, Copy)]
 pub enum LinkEntry<'a> {
@@ -39,7 +50,7 @@ pub enum LinkEntry<'a> {
     /// `M key`: the lines of a module follow.
     Opens(Key<'a>),
     /// `S key ..`, `G key ..` or `X key ..`: what an entry of the module is given.
-    Gives(Key<'a>, Target),
+    Gives(Key<'a>, Told),
 }
 
 /// Returns a number as 32 bits, if it is below 2^32.
@@ -136,6 +147,62 @@ fn frame_in(words: Option<&[u8]>) -> Option<Option<Frame>>
     Some(Some(frame_of(first, second)?))
 }
 
+/// Returns whether a word is `shared`.
+fn is_shared(word: &[u8]) -> bool
+    ensures { result ≡ is_shared word.now }
+{
+    word == b"shared".as_slice()
+}
+
+/// Parses `address shared`.
+fn shared_place(words: Option<&[u8]>) -> Option<Told>
+    ensures { option_map told_seen result ≡ shared_place (words_left words.entry) }
+{
+    let (address, more) = cut(words?, b' ');
+    let (second, more) = cut(more?, b' ');
+    if more.is_some() {
+        return None;
+    }
+    if !is_shared(second) {
+        return None;
+    }
+    Some(Told::SharedPlace(hexadecimal(address, 8)?))
+}
+
+/// Parses what an `S` line says: a place, or `address shared`.
+fn segment_in(words: Option<&[u8]>) -> Option<Told>
+    ensures { option_map told_seen result ≡ segment_in (words_left words.entry) }
+{
+    match place_in(words) {
+        Some(place) => Some(Told::Own(Target::Segment(place))),
+        None => shared_place(words),
+    }
+}
+
+/// Parses `shared`.
+fn shared_frame(words: Option<&[u8]>) -> Option<Told>
+    ensures { option_map told_seen result ≡ shared_word (words_left words.entry) }
+{
+    let (first, more) = cut(words?, b' ');
+    if more.is_some() {
+        return None;
+    }
+    if !is_shared(first) {
+        return None;
+    }
+    Some(Told::SharedFrame)
+}
+
+/// Parses what a `G` line says: a frame, or `shared`.
+fn group_in(words: Option<&[u8]>) -> Option<Told>
+    ensures { option_map told_seen result ≡ group_in (words_left words.entry) }
+{
+    match frame_in(words) {
+        Some(frame) => Some(Told::Own(Target::Group(frame))),
+        None => shared_frame(words),
+    }
+}
+
 /// Returns the entry of an `M` line, after whose key nothing follows.
 fn opens<'a>(key: Key<'a>, words: Option<&[u8]>) -> Option<LinkEntry<'a>>
     ensures { option_map seen result ≡ opens (key_seen key.entry) (words_left words.entry) }
@@ -154,13 +221,14 @@ fn entry_by<'a>(letter: &[u8], key: Key<'a>, words: Option<&[u8]>) -> Option<Lin
         return opens(key, words);
     }
     if letter == b"S".as_slice() {
-        return Some(LinkEntry::Gives(key, Target::Segment(place_in(words)?)));
+        return Some(LinkEntry::Gives(key, segment_in(words)?));
     }
     if letter == b"G".as_slice() {
-        return Some(LinkEntry::Gives(key, Target::Group(frame_in(words)?)));
+        return Some(LinkEntry::Gives(key, group_in(words)?));
     }
     if letter == b"X".as_slice() {
-        return Some(LinkEntry::Gives(key, Target::External(place_in(words)?)));
+        let place = place_in(words)?;
+        return Some(LinkEntry::Gives(key, Told::Own(Target::External(place))));
     }
     None
 }
@@ -259,11 +327,11 @@ fn named_entry<'a>(letter: &[u8], text: &'a [u8]) -> Option<LinkEntry<'a>>
     classed_entry(letter, name, class)
 }
 
-/// Parses a line: a letter, a key, and a place or a frame; or nothing. `None` if it is none of these.
+/// Parses a line: a letter, a key, and a place, a frame or `shared`; or nothing. `None` if it is none of these.
 ///
 /// - `M key`
-/// - `S key address base selector` or `S key address real`, and the same with `X`
-/// - `G key base selector` or `G key real`
+/// - `S key address base selector` or `S key address real`, and the same with `X`; `S key address shared`
+/// - `G key base selector`, `G key real` or `G key shared`
 ///
 /// A key is `"NAME"`, `"NAME" "CLASS"` or `#N`. From a `;` outside of names on a line is a comment.
 pub fn link_entry_on(line: &[u8]) -> Option<LinkEntry<'_>>

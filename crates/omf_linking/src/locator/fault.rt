@@ -19,6 +19,8 @@ pub enum LineFault {
     Several,
     /// An earlier line is for the same module or entry.
     Twice,
+    /// It shares a frame, and no line before it gives one to its name.
+    Unshared,
 }
 
 /// Why a text does not place modules.

@@ -1,20 +1,23 @@
 //! What the lines of a locator's text give the modules.
 
-ghost use Rattle.std.specs.Prelude.{◌≡◌, ◌<◌, ◌^◌, [], Err, IfErr, IfOk, List, Some, length, option_map, slice_get};
-ghost use Rattle.omf_check.specs.Module.{typed_modules};
+ghost use Rattle.std.specs.Prelude.{◌≡◌, ◌<◌, ◌≤◌, ◌^◌, [], Err, IfErr, IfOk, List, Some, length, option_map, slice_get};
+ghost use Rattle.omf_check.specs.Module.{recs_of, typed_modules};
 ghost use Rattle.omf_records.specs.Inner.Seen.{map_ok};
-ghost use Rattle.omf_linking.specs.Inner.LineParsing.{key_seen, seen, target_seen};
+ghost use Rattle.omf_reloc.specs.Reach.{entries};
+ghost use Rattle.omf_linking.specs.Inner.LineParsing.{key_seen, seen, target_seen, told_seen};
 ghost use Rattle.omf_linking.specs.Inner.Walking.{AreLines, IsTaken};
-ghost use Rattle.omf_linking.specs.Locator.Items.{Item, item_of, items_after, kind_of};
+ghost use Rattle.omf_linking.specs.Locator.Items.{Item, item_of, items_after, kind_of, told_kind};
 ghost use Rattle.omf_linking.specs.Locator.LinkEntries.{Gives as Entry, Opens, link_lines};
 ghost use Rattle.omf_linking.specs.Locator.Sparse.{IsOutcome};
 ghost use Rattle.omf_linking.specs.Locator.Sparse.{bad_lines, sparse, sparse_all};
 ghost use Rattle.omf_linking.specs.declared.locator.fault.LocatorFault.TheVariants.{Line, Memory};
 
-use crate::locator::entry::{Key, LinkEntry, Target, link_entry_on};
+use crate::locator::entry::{Key, LinkEntry, Target, Told, link_entry_on};
 use crate::locator::fault::{LineFault, LocatorFault};
+use crate::locator::keys::entry_count;
 use crate::locator::sparse::Sparse;
 use crate::locator::tables::{EntryKeys, ModuleKeys};
+use crate::locator::titles::Titles;
 use omf_check::Checked;
 use omf_placement::cut::cut;
 use omf_reloc::Kind;
@@ -42,9 +45,11 @@ pub struct Lines {
     current: Option<Current>,
     /// What is given to the entries of each module.
     given: Vec<Sparse>,
+    /// The frames that names share.
+    titles: Titles,
 }
 
-/// Returns the kind of what a line gives something.
+/// Returns the kind of what is given something.
 fn kind_of(target: Target) -> Kind
     ensures { result ≡ kind_of (target_seen target) }
 {
@@ -52,6 +57,29 @@ fn kind_of(target: Target) -> Kind
         Target::Segment(_) => Kind::Segment,
         Target::Group(_) => Kind::Group,
         Target::External(_) => Kind::External,
+    }
+}
+
+/// Returns the kind of what a line is for.
+fn told_kind(told: Told) -> Kind
+    ensures { result ≡ told_kind (told_seen told) }
+{
+    match told {
+        Told::Own(target) => kind_of(target),
+        Told::SharedPlace(_) => Kind::Segment,
+        Told::SharedFrame => Kind::Group,
+    }
+}
+
+/// Returns the index of an entry of a table as 16 bits: a table has at most 32,767 entries.
+fn entry_index(module: &Checked, kind: Kind, index: u32) -> u16
+    ensures { index ≤ entries (recs_of «module».now.bytes) kind → result ≡ index }
+{
+    let count = entry_count(module, kind);
+    if index < u32::from(count) {
+        index as u16
+    } else {
+        count
     }
 }
 
@@ -80,6 +108,7 @@ impl Lines {
             opened: BTreeSet::new(alloc),
             current: None,
             given,
+            titles: Titles::new(alloc),
         })
     }
 
@@ -104,15 +133,15 @@ impl Lines {
         Ok(())
     }
 
-    /// Adds a line that gives an entry of the current module its place or its frame.
+    /// Adds a line for an entry of the current module.
     fn add(
         &mut self,
         modules: &[Checked],
         line: u64,
         key: Key<'_>,
-        target: Target,
+        told: Told,
     ) -> Result<(), LocatorFault>
-        ensures { (items : List Item) → AreLines (typed_modules modules.now) self.old items → IsTaken (typed_modules modules.now) self.new items line (item_of (typed_modules modules.now) items (Some (Entry (key_seen key.entry) (target_seen target)))) result }
+        ensures { (items : List Item) → AreLines (typed_modules modules.now) self.old items → IsTaken (typed_modules modules.now) self.new items line (item_of (typed_modules modules.now) items (Some (Entry (key_seen key.entry) (told_seen told)))) result }
     {
         let Some(current) = &self.current else {
             return at_fault(line, LineFault::NoModule);
@@ -124,16 +153,23 @@ impl Lines {
         if at >= self.given.len() {
             return at_fault(line, LineFault::NoModule);
         }
-        let found = current
-            .keys
-            .named(self.alloc, &modules[at], kind_of(target), key)?;
+        let module = &modules[at];
+        let kind = told_kind(told);
+        let found = current.keys.named(self.alloc, module, kind, key)?;
         let index = match found {
             Ok(index) => index,
+            Err(why) => return at_fault(line, why),
+        };
+        let entry = entry_index(module, kind, index);
+        let settled = self.titles.settled(self.alloc, module, entry, told)?;
+        let target = match settled {
+            Ok(target) => target,
             Err(why) => return at_fault(line, why),
         };
         if !self.given[at].give(index, target) {
             return at_fault(line, LineFault::Twice);
         }
+        self.titles.note(self.alloc, module, entry, target)?;
         Ok(())
     }
 
@@ -150,7 +186,7 @@ impl Lines {
         match entry {
             LinkEntry::Blank => Ok(()),
             LinkEntry::Opens(key) => self.open(modules, line, key),
-            LinkEntry::Gives(key, target) => self.add(modules, line, key, target),
+            LinkEntry::Gives(key, told) => self.add(modules, line, key, told),
         }
     }
 
@@ -210,8 +246,8 @@ fn taken(alloc: Global, modules: &[Checked], text: &[u8]) -> Result<Vec<Sparse>,
 /// # Errors
 ///
 /// `Line` for the first line that is no entry; or else for the first whose key does not name exactly one module of the input or one entry of
-/// its module, that is before the first `M`, or that is for the same module or entry as an earlier one. `Memory` if memory runs out, only if
-/// every line is an entry.
+/// its module, that is before the first `M`, that is for the same module or entry as an earlier one, or that shares a frame that no line
+/// before it gives. `Memory` if memory runs out, only if every line is an entry.
 pub fn sparse_places(
     alloc: Global,
     modules: &[Checked],

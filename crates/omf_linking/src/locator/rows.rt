@@ -4,7 +4,7 @@ ghost use Rattle.std.specs.Prelude.{◌≡◌, [], ◌∷◌, codes, Some, None,
 ghost use Rattle.omf_reloc.specs.Rows.{at, frame};
 ghost use Rattle.omf_reloc.specs.declared.fault.Kind.TheVariants as kinds;
 ghost use Rattle.omf_linking.specs.Locator.Keys.{entry_named, module_named};
-ghost use Rattle.omf_linking.specs.Locator.LinkEntries.{link_entry_on, Named, OfClass, Numbered, SegmentPlace, GroupFrame, ExternalPlace, Blank, Opens, Gives};
+ghost use Rattle.omf_linking.specs.Locator.LinkEntries.{link_entry_on, Named, OfClass, Numbered, SegmentPlace, GroupFrame, ExternalPlace, Own, SharedPlace, SharedFrame, Blank, Opens, Gives};
 ghost use Rattle.omf_linking.specs.Locator.Rows.{given_segments, lines, named_only, three_segments};
 ghost use Rattle.omf_linking.specs.Locator.Sparse.{sparse};
 ghost use Rattle.omf_linking.specs.declared.locator.fault.LineFault.TheVariants as why;
@@ -15,16 +15,18 @@ ghost use Rattle.omf_linking.specs.declared.locator.fault.LocatorFault.TheVarian
 pub fn lines_of_a_link()
     ensures module_by_name { link_entry_on (codes "M \"a;b\" ; \"c\"") ≡ Some (Opens (Named (codes "a;b"))) }
     ensures module_by_number { link_entry_on (codes "M #2") ≡ Some (Opens (Numbered 2)) }
-    ensures segment { link_entry_on (codes "  S \"_TEXT\" 7C00 0 0 ; \"x\"\r") ≡ Some (Gives (Named (codes "_TEXT")) (SegmentPlace (at 0x7C00 0 0))) }
-    ensures class { link_entry_on (codes "S \"A B\" \"CODE\" 7C00 real") ≡ Some (Gives (OfClass (codes "A B") (codes "CODE")) (SegmentPlace (at 0x7C00 0x7C00 0x7C0))) }
-    ensures group { link_entry_on (codes "G \"DGROUP\" 7C40 7C4") ≡ Some (Gives (Named (codes "DGROUP")) (GroupFrame (Some (frame 0x7C40 0x7C4)))) }
-    ensures lowest { link_entry_on (codes "G #1 real") ≡ Some (Gives (Numbered 1) (GroupFrame None)) }
-    ensures external { link_entry_on (codes "X #12 46C 400 40") ≡ Some (Gives (Numbered 12) (ExternalPlace (at 0x46C 0x400 0x40))) }
+    ensures segment { link_entry_on (codes "  S \"_TEXT\" 7C00 0 0 ; \"x\"\r") ≡ Some (Gives (Named (codes "_TEXT")) (Own (SegmentPlace (at 0x7C00 0 0)))) }
+    ensures class { link_entry_on (codes "S \"A B\" \"CODE\" 7C00 real") ≡ Some (Gives (OfClass (codes "A B") (codes "CODE")) (Own (SegmentPlace (at 0x7C00 0x7C00 0x7C0)))) }
+    ensures group { link_entry_on (codes "G \"DGROUP\" 7C40 7C4") ≡ Some (Gives (Named (codes "DGROUP")) (Own (GroupFrame (Some (frame 0x7C40 0x7C4))))) }
+    ensures lowest { link_entry_on (codes "G #1 real") ≡ Some (Gives (Numbered 1) (Own (GroupFrame None))) }
+    ensures external { link_entry_on (codes "X #12 46C 400 40") ≡ Some (Gives (Numbered 12) (Own (ExternalPlace (at 0x46C 0x400 0x40)))) }
+    ensures shared { link_entry_on (codes "S \"_TEXT\" 7C10 shared ; x") ≡ Some (Gives (Named (codes "_TEXT")) (SharedPlace 0x7C10)) }
+    ensures shared_group { link_entry_on (codes "G #1 shared") ≡ Some (Gives (Numbered 1) SharedFrame) }
     ensures nothing { link_entry_on (codes "; S \"a\"") ≡ Some Blank }
 {}
 
 /// Lines that are no entry: an open name, a number with other characters, a hexadecimal, a large or a long number, a word too many or too few, a placement
-/// text's line, and a name with a control character.
+/// text's line, an external that shares a frame, and a name with a control character.
 pub fn lines_that_are_none()
     ensures open { link_entry_on (codes "M \"a") ≡ None }
     ensures joined { link_entry_on (codes "S #37C00 real") ≡ None }
@@ -35,6 +37,8 @@ pub fn lines_that_are_none()
     ensures less { link_entry_on (codes "S \"a\" 7C00") ≡ None }
     ensures between { link_entry_on (codes "S \"a\" 7C00 \"b\" real") ≡ None }
     ensures by_order { link_entry_on (codes "S 7C00 0 0") ≡ None }
+    ensures shared_external { link_entry_on (codes "X #1 46C shared") ≡ None }
+    ensures shared_more { link_entry_on (codes "S #1 7C00 shared 0") ≡ None }
     ensures control { link_entry_on (codes "M \"a\tb\"") ≡ None }
 {}
 
@@ -54,11 +58,13 @@ pub fn entries_that_keys_name()
 {}
 
 /// What texts give: the modules and the segments in another order than the text. A line before the first `M`, one for an entry that has one, and a
-/// module that comes again are at fault; a line that is no entry comes before these.
+/// module that comes again are at fault; a line that is no entry comes before these. A frame that is shared is that of the first line for the name and class.
 pub fn what_texts_give()
     ensures order { sparse (named_only (codes "a") ∷ three_segments ∷ []) (lines (codes "M \"m\"" ∷ codes "S #3 30 0 0" ∷ codes "S \"B\" 20 0 0" ∷ codes "M \"a\"" ∷ [])) ≡ Ok (given_segments [] ∷ given_segments (None ∷ Some (at 0x20 0 0) ∷ Some (at 0x30 0 0) ∷ []) ∷ []) }
     ensures before { sparse (three_segments ∷ []) (lines (codes "" ∷ codes "S #1 0 0 0" ∷ codes "M #1" ∷ [])) ≡ Err (Line 2 why.NoModule) }
     ensures again { sparse (three_segments ∷ []) (lines (codes "M #1" ∷ codes "S #2 0 0 0" ∷ codes "S \"B\" 0 0 0" ∷ [])) ≡ Err (Line 3 why.Twice) }
     ensures opened { sparse (three_segments ∷ []) (lines (codes "M #1" ∷ codes "M \"m\"" ∷ [])) ≡ Err (Line 2 why.Twice) }
+    ensures unshared { sparse (three_segments ∷ []) (lines (codes "M #1" ∷ codes "S #1 10 20 2" ∷ codes "S #3 30 shared" ∷ [])) ≡ Err (Line 3 why.Unshared) }
+    ensures shared { sparse (three_segments ∷ three_segments ∷ []) (lines (codes "M #2" ∷ codes "S #1 10 20 2" ∷ codes "S #3 30 10 1" ∷ codes "M #1" ∷ codes "S #3 50 shared" ∷ codes "S #1 40 shared" ∷ [])) ≡ Ok (given_segments (Some (at 0x40 0x20 2) ∷ None ∷ Some (at 0x50 0x10 1) ∷ []) ∷ given_segments (Some (at 0x10 0x20 2) ∷ None ∷ Some (at 0x30 0x10 1) ∷ []) ∷ []) }
     ensures no_entry { sparse (three_segments ∷ []) (lines (codes "M #2" ∷ codes "q" ∷ [])) ≡ Err (Line 2 why.NotUnderstood) }
 {}

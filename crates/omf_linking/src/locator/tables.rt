@@ -90,7 +90,7 @@ impl KeyTable {
 }
 
 /// Returns a name and a class, as they are written, as one text. The line feed between them is in no name as it is written.
-fn joined(alloc: Global, name: &[u8], class: &[u8]) -> Result<Vec<u8>, AllocError>
+pub(crate) fn joined(alloc: Global, name: &[u8], class: &[u8]) -> Result<Vec<u8>, AllocError>
     ensures { IfOk result (λ text. text.items ≡ name.now ++ 10 ∷ class.now) }
 {
     let mut text = Vec::new(alloc);
