@@ -1,11 +1,14 @@
 -- What is read back of a library.
-use Rattle.std.proofs.Common.{◌≡◌, ℕ, zero, suc, Bool, true, false, cond, List, [], ◌∷◌, drop, take, sym, ap, ◌∙◌, subst, inr}
-use Rattle.std.specs.Prelude.{Some, slice_get}
+use Rattle.std.proofs.Common.{◌≡◌, ℕ, zero, suc, ◌+◌, ◌<◌, ◌≤◌, arith, inl, Bool, true, false, cond, List, [], ◌∷◌, drop, take, refl, sym, ap, ◌∙◌, subst, inr}
+use Rattle.std.specs.Prelude.{⊤, Some, None, Ok, Option, MatchOption, length, slice_get}
 use Rattle.std.specs.Bool.{OnTrue}
+use Rattle.std.proofs.lemmas.Bool.{cases_lt}
+use Rattle.omf_check.specs.Checking.{Decides}
+use Rattle.omf_check.specs.Module.{Module}
 use Rattle.omf_check.specs.declared.profile.Profile.{Profile}
 use Rattle.omf_library.specs.Inner.Making.{IsLaid, IsPartFault}
-use Rattle.omf_library.specs.Library.{IsLibrary, header_of, page_size}
-use Rattle.omf_library.specs.Made.{AreParts, AreSoundEntries, HasName, HasStrong, IsDefinedAt, IsMade, IsMakeFault, Opened, dictionary_at, is_case_sensitive, opened}
+use Rattle.omf_library.specs.Library.{IsLibrary, header_of, is_page_size, page_size}
+use Rattle.omf_library.specs.Made.{AreParts, AreSoundEntries, HasName, HasStrong, IsDefinedAt, IsMade, IsMakeFault, IsWhole, Opened, dictionary_at, is_case_sensitive, opened, pages_of}
 use Rattle.omf_library.specs.declared.header.Header.{Header}
 use Rattle.omf_library.specs.declared.making.MakeFault.{MakeFault}
 use Rattle.omf_library.specs.declared.making.MakeFault.TheVariants as fault
@@ -44,10 +47,14 @@ defined_more o (suc n) (m ∷ ms) (p ∷ ps) name page h = inr (defined_more o n
 abbrev read : List ℕ → List Part → ℕ → Bool → List ℕ → List Member → Opened
 read bytes parts page sensitive dictionary members = record { bytes = bytes; page = page; is_case_sensitive = sensitive; dictionary = dictionary; members = members; parts = parts }
 
+-- No lesser page size will do.
+abbrev pub IsLeast : ℕ → List Part → Type 0
+IsLeast page parts = (p : ℕ) → is_page_size p ≡ true → p < page → 65536 < pages_of p parts
+
 pub made_is : (profile : Profile) (sensitive : Bool) (parts : List Part) (bytes : List ℕ) (members seen : List Member) (end : ℕ) (h : Header) (db : List ℕ) (ds : Bool) → IsLibrary profile bytes members end → h ≡ header_of bytes
-    → db ≡ dictionary_at h bytes → ds ≡ is_case_sensitive h → seen ≡ members → IsLaid h sensitive bytes end → AreParts (read bytes parts h.page ds db seen) seen parts → AreSoundEntries (read bytes parts h.page ds db seen)
+    → db ≡ dictionary_at h bytes → ds ≡ is_case_sensitive h → seen ≡ members → IsLaid h sensitive bytes end → IsLeast h.page parts → AreParts (read bytes parts h.page ds db seen) seen parts → AreSoundEntries (read bytes parts h.page ds db seen)
     → IsMade profile sensitive parts bytes
-made_is profile sensitive parts bytes members seen end h db ds library e d s m l are only =
+made_is profile sensitive parts bytes members seen end h db ds library e d s m l least are only =
     let dictionary : db ≡ dictionary_at (header_of bytes) bytes = d ∙ ap (λ x. dictionary_at x bytes) e in
     let case : ds ≡ is_case_sensitive (header_of bytes) = s ∙ ap is_case_sensitive e in
     let page : h.page ≡ page_size bytes = ap (λ (x : Header). x.page) e in
@@ -64,6 +71,7 @@ made_is profile sensitive parts bytes members seen end h db ds library e d s m l
       after = laid.after;
       last = laid.last;
       prime = laid.prime;
+      least = subst (λ size. IsLeast size parts) page least;
       only = subst AreSoundEntries same only;
       same = subst (λ x. AreParts x members parts) same (subst (λ ms. AreParts (read bytes parts h.page ds db seen) ms parts) m are);
     }
@@ -77,3 +85,18 @@ part_fault profile sensitive parts number part (fault.Twice first second name) h
 part_fault profile sensitive parts number part fault.TooLarge here h = absurd h
 part_fault profile sensitive parts number part fault.LongSearches here h = absurd h
 part_fault profile sensitive parts number part fault.Unlike here h = absurd h
+
+-- The module that a part begins with, and what comes after it.
+pub part_judged : (profile : Profile) (part : Part) (number : ℕ) (m : Module) (r : Option MakeFault) (bytes : List ℕ) → bytes ≡ part.bytes.items → Decides profile bytes (Ok m)
+    → MatchOption r (length bytes ≤ length m.bytes) (λ f. (f ≡ fault.Rest number) × (length m.bytes < length bytes)) → MatchOption r (IsWhole profile part) (IsPartFault profile part number)
+part_judged profile part number m None bytes e d h = record { found = m; checked = subst (λ bs. Decides profile bs (Ok m)) e d; whole = subst (λ bs. length bs ≤ length m.bytes) e h }
+part_judged profile part number m (Some f) bytes e d h =
+    subst (IsPartFault profile part number) (sym h.0) (refl, m, subst (λ bs. Decides profile bs (Ok m)) e d, subst (λ bs. length m.bytes < length bs) e h.1)
+
+-- One part more that is whole.
+pub whole_more : (profile : Profile) (parts : List Part) (n : ℕ) (p : Part) → ((i : ℕ) → i < n → (q : Part) → slice_get parts i ≡ Some q → IsWhole profile q) → slice_get parts n ≡ Some p → IsWhole profile p
+    → (i : ℕ) → i < n + 1 → (q : Part) → slice_get parts i ≡ Some q → IsWhole profile q
+whole_more profile parts n p h here w i l q is = elim (cases_lt i n) [
+  | inl low ↦ h i low q is
+  | inr high ↦ let same : i ≡ n = omega (arith, l, high) in subst (λ o. MatchOption o ⊤ (IsWhole profile)) (sym here ∙ subst (λ k. slice_get parts k ≡ Some q) same is) w
+]

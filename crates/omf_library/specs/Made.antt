@@ -1,6 +1,7 @@
 -- Libraries that are made: their members are the modules that were given, and both searches find each name.
 use Rattle.std.specs.Prelude.{◌≡◌, ◌≢◌, ◌⊎◌, ⊤, ℕ, ◌+◌, ◌*◌, ◌/◌, ◌%◌, ◌<◌, ◌≤◌, ◌==◌, if◌then◌else◌, Bool, true, List, [], ◌∷◌, length, drop, slice_get, slice_index, take, Option, Some, Ok, MatchOption}
 use Rattle.std.specs.Borrow.{Bor}
+use Rattle.std.specs.Int.{div_ceil}
 use Rattle.std.specs.Slice.{IsItemAt}
 use Rattle.omf_image.specs.Limits.{profile_limits}
 use Rattle.omf_check.specs.Checking.{Decides}
@@ -11,7 +12,7 @@ use Rattle.omf_frame.specs.declared.fault.Place.{Place}
 use Rattle.omf_frame.specs.declared.fault.Reason.{Reason}
 use Rattle.omf_library.specs.Dictionary.{IsFoundAfter, block_count, block_of, block_size, is_inside, is_same_name, name_at, page_at}
 use Rattle.omf_library.specs.Hash.{buckets}
-use Rattle.omf_library.specs.Library.{IsLibrary, header_of, page_size, word_at}
+use Rattle.omf_library.specs.Library.{IsLibrary, header_of, is_page_size, page_size, word_at}
 use Rattle.omf_library.specs.declared.dictionary.Dictionary.{Dictionary}
 use Rattle.omf_library.specs.declared.header.Header.{Header}
 use Rattle.omf_library.specs.Names.{is_strong}
@@ -116,6 +117,11 @@ AreSoundIn o block = (bucket : ℕ) → bucket < buckets → IsSoundEntry o bloc
 abbrev pub AreSoundEntries : Opened → Type 0
 AreSoundEntries o = (number : ℕ) → number < block_count o.dictionary → AreSoundIn o (block_of o.dictionary number)
 
+-- The pages of a library of modules with a page size: one for the header, and those of each module.
+abbrev pub pages_of : ℕ → List Part → ℕ
+pages_of page [] = 1
+pages_of page (part ∷ parts) = div_ceil (length part.bytes.items) page + pages_of page parts
+
 -- A prime number.
 abbrev pub IsPrime : ℕ → Type 0
 IsPrime n = (2 ≤ n) × ((d : ℕ) → 1 < d → d < n → n % d ≢ 0)
@@ -127,6 +133,7 @@ opened bytes members parts = record { bytes = bytes; page = page_size bytes; is_
 -- dictionary find each of their names: a public and an import with the page of its member, a communal
 -- with that of a member that defines the name. Names that differ in case are one in a library without the flag 1.
 -- The dictionary has no other names. It follows the F1H record, and ends the library; its number of blocks is prime.
+-- The page size is the least with which 16 bits number the pages.
 pub record IsMade (profile : Profile) (sensitive : Bool) (parts : List Part) (bytes : List ℕ) : Type 0 where
   pub members : List Member
   pub end : ℕ
@@ -135,6 +142,7 @@ pub record IsMade (profile : Profile) (sensitive : Bool) (parts : List Part) (by
   pub after : (header_of bytes).dictionary ≡ end + 3 + word_at bytes (end + 1)
   pub last : (header_of bytes).dictionary + block_size * (header_of bytes).blocks ≡ length bytes
   pub prime : IsPrime (header_of bytes).blocks
+  pub least : (page : ℕ) → is_page_size page ≡ true → page < page_size bytes → 65536 < pages_of page parts
   pub only : AreSoundEntries (opened bytes members parts)
   pub same : AreParts (opened bytes members parts) members parts
 
@@ -163,9 +171,53 @@ pub record IsLongPart (profile : Profile) (parts : List Part) (number : ℕ) : T
   pub checked : Decides profile part.bytes.items (Ok found)
   pub longer : length found.bytes < length part.bytes.items
 
--- What a fault of the making means for the modules that were given.
+-- The check accepts a module, and the part has no byte after it.
+pub record IsWhole (profile : Profile) (part : Part) : Type 0 where
+  pub found : Module
+  pub checked : Decides profile part.bytes.items (Ok found)
+  pub whole : length part.bytes.items ≤ length found.bytes
+
+abbrev pub AreWhole : Profile → List Part → Type 0
+AreWhole profile parts = (number : ℕ) → number < length parts → (part : Part) → slice_get parts number ≡ Some part → IsWhole profile part
+
+-- With each page size the library would have more pages than 16 bits number.
+abbrev pub ArePagesMany : List Part → Type 0
+ArePagesMany parts = (page : ℕ) → is_page_size page ≡ true → 65536 < pages_of page parts
+
+-- The bytes of all modules together.
+abbrev pub bytes_of : List Part → ℕ
+bytes_of [] = 0
+bytes_of (part ∷ parts) = length part.bytes.items + bytes_of parts
+
+-- The number of names of all modules together.
+abbrev pub names_of : List Part → ℕ
+names_of [] = 0
+names_of (part ∷ parts) = length part.names.items + names_of parts
+
+-- What it costs to look at one bucket for each name: its characters may be compared, and four more for the look.
+abbrev pub looks_of_names : List Defined → ℕ
+looks_of_names [] = 0
+looks_of_names (d ∷ ds) = 4 + length d.name.items + looks_of_names ds
+
+abbrev pub looks_of : List Part → ℕ
+looks_of [] = 0
+looks_of (part ∷ parts) = looks_of_names part.names.items + looks_of parts
+
+-- What all searches of a library of this size may cost together.
+abbrev pub credit_of : ℕ → ℕ
+credit_of size = 64 * size + 1048576
+
+-- The searches for the names may cost more than those of a library may: three for each name, each of which looks at no more
+-- buckets than twice the number of names, and four.
+abbrev pub AreLong : List Part → Type 0
+AreLong parts = credit_of (bytes_of parts) ≤ 6 * ((names_of parts + 2) * looks_of parts)
+
+-- What a fault of the making means for the modules that were given. `Unlike` says that each of them is whole.
 abbrev pub IsMakeFault : Profile → Bool → List Part → MakeFault → Type 0
 IsMakeFault profile sensitive parts (fault.Twice first second name) = IsTwice sensitive parts first second name
 IsMakeFault profile sensitive parts (fault.Refused part why at) = IsRefusedPart profile parts part why at
 IsMakeFault profile sensitive parts (fault.Rest part) = IsLongPart profile parts part
-IsMakeFault profile sensitive parts _ = ⊤
+IsMakeFault profile sensitive parts fault.TooLarge = ArePagesMany parts
+IsMakeFault profile sensitive parts fault.LongSearches = AreLong parts
+IsMakeFault profile sensitive parts fault.Unlike = AreWhole profile parts
+IsMakeFault profile sensitive parts fault.Memory = ⊤

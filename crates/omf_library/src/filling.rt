@@ -8,14 +8,10 @@ use crate::entries::{Entry, First, entries_of};
 use crate::hash::{BUCKETS, Probe, probe_of};
 use crate::making::{MakeFault, Part};
 use crate::names::is_strong;
+use crate::pages::page_for;
 use crate::prime::is_prime;
 use crate::search::{credit_of, hash_cost, looks_cost};
 use std::alloc::{AllocError, Global};
-
-/// The page sizes.
-const PAGES: [usize; 12] = [
-    16, 32, 64, 128, 256, 512, 1024, 2048, 4096, 8192, 16384, 32768,
-];
 
 /// The most blocks of a dictionary: the greatest prime of 16 bits.
 const MOST_BLOCKS: usize = 65_521;
@@ -38,20 +34,6 @@ const EMPTY: u64 = 1024;
 /// The number of pages that a module takes.
 fn pages_of(page: usize, length: usize) -> usize {
     length.div_ceil(page.max(1))
-}
-
-/// Whether the pages of a library can be numbered with this page size.
-fn is_numbered(page: usize, parts: &[Part]) -> bool {
-    let mut pages = 1usize;
-    for part in parts {
-        pages = pages.saturating_add(pages_of(page, part.bytes.len()));
-    }
-    pages <= 65_536
-}
-
-/// The least page size with which the pages can be numbered.
-fn page_for(parts: &[Part]) -> Option<usize> {
-    PAGES.iter().copied().find(|page| is_numbered(*page, parts))
 }
 
 /// An empty bucket of a block.
@@ -328,7 +310,7 @@ fn dictionary_of(
             next = count + count / 4 + 1;
         }
     }
-    Err(MakeFault::TooLarge)
+    Err(MakeFault::LongSearches)
 }
 
 /// Appends zeros up to a multiple of a size.

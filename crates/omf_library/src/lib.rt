@@ -10,6 +10,7 @@
 #![tactic(auto)]
 
 mod account;
+mod costs;
 mod dictionary;
 mod entries;
 mod fault;
@@ -24,6 +25,7 @@ mod members;
 mod modules;
 mod names;
 pub mod needed;
+mod pages;
 mod prime;
 mod publics;
 pub mod rows;

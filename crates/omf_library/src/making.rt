@@ -1,13 +1,14 @@
 //! Libraries of modules that are given.
 
-ghost use Rattle.std.specs.Prelude.{◌≡◌, ◌<◌, length, IfErr, IfOk, IfSome, OnOk, List, Bool, drop, take, if◌then◌else◌};
+ghost use Rattle.std.specs.Prelude.{◌≡◌, ◌<◌, ◌≤◌, length, IfErr, IfOk, IfSome, MatchOption, OnOk, List, Bool, drop, take, if◌then◌else◌};
 ghost use Rattle.std.specs.Bool.{OnTrue};
 ghost use Rattle.omf_check.specs.Module.{recs_of};
-ghost use Rattle.omf_library.specs.Made.{AreEntered, AreParts, HasName, HasStrong, IsCommunalEntered, IsDefinedAt, IsDictionary, IsEntered, IsFoundBy, IsFoundByBoth, IsMade, IsMakeFault, IsPart, IsTwice, opened_seen};
+ghost use Rattle.omf_library.specs.Made.{AreEntered, AreParts, HasName, HasStrong, IsCommunalEntered, IsDefinedAt, IsDictionary, IsEntered, IsFoundBy, IsFoundByBoth, IsMade, IsMakeFault, IsPart, IsTwice, IsWhole, opened_seen};
 ghost use Rattle.omf_library.specs.Inner.Making.{IsLaid, IsPartFault};
 ghost use Rattle.omf_library.specs.Names.{defined_names, is_strong, names_seen};
-ghost use Rattle.omf_library.specs.declared.making.MakeFault.TheVariants.{Memory};
+ghost use Rattle.omf_library.specs.declared.making.MakeFault.TheVariants as cause;
 
+use crate::costs::are_long;
 use crate::dictionary::{BLOCK, Dictionary, is_same_name};
 use crate::fault::LibraryFault;
 use crate::filling::build;
@@ -15,6 +16,7 @@ use crate::header::{Header, read_header};
 use crate::member::Member;
 use crate::members::{MemberPage, found_in, module_at};
 use crate::names::{Defined, Kind, defined_names, is_strong};
+use crate::pages::{are_pages_many, is_least};
 use crate::prime::is_prime;
 use crate::search::Rule;
 use crate::sound::are_sound;
@@ -71,10 +73,10 @@ pub enum MakeFault {
         second: usize,
         name: usize,
     },
-    /// The library would have too many pages, or a dictionary with too many blocks.
+    /// The library would have more than 65,536 pages with each page size.
     #[error("the library would be too large")]
     TooLarge,
-    /// No dictionary was found in which the searches for the names are short.
+    /// No dictionary was found in which the searches for the names are short: there are many names, and most have one hash.
     #[error("the searches for the names would be too long")]
     LongSearches,
     /// This part, counted from 0, has bytes after its module.
@@ -82,13 +84,13 @@ pub enum MakeFault {
     Rest {
         part: usize,
     },
-    /// What was built would not be read back as these modules.
+    /// What was built would not be read back as these modules, although each of them is whole.
     #[error("the library would not be read back as these modules")]
     Unlike,
 }
 
 impl From<AllocError> for MakeFault {
-    ghost from_gives = { λ _ e. e ≡ Memory };
+    ghost from_gives = { λ _ e. e ≡ cause.Memory };
 
     fn from(_error: AllocError) -> MakeFault {
         MakeFault::Memory
@@ -96,7 +98,7 @@ impl From<AllocError> for MakeFault {
 }
 
 impl<T: Drop> From<AllocFailed<T>> for MakeFault {
-    ghost from_gives = { λ _ e. e ≡ Memory };
+    ghost from_gives = { λ _ e. e ≡ cause.Memory };
 
     fn from(_error: AllocFailed<T>) -> MakeFault {
         MakeFault::Memory
@@ -367,10 +369,24 @@ fn is_made(
         parts,
         spots: spots.as_slice(),
     };
-    if !is_laid(header, is_case_sensitive, bytes, found.end) || !are_parts(opened) {
+    if !is_laid(header, is_case_sensitive, bytes, found.end)
+        || !is_least(opened.page, parts)
+        || !are_parts(opened)
+    {
         return Ok(false);
     }
     Ok(are_sound(opened))
+}
+
+/// The fault of a part that has bytes after its module.
+fn fault_of_rest(module: &Checked, bytes: &[u8], number: usize) -> Option<MakeFault>
+    ensures { MatchOption result (length bytes.now ≤ length «module».now.bytes) (λ f. (f ≡ cause.Rest number) × (length «module».now.bytes < length bytes.now)) }
+{
+    if module.bytes().len() < bytes.len() {
+        Some(MakeFault::Rest { part: number })
+    } else {
+        None
+    }
 }
 
 /// Why a part is no member, if it is none: the check refuses it, or it has bytes after its module.
@@ -381,13 +397,12 @@ fn fault_of_part(
     part: &Part,
     number: usize,
 ) -> Option<MakeFault>
-    ensures { IfSome result (IsPartFault profile part.now number) }
+    ensures { MatchOption result (IsWhole profile part.now) (IsPartFault profile part.now number) }
 {
     let bytes = part.bytes.as_slice();
     let count = number as u64;
     match module_at(alloc, framer, profile, bytes, MemberPage { count, at: 0 }) {
-        Ok(module) if module.bytes().len() < bytes.len() => Some(MakeFault::Rest { part: number }),
-        Ok(_) => None,
+        Ok(module) => fault_of_rest(&module, bytes, number),
         Err(LibraryFault::Refused { reason, place, .. }) => {
             let part = number;
             Some(MakeFault::Refused {
@@ -400,14 +415,15 @@ fn fault_of_part(
     }
 }
 
-/// Why no library was made of parts that do not define a name twice: the first that is no member; `Unlike` if all are.
+/// Why no library was made of parts for which no other fault was found: the first that is no member; `Unlike` if all are.
 fn fault_of_parts(alloc: Global, profile: Profile, parts: &[Part]) -> MakeFault
     ensures { (is_case_sensitive : Bool) → IsMakeFault profile is_case_sensitive parts.now result }
 {
     let mut framer = Framer::new(alloc);
     for (number, part) in parts.iter().enumerate() {
-        if let Some(fault) = fault_of_part(alloc, &mut framer, profile, part, number) {
-            return fault;
+        match fault_of_part(alloc, &mut framer, profile, part, number) {
+            Some(fault) => return fault,
+            None => {}
         }
     }
     MakeFault::Unlike
@@ -477,16 +493,23 @@ fn sure(
             name,
         } => {
             if is_twice(is_case_sensitive, parts, first, second, name) {
-                fault
-            } else {
-                MakeFault::Unlike
+                return fault;
             }
         }
-        MakeFault::Memory | MakeFault::TooLarge | MakeFault::LongSearches => fault,
-        MakeFault::Refused { .. } | MakeFault::Rest { .. } | MakeFault::Unlike => {
-            fault_of_parts(alloc, profile, parts)
+        MakeFault::TooLarge => {
+            if are_pages_many(parts) {
+                return fault;
+            }
         }
+        MakeFault::LongSearches => {
+            if are_long(parts) {
+                return fault;
+            }
+        }
+        MakeFault::Memory => return fault,
+        MakeFault::Refused { .. } | MakeFault::Rest { .. } | MakeFault::Unlike => {}
     }
+    fault_of_parts(alloc, profile, parts)
 }
 
 /// Makes a library of modules, in order: the page size is the least that will do, and the dictionary has a prime number
@@ -497,8 +520,9 @@ fn sure(
 /// # Errors
 ///
 /// `Refused` with the first part that is no module under the profile, `Rest` with the first that has bytes after its module, `Twice` if two
-/// parts define one name other than as a communal (or one part twice), `TooLarge`, `LongSearches` if no dictionary was found with short
-/// searches, as where many names have one hash, `Unlike` if what was built is not read back, which is not met. `Memory` if out of memory.
+/// parts define one name other than as a communal (or one part twice), `TooLarge` if the pages are more than 65,536 with each page size, `LongSearches` if
+/// no dictionary was found with short searches, as where many names have one hash. `Unlike` if what was built is not read back
+/// although each part is whole, which is not met. `Memory` if out of memory.
 pub fn make(
     alloc: Global,
     profile: Profile,

@@ -7,16 +7,16 @@ use crate::dictionary::{Dictionary, Look, block_count, block_of, entry_length, l
 use crate::hash::{BUCKETS, probe_of};
 
 /// What a look at a bucket costs, beside the characters that are compared.
-const LOOK: u64 = 4;
+pub(crate) const LOOK: u64 = 4;
 
 /// How often a search reads each character of its name for the hash.
 const HASHED: u64 = 4;
 
 /// What the searches of a library may cost, whatever its size.
-const FIRST_CREDIT: u64 = 1 << 20;
+pub(crate) const FIRST_CREDIT: u64 = 1 << 20;
 
 /// What the searches of a library may cost for each of its bytes.
-const CREDIT: u64 = 64;
+pub(crate) const CREDIT: u64 = 64;
 
 /// What all searches of a library of this size may cost together.
 pub fn credit_of(size: usize) -> u64 {

@@ -1,10 +1,6 @@
-use Rattle.std.proofs.Common.{◌<◌, length, refl, subst, rules}
-use Rattle.std.specs.Prelude.{Ok}
-use Rattle.omf_check.specs.Checking.{Decides}
+use Rattle.omf_library.proofs.MadeLaws.{part_judged}
 use Rattle.omf_library.proofs.making.fault_of_part.Goals as goal
 
 pub returns-in-Ok : goal.returns-in-Ok
 returns-in-Ok c =
-    let m = c.in-Ok.module in
-    let longer : length m.bytes < length c.args.part.now.bytes.items = search rules in
-    (refl, m, subst (λ bs. Decides c.args.profile bs (Ok m)) c.as_slice-bytes.ensures.value c.in-Ok.ensures.0, longer)
+    part_judged c.args.profile c.args.part.now c.args.number c.in-Ok.module c.fault_of_rest.result c.as_slice-bytes.result.now c.as_slice-bytes.ensures.value c.in-Ok.ensures.0 c.fault_of_rest.ensures
