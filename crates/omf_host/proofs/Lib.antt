@@ -1,1 +1,4 @@
 mod Padded
+mod InParts
+mod UnwrittenLaws
+mod NumberLaws

@@ -12,6 +12,16 @@ abbrev pub question_in : List (List ℕ) → Option Question
 question_in (argument ∷ []) = question_of argument
 question_in _ = None
 
+-- The question that the only argument of a program with tasks is, if it is one: there the word help is one too.
+abbrev pub first_question : List ℕ → Option Question
+first_question argument = if bytes_eq argument (codes "help") then Some question.Usage else question_of argument
+
+-- The question to a program with tasks: the only argument, or the one after a task.
+abbrev pub question_with_tasks : List (List ℕ) → Option Question
+question_with_tasks (argument ∷ []) = first_question argument
+question_with_tasks (task ∷ argument ∷ []) = question_of argument
+question_with_tasks _ = None
+
 -- The line of a version: the program's name and the version.
 abbrev pub version_line : List ℕ → List ℕ
 version_line name = name ++ (codes " 1.0.0" ++ 10 ∷ [])

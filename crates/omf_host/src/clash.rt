@@ -1,13 +1,16 @@
 //! Outputs that are an input of the same run, or one another: they are refused before anything is read.
 
-ghost use Rattle.std.specs.Prelude.{◌≡◌, ◌⊎◌, IfOk, None, Some, option_map, string_bytes};
+ghost use Rattle.std.specs.Prelude.{◌≡◌, IfErr, IfOk, option_map, string_bytes};
 ghost use Rattle.std.specs.List.{list_any};
 ghost use Rattle.omf_host.specs.Spots.{clash_line, first_clash, is_one_file, name_at_fault};
-ghost use Rattle.omf_host.specs.declared.ending.Status.TheVariants.{Misused};
+ghost use Rattle.omf_host.specs.Streams.{SaysClash};
 
 use crate::ending::Status;
+use crate::output::put;
 use crate::spot::{Spot, input_spot, output_spot};
+use crate::streams::Streams;
 use crate::text::put_quoted;
+use omf_frame::Sink;
 use std::alloc::{AllocError, Global};
 
 /// The names of the files of a run; `-` is the standard input, or the standard output.
@@ -113,18 +116,20 @@ fn clash_line(alloc: Global, program: &str, name: &str, clash: Clash) -> Result<
 /// # Errors
 ///
 /// `AllocError` if out of memory. Nothing is written then.
-pub fn refuse_clash(
+pub fn refuse_clash<K, E: Sink>(
     rt: &HostRuntime,
-    program: &str,
+    streams: &mut Streams<K, E>,
     files: RunFiles<'_>,
 ) -> Result<Option<Status>, AllocError>
-    ensures { IfOk result (λ status. (status ≡ None) ⊎ (status ≡ Some Misused)) }
+    ensures said { IfOk result (λ status. SaysClash streams.old.name.now status (E.seen streams.old.errors) (E.seen streams.new.errors)) }
+    ensures unsaid { IfErr result (λ _. streams.new ≡ streams.old) }
+    ensures output { streams.new.output ≡ streams.old.output }
 {
     let Some(clash) = clash_of(rt, files)? else {
         return Ok(None);
     };
     let name = name_at_fault(files, clash);
-    let line = clash_line(rt.alloc(), program, name, clash)?;
-    let _ = eprint!(rt; "{line}");
+    let line = clash_line(rt.alloc(), streams.name, name, clash)?;
+    let _ = put(&mut streams.errors, line.as_bytes());
     Ok(Some(Status::Misused))
 }

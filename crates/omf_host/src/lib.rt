@@ -1,17 +1,18 @@
-//! What programs with file arguments share: the arguments of the process, files by name, lines about files, numbers as
-//! text, and the exit status.
+//! What programs with file arguments share: the arguments of the process, files by name, the output and the standard error, lines about files,
+//! numbers as text, and the exit status.
 //!
 //! ```
-//! let mut output = Writing::new(rt.stdout());
+//! let mut streams = Streams::new("show", StandardOutput::new(rt.stdout()), Writing::new(rt.stderr()));
 //! let mut text = String::new(rt.alloc());
 //! let status = match read_input(rt, "x.obj") {
-//!     Ok(bytes) => put(&mut output, &bytes),
+//!     Ok(bytes) => put(&mut streams.output, &bytes),
 //!     Err(error) => {
-//!         put_unread(&mut text, "x.obj", &error)?; // read x.obj: No such file or directory (os error 2)
-//!         Status::Failed.worst(put(&mut output, text.as_bytes()))
+//!         put_unread(&mut text, "x.obj", &error)?;
+//!         streams.report(rt.alloc(), text.as_bytes())?; // show: read x.obj: No such file or directory (os error 2)
+//!         Status::Failed
 //!     }
 //! };
-//! end(&mut output, status)
+//! end(rt.alloc(), &mut streams, status)
 //! ```
 #![tactic(auto)]
 
@@ -21,11 +22,15 @@ mod ending;
 mod files;
 mod lines;
 mod misuse;
+mod noted;
+mod numbers;
 mod output;
 mod question;
 pub mod rows;
 mod spot;
+mod streams;
 mod text;
+mod usage;
 mod words;
 mod writing;
 
@@ -34,8 +39,11 @@ pub use ending::Status;
 pub use files::{Written, read_input, write_new};
 pub use lines::{put_failure, put_title, put_unread, put_unwritten};
 pub use misuse::{About, explain, misuse_line, misused_by};
-pub use output::{end, misused, out_of_memory, put};
-pub use question::{Question, answer, question_in};
+pub use noted::StandardOutput;
+pub use numbers::{amount, number, size};
+pub use output::{end, misused, out_of_memory, put, warn};
+pub use question::{Question, answer, question_in, question_with_tasks};
+pub use streams::Streams;
 pub use text::{is_plain, put_byte, put_decimal, put_eight, put_four, put_name, put_quoted};
-pub use words::{arguments, program_and_arguments};
+pub use words::{arguments, program_and_arguments, words_of};
 pub use writing::{OutputFile, Unwritten, write_outputs};

@@ -1,9 +1,17 @@
 //! What a program shows of itself, and what is wrong with arguments that it does not understand, by the text that shows how it is called.
 
+ghost use Rattle.std.specs.Prelude.{◌≡◌, IfOk};
+ghost use Rattle.omf_host.specs.declared.ending.Status.TheVariants.{Misused};
+
 use crate::ending::Status;
 use crate::output::{misused, put};
 use crate::question::{Question, answer};
+use crate::streams::Streams;
 use crate::text::put_quoted;
+use crate::usage::{
+    Shown, bare, form_named, form_with, has_word, is_allowed, is_one_of, is_option, is_placeholder,
+    next_argument, parts_of, shown_of, tasks_of, what_is_allowed,
+};
 use crate::words::arguments;
 use omf_frame::Sink;
 use std::alloc::{AllocError, Global};
@@ -19,101 +27,147 @@ enum Misuse<'a> {
     UnknownOption(&'a str),
     /// The option has no value after it.
     NoValue(&'a str),
+    /// The value of the option is none that it takes.
+    WrongValue(Given<'a>),
+    /// The option is given twice.
+    Twice(&'a str),
+    /// Only one of the two options may be given.
+    Both(&'a str, &'a str),
     /// This option is missing.
     NoOption(&'a str),
     /// A file, or whatever has this name in the text, is missing.
     NoArgument(&'a str),
-    /// An option is given twice, or a value is none of those that its option has.
+    /// This is one file more than the program takes.
+    OneTooMany(&'a str),
+    /// The options do not go together.
     Other,
 }
 
-/// Whether a word is an option: it begins with a dash, and is not a dash alone.
-fn is_option(word: &str) -> bool {
-    word.len() > 1 && word.starts_with('-')
+/// An option with a value, and the word for the value in the text.
+#[derive(Clone, Copy)]
+struct Given<'a> {
+    option: &'a str,
+    value: &'a str,
+    word: &'a str,
 }
 
-/// Whether a word has the form of a name for a value, as FILE has.
-fn is_placeholder(word: &str) -> bool {
-    match word.as_bytes() {
-        [] => false,
-        [first, ..] => first.is_ascii_uppercase(),
-    }
-}
-
-/// A word of the text without its brackets.
-fn bare(word: &str) -> &str {
-    word.trim_matches(|c| c == '[' || c == ']')
-}
-
-/// A line of the text: the program's name, and what comes after it.
-fn parts_of(line: &str) -> (&str, &str) {
-    let line = line.trim();
-    let line = line.strip_prefix("usage: ").unwrap_or(line);
-    line.split_once(' ').unwrap_or((line, ""))
-}
-
-/// The names of the tasks of a line, with `|` between them, and what comes after them; None if the line has no task.
-fn tasks_of(line: &str) -> Option<(&str, &str)> {
-    let (_program, rest) = parts_of(line);
-    let (tasks, rest) = rest.split_once(' ').unwrap_or((rest, ""));
-    match tasks.as_bytes() {
-        [first, ..] if first.is_ascii_lowercase() => Some((tasks, rest)),
-        _ => None,
-    }
-}
-
-/// What the line of a task shows after it; None if there is no such task.
-fn line_of<'a>(usage: &'a str, task: &str) -> Option<&'a str> {
-    for line in usage.lines() {
-        if let Some((tasks, rest)) = tasks_of(line)
-            && tasks.split('|').any(|name| name == task)
-        {
-            return Some(rest);
-        }
-    }
-    None
-}
-
-/// Whether an option has a value, by the line of a task; None if the line does not have the option.
-fn takes_value(line: &str, option: &str) -> Option<bool> {
-    let mut words = line.split_whitespace();
-    while let Some(word) = words.next() {
-        if bare(word) == option {
-            return match words.next() {
-                Some(next) => Some(!word.ends_with(']') && next != "|"),
-                None => Some(false),
-            };
-        }
-    }
-    None
-}
-
-/// The first option that the line does not have, or that has no value after it.
-fn wrong_option<'a>(line: &str, arguments: &'a [String]) -> Option<Misuse<'a>> {
-    let mut without_value = None;
+/// The first option that the form does not have, or that has no value after it, or has one that it does not take.
+fn wrong_option<'a>(form: &'a str, arguments: &'a [String]) -> Option<Misuse<'a>> {
+    let mut open: Option<(&str, &str)> = None;
     for argument in arguments {
         let argument = argument.as_str();
-        if without_value.take().is_some() || !is_option(argument) {
-            continue;
-        }
-        match takes_value(line, argument) {
-            None => return Some(Misuse::UnknownOption(argument)),
-            Some(false) => {}
-            Some(true) => without_value = Some(argument),
+        if let Some((option, word)) = open.take() {
+            if !is_allowed(word, argument) {
+                return Some(Misuse::WrongValue(Given {
+                    option,
+                    value: argument,
+                    word,
+                }));
+            }
+        } else if is_option(argument) {
+            match shown_of(form, argument) {
+                None => return Some(Misuse::UnknownOption(argument)),
+                Some(shown) => {
+                    if let Some(word) = shown.word {
+                        open = Some((argument, word));
+                    }
+                }
+            }
         }
     }
-    match without_value {
-        Some(option) => Some(Misuse::NoValue(option)),
+    match open {
+        Some((option, _)) => Some(Misuse::NoValue(option)),
         None => None,
     }
 }
 
-/// The first option that the line shows without brackets and that is not among the arguments.
-fn missing_option<'a>(line: &'a str, arguments: &[String]) -> Option<Misuse<'a>> {
+/// Whether two arguments are there, and are equal.
+fn are_equal(one: Option<&String>, other: Option<&String>) -> bool {
+    match one {
+        Some(one) => match other {
+            Some(other) => one.as_str() == other.as_str(),
+            None => false,
+        },
+        None => false,
+    }
+}
+
+/// Whether an option comes again among the arguments after it; with the same value, if it may be given several times.
+fn is_repeated(shown: Shown<'_>, option: &str, others: &[String]) -> bool {
+    let mut rest = others;
+    while let [one, next @ ..] = rest {
+        if one.as_str() == option && (!shown.repeats || are_equal(others.first(), next.first())) {
+            return true;
+        }
+        rest = next;
+    }
+    false
+}
+
+/// The first option that is given twice.
+fn repeated_option<'a>(form: &str, arguments: &'a [String]) -> Option<Misuse<'a>> {
+    let mut rest = arguments;
+    let mut is_value = false;
+    while let [argument, others @ ..] = rest {
+        let argument = argument.as_str();
+        let shown = if is_value {
+            None
+        } else {
+            shown_of(form, argument)
+        };
+        if let Some(shown) = shown
+            && is_repeated(shown, argument, others)
+        {
+            return Some(Misuse::Twice(argument));
+        }
+        is_value = has_word(shown);
+        rest = others;
+    }
+    None
+}
+
+/// Whether an option is among the arguments.
+fn is_given(option: &str, arguments: &[String]) -> bool {
+    arguments.iter().any(|one| one.as_str() == option)
+}
+
+/// The words, if they are options that are both among the arguments.
+fn both_given<'a>(first: &'a str, second: &'a str, arguments: &[String]) -> Option<Misuse<'a>> {
+    if is_option(first) && is_given(first, arguments) && is_given(second, arguments) {
+        Some(Misuse::Both(first, second))
+    } else {
+        None
+    }
+}
+
+/// Two options among the arguments, with a bar between them in the form.
+fn one_or_the_other<'a>(form: &'a str, arguments: &[String]) -> Option<Misuse<'a>> {
+    let mut option = "";
+    let mut is_second = false;
+    for word in form.split_whitespace() {
+        let word = bare(word);
+        let (first, second) = if is_second {
+            (option, word)
+        } else {
+            word.split_once('|').unwrap_or(("", ""))
+        };
+        if let Some(misuse) = both_given(first, second, arguments) {
+            return Some(misuse);
+        }
+        if is_option(word) {
+            option = word;
+        }
+        is_second = word == "|";
+    }
+    None
+}
+
+/// The first option that the form shows without brackets and that is not among the arguments.
+fn missing_option<'a>(form: &'a str, arguments: &[String]) -> Option<Misuse<'a>> {
     let mut optional = false;
-    for word in line.split_whitespace() {
+    for word in form.split_whitespace() {
         optional = optional || word.starts_with('[');
-        if !optional && is_option(word) && !arguments.iter().any(|one| one.as_str() == word) {
+        if !optional && is_option(word) && !word.split('|').any(|one| is_given(one, arguments)) {
             return Some(Misuse::NoOption(word));
         }
         optional = optional && !word.ends_with(']');
@@ -121,27 +175,18 @@ fn missing_option<'a>(line: &'a str, arguments: &[String]) -> Option<Misuse<'a>>
     None
 }
 
-/// The first argument that is no option and no value of one, by the line of a task.
-fn has_argument(line: &str, arguments: &[String]) -> bool {
-    let mut is_value = false;
-    for argument in arguments {
-        let argument = argument.as_str();
-        if !is_value && !is_option(argument) {
-            return true;
-        }
-        is_value = !is_value && takes_value(line, argument) == Some(true);
-    }
-    false
-}
-
-/// What the line shows without brackets, that is no option and no value of one.
-fn needed_argument(line: &str) -> Option<&str> {
+/// The first word that the form shows without brackets, that is no option and no value of one, and for which there is no argument.
+fn missing_argument<'a>(form: &'a str, arguments: &[String]) -> Option<Misuse<'a>> {
+    let mut rest = arguments;
     let mut optional = false;
     let mut is_value = false;
-    for word in line.split_whitespace() {
+    for word in form.split_whitespace() {
         optional = optional || word.starts_with('[');
         if !optional && !is_value && is_placeholder(word) {
-            return Some(word);
+            match next_argument(form, rest) {
+                Some((_, others)) => rest = others,
+                None => return Some(Misuse::NoArgument(word)),
+            }
         }
         is_value = is_option(word);
         optional = optional && !word.ends_with(']');
@@ -149,18 +194,36 @@ fn needed_argument(line: &str) -> Option<&str> {
     None
 }
 
+/// The argument after those for which the form has a word, unless several may take the place of one of its words.
+fn extra_argument<'a>(form: &str, arguments: &'a [String]) -> Option<Misuse<'a>> {
+    let mut rest = arguments;
+    let mut is_value = false;
+    let mut is_argument = false;
+    for word in form.split_whitespace() {
+        if is_argument && word.starts_with("..") {
+            return None;
+        }
+        is_argument = !is_value && is_placeholder(bare(word));
+        if is_argument && let Some((_, others)) = next_argument(form, rest) {
+            rest = others;
+        }
+        is_value = is_option(bare(word)) && !word.ends_with(']');
+    }
+    match next_argument(form, rest) {
+        Some((extra, _)) => Some(Misuse::OneTooMany(extra)),
+        None => None,
+    }
+}
+
 /// What is wrong with the arguments after the task, or with all arguments of a program without tasks.
-fn wrong_in<'a>(line: &'a str, arguments: &'a [String]) -> Misuse<'a> {
-    if let Some(misuse) = wrong_option(line, arguments) {
-        return misuse;
-    }
-    if let Some(misuse) = missing_option(line, arguments) {
-        return misuse;
-    }
-    match needed_argument(line) {
-        Some(word) if !has_argument(line, arguments) => Misuse::NoArgument(word),
-        Some(_) | None => Misuse::Other,
-    }
+fn wrong_in<'a>(form: &'a str, arguments: &'a [String]) -> Misuse<'a> {
+    wrong_option(form, arguments)
+        .or(missing_option(form, arguments))
+        .or(missing_argument(form, arguments))
+        .or(one_or_the_other(form, arguments))
+        .or(extra_argument(form, arguments))
+        .or(repeated_option(form, arguments))
+        .unwrap_or(Misuse::Other)
 }
 
 /// What is wrong with the arguments of a program with tasks.
@@ -168,10 +231,12 @@ fn wrong_task<'a>(usage: &'a str, arguments: &'a [String]) -> Misuse<'a> {
     let [task, others @ ..] = arguments else {
         return Misuse::NoTask;
     };
-    match line_of(usage, task.as_str()) {
-        Some(line) => wrong_in(line, others),
-        None => Misuse::UnknownTask(task.as_str()),
+    if let Some(form) = form_named(usage, task.as_str())
+        && let Some((_tasks, rest)) = tasks_of(form)
+    {
+        return wrong_in(rest, others);
     }
+    Misuse::UnknownTask(task.as_str())
 }
 
 /// What is wrong with arguments that a program does not understand.
@@ -179,8 +244,36 @@ fn wrong<'a>(usage: &'a str, arguments: &'a [String]) -> Misuse<'a> {
     if tasks_of(usage).is_some() {
         return wrong_task(usage, arguments);
     }
-    let (_program, line) = parts_of(usage);
-    wrong_in(line, arguments)
+    match form_with(usage, arguments) {
+        Some(form) => wrong_in(form, arguments),
+        None => {
+            let (_program, all) = parts_of(usage);
+            wrong_option(all, arguments).unwrap_or(Misuse::Other)
+        }
+    }
+}
+
+/// Appends that a value is none that its option takes: the option, the value, and what it takes.
+fn put_wrong_value(text: &mut String, given: Given<'_>) -> Result<(), AllocError> {
+    let allowed = what_is_allowed(given.word);
+    text.push_str(given.option)?;
+    text.push_str(": ")?;
+    put_quoted(text, given.value.as_bytes())?;
+    text.push_str(" is ")?;
+    text.push_str(allowed)?;
+    if allowed.ends_with(' ') {
+        text.push_str(given.word)?;
+    }
+    Ok(())
+}
+
+/// Appends that only one of two options may be given.
+fn put_both(text: &mut String, first: &str, second: &str) -> Result<(), AllocError> {
+    text.push_str("the options ")?;
+    put_quoted(text, first.as_bytes())?;
+    text.push_str(" and ")?;
+    put_quoted(text, second.as_bytes())?;
+    text.push_str(" do not go together")
 }
 
 /// Appends what is wrong.
@@ -190,9 +283,13 @@ fn put_misuse(text: &mut String, misuse: Misuse<'_>) -> Result<(), AllocError> {
         Misuse::UnknownTask(name) => ("there is no task ", name, ""),
         Misuse::UnknownOption(name) => ("there is no option ", name, ""),
         Misuse::NoValue(name) => ("the option ", name, " has no value"),
+        Misuse::WrongValue(given) => return put_wrong_value(text, given),
+        Misuse::Twice(name) => ("the option ", name, " is given twice"),
+        Misuse::Both(first, second) => return put_both(text, first, second),
         Misuse::NoOption(name) => ("the option ", name, " is missing"),
-        Misuse::NoArgument(name) => ("there is no ", name, ""),
-        Misuse::Other => ("an option is given twice, or has a wrong value", "", ""),
+        Misuse::NoArgument(name) => ("no ", name, " is given"),
+        Misuse::OneTooMany(name) => ("", name, " is one file too many"),
+        Misuse::Other => ("the options do not go together", "", ""),
     };
     text.push_str(front)?;
     if !name.is_empty() {
@@ -223,8 +320,8 @@ pub fn misuse_line(
 pub struct About {
     /// Its name.
     pub name: &'static str,
-    /// How it is called, a line for each way, as `usage: omf-x task [--option VALUE] FILE ..`: what is in brackets may be left out, and names in
-    /// capitals are for values.
+    /// How it is called, a line or more for each way, as `usage: omf-x task [--option VALUE] FILE ..`: what is in brackets may be left out, names in
+    /// capitals are for values (ADDRESS, SIZE, SELECTOR, BYTE are hexadecimal; N, BYTES decimal), and an option with `..` may be given several times.
     pub usage: &'static str,
     /// What its tasks and its options do.
     pub details: &'static str,
@@ -249,19 +346,47 @@ pub fn explain<K: Sink>(
     }
 }
 
-/// Writes what is wrong with the arguments of the process to the standard error, and how the program is called. Returns `Misused`.
+/// How a program is called for a task.
+fn usage_of_task(alloc: Global, name: &str, form: &str) -> Result<String, AllocError> {
+    let (_program, rest) = parts_of(form);
+    let mut text = String::from_str(alloc, "usage: ")?;
+    text.push_str(name)?;
+    text.push(' ')?;
+    text.push_str(rest)?;
+    text.push('\n')?;
+    Ok(text)
+}
+
+/// How a program is called for the task that the arguments name; for all tasks, if they name none.
+fn usage_for(alloc: Global, about: &About, arguments: &[String]) -> Result<String, AllocError> {
+    if let [task, ..] = arguments
+        && let Some(form) = form_named(about.usage, task.as_str())
+    {
+        return usage_of_task(alloc, about.name, form);
+    }
+    String::from_str(alloc, about.usage)
+}
+
+/// Writes what is wrong with the arguments of the process on the standard error, and how the program is called for their task. Returns `Misused`.
 ///
 /// # Errors
 ///
 /// `AllocError` if out of memory.
-pub fn misused_by<K: Sink>(
+pub fn misused_by<K, E: Sink>(
     rt: &HostRuntime,
-    writer: &mut K,
+    streams: &mut Streams<K, E>,
     about: &About,
-) -> Result<Status, AllocError> {
-    if let Some(arguments) = arguments(rt)? {
-        let line = misuse_line(rt.alloc(), about, &arguments)?;
-        let _ = eprint!(rt; "{line}");
-    }
-    Ok(misused(writer, about.usage.as_bytes()))
+) -> Result<Status, AllocError>
+    ensures status { IfOk result (λ status. status ≡ Misused) }
+    ensures output { streams.new.output ≡ streams.old.output }
+{
+    let Some(arguments) = arguments(rt, about.usage)? else {
+        let _ = put(&mut streams.errors, about.name.as_bytes());
+        let _ = put(&mut streams.errors, b": an argument is not UTF-8\n");
+        return Ok(misused(streams, about.usage.as_bytes()));
+    };
+    let line = misuse_line(rt.alloc(), about, &arguments)?;
+    let usage = usage_for(rt.alloc(), about, &arguments)?;
+    let _ = put(&mut streams.errors, line.as_bytes());
+    Ok(misused(streams, usage.as_bytes()))
 }

@@ -2,7 +2,7 @@
 
 ghost use Rattle.std.specs.Prelude.{◌≡◌, IfOk, map, string_bytes};
 ghost use Rattle.omf_host.specs.Ending.{IsPut};
-ghost use Rattle.omf_host.specs.Question.{answer_text, question_in, question_of, version_line};
+ghost use Rattle.omf_host.specs.Question.{answer_text, first_question, question_in, question_of, question_with_tasks, version_line};
 
 use crate::ending::Status;
 use crate::output::put;
@@ -39,6 +39,27 @@ pub fn question_in(arguments: &[String]) -> Option<Question>
 {
     match arguments {
         [argument] => question_of(argument.as_str()),
+        _ => None,
+    }
+}
+
+/// The question that the only argument of a program with tasks is.
+fn first_question(argument: &str) -> Option<Question>
+    ensures { result ≡ first_question argument.now }
+{
+    match argument {
+        "help" => Some(Question::Usage),
+        _ => question_of(argument),
+    }
+}
+
+/// The question to a program with tasks: `help` or one of the others as the only argument, or one of the others after a task.
+pub fn question_with_tasks(arguments: &[String]) -> Option<Question>
+    ensures { result ≡ question_with_tasks (map string_bytes arguments.now) }
+{
+    match arguments {
+        [argument] => first_question(argument.as_str()),
+        [_task, argument] => question_of(argument.as_str()),
         _ => None,
     }
 }

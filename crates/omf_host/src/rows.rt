@@ -2,6 +2,7 @@
 
 ghost use Rattle.std.specs.Prelude.{◌≡◌, [], ◌∷◌, ◌++◌, codes, true, false, None, Some};
 ghost use Rattle.omf_host.specs.Spots.{clash_line, first_clash, is_one_file};
+ghost use Rattle.omf_host.specs.Streams.{told_lines};
 ghost use Rattle.omf_host.specs.declared.clash.Clash.TheVariants as clashes;
 ghost use Rattle.omf_host.specs.declared.spot.Spot.TheVariants as spot;
 
@@ -27,4 +28,10 @@ pub fn outputs_refused()
 pub fn lines_on_outputs()
     ensures input { clash_line (codes "omf-link") (codes "a.obj") clashes.FirstIsRead ≡ codes "omf-link: \"a.obj\" is an input and an output" ++ 10 ∷ [] }
     ensures both { clash_line (codes "omf-link") (codes "a.exe") clashes.AreOne ≡ codes "omf-link: \"a.exe\" is two outputs" ++ 10 ∷ [] }
+{}
+
+/// Each of two lines is after the program's name. Of no text there is no line.
+pub fn lines_of_programs()
+    ensures two { told_lines (codes "omf-lib") (codes "a" ++ 10 ∷ codes "b" ++ 10 ∷ []) ≡ codes "omf-lib: a" ++ 10 ∷ codes "omf-lib: b" ++ 10 ∷ [] }
+    ensures none { told_lines (codes "omf-lib") [] ≡ [] }
 {}
