@@ -257,7 +257,8 @@ struct omf_answer omf_library_find(const uint8_t *bytes, size_t length, const ui
 /* Links modules. `input` has them one after another, each with padding after it (bytes of one value, 00H or 1AH) or none, and after them the text
  * with their addresses, by names (docs/ADDRESSES.md). Hands out the memory of `size` addresses from `base` on, `fill` where the modules have no byte.
  * Returns OMF_DONE, OMF_NOT_LINKED, OMF_ROOM, OMF_MEMORY; OMF_REFUSED or OMF_REACH with the module in `record_count`; or OMF_LINE with `line` and in
- * `reason` why: 1 not understood, 2 no M line before it, 3 names nothing, 4 names more than one, 5 a second line for the same. */
+ * `reason` why: 1 not understood, 2 no M line before it, 3 names nothing, 4 names more than one, 5 a second line for the same, 6 no line before
+ * it gives the frame. */
 struct omf_answer omf_link_image(const uint8_t *input, size_t length, uint32_t base, uint32_t size, uint8_t fill, uint8_t *out, size_t room);
 
 /* Makes a DOS program (.EXE) of the modules of `input`, one after another as above, with nothing after them: laid out from address 0 on in real mode

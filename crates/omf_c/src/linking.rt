@@ -45,6 +45,7 @@ fn why_number(why: LineFault) -> u32
         LineFault::Unknown => 3,
         LineFault::Several => 4,
         LineFault::Twice => 5,
+        LineFault::Unshared => 6,
     }
 }
 

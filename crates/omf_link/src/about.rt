@@ -5,14 +5,26 @@ use omf_host::About;
 /// Its name, how it is called, and what its tasks and options do. The second is that of `omf_linker::link::Link`.
 pub(crate) const ABOUT: About = About {
     name: "omf-link",
-    usage: "usage: omf-link exe -o FILE [--map FILE] [--stack SIZE] [--order dos|input] [--library-path DIR] [--no-default-libraries] [--allow KIND] [--ignore-case] FILE ..
-       omf-link com -o FILE [--map FILE] [--stack SIZE] [--order dos|input] [--library-path DIR] [--no-default-libraries] [--allow KIND] [--ignore-case] FILE ..
-       omf-link image [--allow KIND] [--ignore-case] [-t TEXT] [-o FILE] [FILE ..]
+    usage: "usage: omf-link exe -o FILE [--map FILE] [--stack BYTES] [--order dos|input]
+           [--library-path DIR ..] [--no-default-libraries]
+           [--allow group|near|twice ..] [--ignore-case] FILE ..
+       omf-link com -o FILE [--map FILE] [--stack BYTES] [--order dos|input]
+           [--library-path DIR ..] [--no-default-libraries]
+           [--allow group|near|twice ..] [--ignore-case] FILE ..
+       omf-link image [--allow overlap|align|group|frame|near|twice ..]
+           [--ignore-case] [-t TEXT] [-o FILE] [FILE ..]
        omf-link map [--ignore-case] [-t TEXT] [-o FILE] [FILE ..]
-       omf-link bin --base ADDRESS --size SIZE [--fill BYTE] [--allow KIND] [--ignore-case] [-t TEXT] [-o FILE] [FILE ..]
-       omf-link hex [--addresses linear|segment] [--allow KIND] [--ignore-case] [-t TEXT] [-o FILE] [FILE ..]
-       omf-link srec [--addresses 16|24|32] [--allow KIND] [--ignore-case] [-t TEXT] [-o FILE] [FILE ..]
-       omf-link draft [--base ADDRESS] [--real | --flat SELECTOR] [--ignore-case] [-o FILE] [FILE ..]
+       omf-link bin --base ADDRESS --size SIZE [--fill BYTE]
+           [--allow overlap|align|group|frame|near|twice ..]
+           [--ignore-case] [-t TEXT] [-o FILE] [FILE ..]
+       omf-link hex [--addresses linear|segment]
+           [--allow overlap|align|group|frame|near|twice ..]
+           [--ignore-case] [-t TEXT] [-o FILE] [FILE ..]
+       omf-link srec [--addresses 16|24|32]
+           [--allow overlap|align|group|frame|near|twice ..]
+           [--ignore-case] [-t TEXT] [-o FILE] [FILE ..]
+       omf-link draft [--base ADDRESS] [--real | --flat SELECTOR]
+           [--ignore-case] [-o FILE] [FILE ..]
 ",
     details: "
   exe     a DOS program (.EXE) of object modules (.OBJ) and libraries (.LIB)
@@ -29,7 +41,7 @@ pub(crate) const ABOUT: About = About {
                            output
   -t TEXT                  the text with the addresses
   --map FILE               exe, com: the map of the program
-  --stack SIZE             exe, com: a stack of SIZE bytes more, decimal
+  --stack BYTES            exe, com: a stack of BYTES bytes more, decimal, or as 4K
   --order dos|input        exe, com: segments in the order of DOS linkers (LINK's
                            /DOSSEG), or as they come
   --library-path DIR       exe, com: a folder for libraries that modules ask for
@@ -42,8 +54,8 @@ pub(crate) const ABOUT: About = About {
   --ignore-case            ignore the case of publics, externals and communals,
                            and show them in lower case
   --base ADDRESS           bin: the address of the first byte; draft: of the first
-                           segment (default 10000); hexadecimal
-  --size SIZE              bin: the number of bytes, hexadecimal
+                           segment (default 10000)
+  --size SIZE              bin: the number of bytes, hexadecimal, or as 64K
   --fill BYTE              bin: the byte where no module has one (default FF)
   --addresses linear|segment, --addresses 16|24|32
                            hex, srec: the kind of addresses in the file
@@ -51,6 +63,9 @@ pub(crate) const ABOUT: About = About {
                            without 32-bit segments
   --flat SELECTOR          draft: one frame with base 0 and this selector; the
                            default for other modules, with selector 0
+
+Numbers are hexadecimal, but for BYTES: 1000, 0x1000 and 1000H are one. @FILE
+is the words of a file, and -- ends the options.
 
 Where a file is -, omf-link reads the standard input; without files also, but for
 exe and com. omf-link(1), docs/DOS.md and docs/ADDRESSES.md show examples, and

@@ -1,172 +1,107 @@
 //! The tasks `omf-link exe` and `omf-link com`: a DOS program of modules and libraries.
 
+ghost use Rattle.std.specs.Prelude.{◌≡◌, IfSome, Some, is_some, option_map, true};
+
 use crate::about::ABOUT;
 use crate::libraries::Sources;
 use omf_frame::Sink;
-use omf_host::{OutputFile, RunFiles, Status, misused_by, refuse_clash};
+use omf_host::{OutputFile, RunFiles, Status, Streams, misused_by, refuse_clash, warn};
 use omf_linker::asked::{Asked, sorted};
-use omf_linker::exe::{
-    Call, ExeOptions, LinkedModules, ProgramModules, Refusal, call_of, missing_lines,
-};
-use omf_linker::host::write_or_tell;
-use omf_linker::link::InputFile;
-use std::alloc::{AllocError, Global};
-use std::mem::forget;
+use omf_linker::exe::{Call, ExeOptions, MadeProgram, Refusal, call_of, missing_lines};
+use omf_linker::host::{tell_refusal, write_or_tell};
+use std::alloc::AllocError;
 
 /// The warning of a program without a stack.
 const NO_STACK: &str = "no stack: SS:SP is 0:0 from the load address\n";
 
-/// Prints why there is no program; and on the standard error, if a name is not defined, the libraries that were not found.
-fn refuse<K: Sink>(
+/// Writes why there is no program; and, if a name is not defined, the libraries that were not found. Returns the status.
+fn refuse<K, E: Sink>(
     rt: &HostRuntime,
     refusal: &Refusal,
     missing: &[Vec<u8>],
-    writer: &mut K,
+    streams: &mut Streams<K, E>,
 ) -> Result<Status, AllocError> {
-    refusal.print(writer);
+    let status = tell_refusal(rt.alloc(), streams, refusal)?;
     if let Refusal::Undefined(_) = refusal {
         let lines = missing_lines(rt.alloc(), missing)?;
-        let _ = eprint!(rt; "{lines}");
-    }
-    Ok(refusal.status())
-}
-
-/// The map of a program, if that is asked for.
-fn map_of(
-    alloc: Global,
-    modules: &LinkedModules<'_>,
-    files: &[InputFile],
-    is_asked: bool,
-) -> Result<Option<Vec<u8>>, Refusal> {
-    if !is_asked {
-        return Ok(None);
-    }
-    Ok(Some(modules.map(alloc, files)?))
-}
-
-/// A program, its map if that is asked for, and the warnings about it.
-#[derive(Drop)]
-struct MadeProgram {
-    bytes: Vec<u8>,
-    map: Option<Vec<u8>>,
-    repeated: Option<String>,
-    long: Option<String>,
-    near: Option<String>,
-    lacks_stack: bool,
-}
-
-impl MadeProgram {
-    /// The program as an output.
-    fn file<'a>(&'a self, output: Output<'a>) -> OutputFile<'a> {
-        OutputFile {
-            name: output.name,
-            bytes: &self.bytes,
-        }
-    }
-
-    /// The map as an output, if it is asked for.
-    fn map_file<'a>(&'a self, output: Output<'a>) -> Option<OutputFile<'a>> {
-        Some(OutputFile {
-            name: output.map?,
-            bytes: self.map.as_ref()?,
-        })
-    }
-}
-
-/// What is written: the program, as a .COM file or not, and its map; and whether more than one public may have a name, segments and groups may be longer
-/// than 64 KB, and near references may be into another frame.
-#[derive(Clone, Copy)]
-struct Output<'a> {
-    name: &'a str,
-    is_com: bool,
-    map: Option<&'a str>,
-    allows_twice: bool,
-    allows_long: bool,
-    allows_near: bool,
-}
-
-/// The bytes of the program of modules, and whether it lacks a stack that it is to have.
-fn bytes_of(
-    alloc: Global,
-    modules: &LinkedModules<'_>,
-    files: &[InputFile],
-    is_com: bool,
-) -> Result<(Vec<u8>, bool), Refusal> {
-    if is_com {
-        return Ok((modules.com(alloc, files)?, false));
-    }
-    let file = modules.exe(alloc, files)?;
-    Ok((file.bytes, !file.has_stack))
-}
-
-/// The program of modules, with what belongs to it. The memory of the linkage is not freed: the run ends soon.
-fn made(
-    alloc: Global,
-    modules: &ProgramModules,
-    files: &[InputFile],
-    output: Output<'_>,
-) -> Result<MadeProgram, Refusal> {
-    let linked = modules.linked(alloc)?;
-    let bytes = match bytes_of(alloc, &linked, files, output.is_com) {
-        Err(Refusal::Undefined(lines)) => return Err(Refusal::Undefined(lines)),
-        bytes => bytes,
-    };
-    let long = linked.long(alloc, files, output.allows_long)?;
-    let near = linked.near(alloc, files, output.allows_near)?;
-    if !output.is_com {
-        linked.stack_is_alone(alloc, files)?;
-    }
-    let (bytes, lacks_stack) = bytes?;
-    let map = map_of(alloc, &linked, files, output.map.is_some())?;
-    let repeated = linked.repeated(alloc, files, output.allows_twice)?;
-    forget(linked);
-    Ok(MadeProgram {
-        bytes,
-        map,
-        repeated,
-        long,
-        near,
-        lacks_stack,
-    })
-}
-
-/// Prints the warnings of a program on the standard error.
-fn warn(rt: &HostRuntime, made: &MadeProgram) {
-    for lines in [&made.repeated, &made.long, &made.near] {
-        if let Some(lines) = lines {
-            let lines = lines.as_str();
-            let _ = eprint!(rt; "{lines}");
-        }
-    }
-    if made.lacks_stack {
-        let _ = eprint!(rt; "{NO_STACK}");
-    }
-}
-
-/// Writes the program of modules, and its map if that is asked for. Nothing is written if one of them has a fault. Returns the status.
-fn write_program<K: Sink>(
-    rt: &HostRuntime,
-    modules: &ProgramModules,
-    sources: &Sources,
-    output: Output<'_>,
-    writer: &mut K,
-) -> Result<Status, AllocError> {
-    let made = match made(rt.alloc(), modules, &sources.files, output) {
-        Ok(made) => made,
-        Err(refusal) => return refuse(rt, &refusal, &sources.missing, writer),
-    };
-    let status = write_or_tell(rt, made.file(output), made.map_file(output), writer)?;
-    if status == Status::Done {
-        warn(rt, &made);
+        streams.report(rt.alloc(), lines.as_bytes())?;
     }
     Ok(status)
 }
 
+/// The names of the files of a program and its map.
+#[derive(Clone, Copy)]
+struct Output<'a> {
+    name: &'a str,
+    map: Option<&'a str>,
+}
+
+/// The program as an output.
+fn program_file<'a>(made: &'a MadeProgram, name: &'a str) -> OutputFile<'a>
+    ensures name { result.name.now ≡ name.now }
+    ensures bytes { result.bytes.now ≡ made.entry.now.bytes.items }
+{
+    OutputFile {
+        name,
+        bytes: &made.bytes,
+    }
+}
+
+/// The map as an output under a name, if it is made.
+fn map_file<'a>(made: &'a MadeProgram, name: Option<&'a str>) -> Option<OutputFile<'a>>
+    ensures name { IfSome result (λ f. option_map (λ n. n.now) name.entry ≡ Some f.name.now) }
+    ensures bytes { is_some name.entry ≡ true → option_map (λ f. f.bytes.now) result ≡ option_map (λ m. m.items) made.entry.now.map }
+{
+    match name {
+        Some(name) => match &made.map {
+            Some(map) => Some(OutputFile { name, bytes: map }),
+            None => None,
+        },
+        None => None,
+    }
+}
+
+/// Writes the warnings of a program. Returns `Done`; or `Failed`, if memory runs out for them.
+fn warn_of<K, E: Sink>(
+    rt: &HostRuntime,
+    made: &MadeProgram,
+    streams: &mut Streams<K, E>,
+) -> Status {
+    let mut status = Status::Done;
+    for lines in [&made.repeated, &made.long, &made.near] {
+        if let Some(lines) = lines {
+            let warned = warn(rt.alloc(), streams, lines.as_bytes());
+            status = status.worst(warned);
+        }
+    }
+    if made.lacks_stack {
+        let warned = warn(rt.alloc(), streams, NO_STACK.as_bytes());
+        status = status.worst(warned);
+    }
+    status
+}
+
+/// Writes a program, and its map if that is asked for. Returns the status.
+fn write_program<K: Sink, E: Sink>(
+    rt: &HostRuntime,
+    made: &MadeProgram,
+    output: Output<'_>,
+    streams: &mut Streams<K, E>,
+) -> Result<Status, AllocError> {
+    let program = program_file(made, output.name);
+    let status = write_or_tell(rt, program, map_file(made, output.map), streams)?;
+    if status != Status::Done {
+        return Ok(status);
+    }
+    Ok(warn_of(rt, made, streams))
+}
+
 /// Refuses outputs that are one of these inputs, or one another. Returns the status then.
-fn refuse_outputs<'a>(
+fn refuse_outputs<'a, K, E: Sink>(
     rt: &HostRuntime,
     inputs: &'a [String],
     output: Output<'a>,
+    streams: &mut Streams<K, E>,
 ) -> Result<Option<Status>, AllocError> {
     let files = RunFiles {
         inputs,
@@ -174,63 +109,57 @@ fn refuse_outputs<'a>(
         output: output.name,
         second: output.map,
     };
-    let about = &ABOUT;
-    refuse_clash(rt, about.name, files)
+    refuse_clash(rt, streams, files)
 }
 
-/// Makes a program of files with these options, and writes it. The memory of the modules is not freed: the run ends. Returns the status.
-fn with_options<K: Sink>(
+/// Makes a program of files with these options, and writes it. Nothing is written if it has a fault. Returns the status.
+fn with_options<K: Sink, E: Sink>(
     rt: &HostRuntime,
     asked: &Asked,
     options: &ExeOptions<'_>,
     output: Output<'_>,
-    writer: &mut K,
+    streams: &mut Streams<K, E>,
 ) -> Result<Status, AllocError> {
-    if let Some(status) = refuse_outputs(rt, &asked.files, output)? {
+    if let Some(status) = refuse_outputs(rt, &asked.files, output, streams)? {
         return Ok(status);
     }
-    let Some(mut sources) = Sources::read(rt, asked.files.as_slice(), writer)? else {
+    let Some(mut sources) = Sources::read(rt, asked.files.as_slice(), streams)? else {
         return Ok(Status::Failed);
     };
-    let modules = sources.modules(rt, options)?;
-    if let Some(status) = refuse_outputs(rt, &sources.libraries, output)? {
+    let program = sources.joined(rt, options)?;
+    if let Some(status) = refuse_outputs(rt, &sources.libraries, output, streams)? {
         return Ok(status);
     }
-    match modules {
-        Ok(modules) => {
-            let status = write_program(rt, &modules, &sources, output, writer);
-            forget(modules);
-            status
-        }
-        Err(refusal) => refuse(rt, &refusal, &sources.missing, writer),
+    let made = match program {
+        Ok(program) => program.make(rt.alloc(), options),
+        Err(refusal) => Err(refusal),
+    };
+    match made {
+        Ok(made) => write_program(rt, &made, output, streams),
+        Err(refusal) => refuse(rt, &refusal, &sources.missing, streams),
     }
 }
 
 /// Does what arguments ask for, whose task is `exe` or `com`. Returns the status.
-pub fn on_words<K: Sink>(
+pub fn on_words<K: Sink, E: Sink>(
     rt: &HostRuntime,
     words: &[String],
-    writer: &mut K,
+    streams: &mut Streams<K, E>,
 ) -> Result<Status, AllocError> {
     let Some(asked) = sorted(rt.alloc(), words, 2)? else {
-        return misused_by(rt, writer, &ABOUT);
+        return misused_by(rt, streams, &ABOUT);
     };
-    let (name, is_com) = match call_of(&asked) {
-        Call::Other | Call::Misused => return misused_by(rt, writer, &ABOUT),
-        Call::Exe(name) => (name, false),
-        Call::Com(name) => (name, true),
+    let (kind, name) = match call_of(&asked) {
+        Call::Program(kind, name) => (kind, name),
+        Call::Other | Call::Misused => return misused_by(rt, streams, &ABOUT),
     };
     let arguments = asked.words.get(2..).unwrap_or(&[]);
-    let Some(options) = ExeOptions::of(rt.alloc(), arguments)? else {
-        return misused_by(rt, writer, &ABOUT);
+    let Some(options) = ExeOptions::of(rt.alloc(), kind, arguments)? else {
+        return misused_by(rt, streams, &ABOUT);
     };
     let output = Output {
         name,
-        is_com,
         map: options.map,
-        allows_twice: options.allows_twice,
-        allows_long: options.allows_long,
-        allows_near: options.allows_near,
     };
-    with_options(rt, &asked, &options, output, writer)
+    with_options(rt, &asked, &options, output, streams)
 }

@@ -1,15 +1,15 @@
-//! The program on the arguments, the files, the standard input and the standard output of its process.
+//! The program on the arguments, the files, the standard input, the standard output and the standard error of its process.
 
 use crate::about::ABOUT;
 use crate::exe;
 use omf_cmd::Fault;
 use omf_frame::{Sink, Writing};
 use omf_host::{
-    RunFiles, Status, end, explain, misused_by, out_of_memory, program_and_arguments, put,
-    question_in, refuse_clash,
+    RunFiles, StandardOutput, Status, Streams, end, explain, misused_by, out_of_memory,
+    program_and_arguments, question_with_tasks, refuse_clash, warn,
 };
 use omf_linker::asked::{Asked, sorted};
-use omf_linker::host::{read_or_tell, run_on_input, write_output_or_tell};
+use omf_linker::host::{perform_on_input, read_or_tell, tell_fault, write_output_or_tell};
 use omf_linker::link::{FilesFault, ImageFault, InputFile, Link, Output, Task, case_in, task_of};
 use omf_linker::seen::{
     Allowed, Request, SeenText, allowed_in, files_folded, files_seen, input_folded, input_seen,
@@ -19,14 +19,14 @@ use std::alloc::{AllocError, Global};
 use std::process::ExitCode;
 
 /// Reads the files. None if one could not be read.
-pub(crate) fn read_files<K: Sink>(
+pub(crate) fn read_files<K: Sink, E: Sink>(
     rt: &HostRuntime,
     names: &[String],
-    writer: &mut K,
+    streams: &mut Streams<K, E>,
 ) -> Result<Option<Vec<InputFile>>, AllocError> {
     let mut files = Vec::new(rt.alloc());
     for name in names {
-        let Some(bytes) = read_or_tell(rt, name.as_str(), writer)? else {
+        let Some(bytes) = read_or_tell(rt, name.as_str(), streams)? else {
             return Ok(None);
         };
         files.push(InputFile::new(name.clone()?, bytes))?;
@@ -35,27 +35,27 @@ pub(crate) fn read_files<K: Sink>(
 }
 
 /// Reads the link text; empty if none is named. None if it could not be read.
-fn read_text<K: Sink>(
+fn read_text<K: Sink, E: Sink>(
     rt: &HostRuntime,
     name: Option<&str>,
-    writer: &mut K,
+    streams: &mut Streams<K, E>,
 ) -> Result<Option<Vec<u8>>, AllocError> {
     match name {
-        Some(name) => read_or_tell(rt, name, writer),
+        Some(name) => read_or_tell(rt, name, streams),
         None => Ok(Some(Vec::new(rt.alloc()))),
     }
 }
 
 /// Writes the output of a task to the file that is named, or to the standard output. Returns the status.
-fn written<K: Sink>(
+fn written<K: Sink, E: Sink>(
     rt: &HostRuntime,
     name: Option<&str>,
     shown: &Output,
-    writer: &mut K,
+    streams: &mut Streams<K, E>,
 ) -> Result<Status, AllocError> {
     match name {
-        Some(name) => write_output_or_tell(rt, name, shown, writer),
-        None => Ok(match shown.print(writer) {
+        Some(name) => write_output_or_tell(rt, name, shown, streams),
+        None => Ok(match shown.print(&mut streams.output) {
             Ok(()) => Status::Done,
             Err(_) => Status::Failed,
         }),
@@ -104,29 +104,29 @@ impl Manner {
 }
 
 /// Does a task for the files and the text that are named. None if one of them could not be read.
-fn of_files<K: Sink>(
+fn of_files<K: Sink, E: Sink>(
     rt: &HostRuntime,
     manner: Manner,
     asked: &Asked,
-    writer: &mut K,
+    streams: &mut Streams<K, E>,
 ) -> Result<Option<Result<SeenText, FilesFault>>, AllocError> {
-    let Some(files) = read_files(rt, asked.files.as_slice(), writer)? else {
+    let Some(files) = read_files(rt, asked.files.as_slice(), streams)? else {
         return Ok(None);
     };
     let name = asked.text.as_ref().map(|name| name.as_str());
-    let Some(text) = read_text(rt, name, writer)? else {
+    let Some(text) = read_text(rt, name, streams)? else {
         return Ok(None);
     };
     Ok(Some(manner.seen(rt.alloc(), files, &text)))
 }
 
 /// Does a task for the standard input: modules, and a text after them. None if it could not be read.
-fn of_input<K: Sink>(
+fn of_input<K: Sink, E: Sink>(
     rt: &HostRuntime,
     manner: Manner,
-    writer: &mut K,
+    streams: &mut Streams<K, E>,
 ) -> Result<Option<Result<SeenText, FilesFault>>, AllocError> {
-    let Some(input) = read_or_tell(rt, "-", writer)? else {
+    let Some(input) = read_or_tell(rt, "-", streams)? else {
         return Ok(None);
     };
     match manner.seen_in(rt.alloc(), input) {
@@ -135,30 +135,32 @@ fn of_input<K: Sink>(
     }
 }
 
-/// Writes the output of a task, after lines on standard error for what its link text does unseen. If that is not allowed, it writes these
-/// lines alone. Returns the status.
-fn written_or_told<K: Sink>(
+/// Writes the output of a task, after warnings on what its link text does unseen. If that is not allowed, it writes these lines alone. An output is
+/// written also where memory runs out for the warnings. Returns the status.
+fn written_or_told<K: Sink, E: Sink>(
     rt: &HostRuntime,
     name: Option<&str>,
     seen: &SeenText,
-    writer: &mut K,
+    streams: &mut Streams<K, E>,
 ) -> Result<Status, AllocError> {
     let Ok(lines) = &seen.looked else {
         return Err(AllocError);
     };
     if !lines.faults.is_empty() {
-        let _ = put(writer, lines.faults.as_bytes());
+        streams.report(rt.alloc(), lines.faults.as_bytes())?;
         return Ok(Status::Refused);
     }
-    if !lines.warnings.is_empty() {
-        let warnings = lines.warnings.as_str();
-        let _ = eprint!(rt; "{warnings}");
-    }
-    written(rt, name, &seen.shown, writer)
+    let warned = warn(rt.alloc(), streams, lines.warnings.as_bytes());
+    let status = written(rt, name, &seen.shown, streams)?;
+    Ok(status.worst(warned))
 }
 
 /// Refuses an output that is an input or the text of the same run. Returns the status then.
-fn refuse_output(rt: &HostRuntime, asked: &Asked) -> Result<Option<Status>, AllocError> {
+fn refuse_output<K, E: Sink>(
+    rt: &HostRuntime,
+    asked: &Asked,
+    streams: &mut Streams<K, E>,
+) -> Result<Option<Status>, AllocError> {
     let Some(output) = &asked.output else {
         return Ok(None);
     };
@@ -173,32 +175,31 @@ fn refuse_output(rt: &HostRuntime, asked: &Asked) -> Result<Option<Status>, Allo
         output: output.as_str(),
         second: None,
     };
-    let about = &ABOUT;
-    refuse_clash(rt, about.name, files)
+    refuse_clash(rt, streams, files)
 }
 
 /// Does a task, and writes its output, or the line of its fault. Returns the status.
-fn on_files<K: Sink>(
+fn on_files<K: Sink, E: Sink>(
     rt: &HostRuntime,
     manner: Manner,
     asked: &Asked,
-    writer: &mut K,
+    streams: &mut Streams<K, E>,
 ) -> Result<Status, AllocError> {
-    if let Some(status) = refuse_output(rt, asked)? {
+    if let Some(status) = refuse_output(rt, asked, streams)? {
         return Ok(status);
     }
     let found = if is_on_input(asked) {
-        of_input(rt, manner, writer)?
+        of_input(rt, manner, streams)?
     } else {
-        of_files(rt, manner, asked, writer)?
+        of_files(rt, manner, asked, streams)?
     };
     match found {
         Some(Ok(seen)) => {
             let name = asked.output.as_ref().map(|name| name.as_str());
-            written_or_told(rt, name, &seen, writer)
+            written_or_told(rt, name, &seen, streams)
         }
         Some(Err(fault)) => {
-            fault.print(writer);
+            tell_fault(rt.alloc(), streams, &fault)?;
             Ok(Status::of_code(fault.status()))
         }
         None => Ok(Status::Failed),
@@ -226,70 +227,76 @@ fn makes_program(words: &[String]) -> bool {
 }
 
 /// Does a task that is no program for DOS. Returns the status.
-fn on_task<K: Sink>(
+fn on_task<K: Sink, E: Sink>(
     rt: &HostRuntime,
     asked: &Asked,
     allowed: Allowed,
-    writer: &mut K,
+    streams: &mut Streams<K, E>,
 ) -> Result<Status, AllocError> {
     let cased = case_in(rt.alloc(), asked.words.as_slice())?;
     let ignores_case = cased.ignores_case;
     let Some(task) = task_of(rt.alloc(), cased.words.as_slice())? else {
-        return misused_by(rt, writer, &ABOUT);
+        return misused_by(rt, streams, &ABOUT);
     };
     let looks = is_looked_at(task);
     let on_input_alone = is_on_input(asked);
     if (allowed.has_any() && !looks) || (!on_input_alone && asked.files.is_empty()) {
-        return misused_by(rt, writer, &ABOUT);
+        return misused_by(rt, streams, &ABOUT);
     }
     if on_input_alone && asked.output.is_none() && !looks && !ignores_case {
-        return run_on_input::<Link, _>(rt, asked.words.as_slice(), writer);
+        return perform_on_input::<Link, _, _>(rt, task, streams);
     }
     let manner = Manner {
         task,
         allowed,
         ignores_case,
     };
-    on_files(rt, manner, asked, writer)
+    on_files(rt, manner, asked, streams)
 }
 
 /// Does what arguments ask for, which have no option `--allow`. Returns the status.
-fn on_words<K: Sink>(
+fn on_words<K: Sink, E: Sink>(
     rt: &HostRuntime,
     words: &[String],
     allowed: Allowed,
-    writer: &mut K,
+    streams: &mut Streams<K, E>,
 ) -> Result<Status, AllocError> {
     let Some(asked) = sorted(rt.alloc(), words, 2)? else {
-        return misused_by(rt, writer, &ABOUT);
+        return misused_by(rt, streams, &ABOUT);
     };
-    on_task(rt, &asked, allowed, writer)
+    on_task(rt, &asked, allowed, streams)
 }
 
 /// Does what the arguments ask for. Returns the status.
-fn act<K: Sink>(rt: &HostRuntime, writer: &mut K) -> Result<Status, AllocError> {
-    let Some(words) = program_and_arguments(rt)? else {
-        return misused_by(rt, writer, &ABOUT);
+fn act<K: Sink, E: Sink>(
+    rt: &HostRuntime,
+    streams: &mut Streams<K, E>,
+) -> Result<Status, AllocError> {
+    let about = &ABOUT;
+    let Some(words) = program_and_arguments(rt, about.usage)? else {
+        return misused_by(rt, streams, about);
     };
-    if let Some(question) = question_in(words.get(1..).unwrap_or(&[])) {
-        return explain(rt.alloc(), writer, question, &ABOUT);
+    if let Some(question) = question_with_tasks(words.get(1..).unwrap_or(&[])) {
+        return explain(rt.alloc(), &mut streams.output, question, &ABOUT);
     }
     if makes_program(&words) {
-        return exe::on_words(rt, &words, writer);
+        return exe::on_words(rt, &words, streams);
     }
     match allowed_in(rt.alloc(), &words)? {
-        Some((allowed, words)) => on_words(rt, &words, allowed, writer),
-        None => misused_by(rt, writer, &ABOUT),
+        Some((allowed, words)) => on_words(rt, &words, allowed, streams),
+        None => misused_by(rt, streams, &ABOUT),
     }
 }
 
 /// Runs the program. Returns the exit status: 0 done, 1 an input or its text is refused, has no room or does not fit, 2 the arguments are not
 /// understood, 3 out of memory, or a file could not be read or written, or the output could not be written.
 pub fn run(rt: &HostRuntime) -> ExitCode {
-    let mut output = Writing::new(rt.stdout());
-    let status = match act(rt, &mut output) {
+    let about = &ABOUT;
+    let output = StandardOutput::new(rt.stdout());
+    let mut streams = Streams::new(about.name, output, Writing::new(rt.stderr()));
+    let status = match act(rt, &mut streams) {
         Ok(status) => status,
-        Err(AllocError) => out_of_memory(&mut output),
+        Err(AllocError) => out_of_memory(&mut streams),
     };
-    end(&mut output, status)
+    end(rt.alloc(), &mut streams, status)
 }

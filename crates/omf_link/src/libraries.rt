@@ -1,11 +1,15 @@
 //! The libraries that modules ask for: they are looked for by name.
 
+ghost use Rattle.std.specs.Prelude.{◌≡◌};
+
 use crate::host::read_files;
 use omf_frame::Sink;
-use omf_linker::exe::{ExeOptions, ProgramModules, Refusal, library_files};
+use omf_host::Streams;
+use omf_linker::exe::{ExeOptions, ProgramFiles, Refusal, library_files};
 use omf_linker::host::read_library;
 use omf_linker::link::InputFile;
 use std::alloc::AllocError;
+use std::mem::replace;
 use std::str;
 
 /// How often modules are looked through for libraries that they ask for: a library that is found may ask for others.
@@ -13,10 +17,12 @@ const ROUNDS: usize = 1000;
 
 /// The files of a program, and the libraries that were looked for.
 #[derive(Drop)]
-pub(crate) struct Sources {
-    /// The files of the arguments, and after them the libraries that were found.
-    pub(crate) files: Vec<InputFile>,
-    /// The names of these libraries.
+pub(crate) struct Sources<'a> {
+    /// The names of the files of the arguments.
+    names: &'a [String],
+    /// The files whose modules are not read yet: those of the arguments, or libraries that were found.
+    files: Vec<InputFile>,
+    /// The names of the libraries that were found.
     pub(crate) libraries: Vec<String>,
     /// The names that were looked for.
     known: Vec<Vec<u8>>,
@@ -24,20 +30,31 @@ pub(crate) struct Sources {
     pub(crate) missing: Vec<Vec<u8>>,
 }
 
-impl Sources {
+/// Whether a name is one of these.
+fn has_name(names: &[String], name: &str) -> bool {
+    for one in names {
+        if one.as_str() == name {
+            return true;
+        }
+    }
+    false
+}
+
+impl<'a> Sources<'a> {
     /// The files of the arguments. None, after a line on why, if one could not be read.
-    pub(crate) fn read<K: Sink>(
+    pub(crate) fn read<K: Sink, E: Sink>(
         rt: &HostRuntime,
-        names: &[String],
-        writer: &mut K,
-    ) -> Result<Option<Sources>, AllocError> {
-        let Some(files) = read_files(rt, names, writer)? else {
+        names: &'a [String],
+        streams: &mut Streams<K, E>,
+    ) -> Result<Option<Sources<'a>>, AllocError> {
+        let Some(files) = read_files(rt, names, streams)? else {
             return Ok(None);
         };
         let libraries = Vec::new(rt.alloc());
         let known = Vec::new(rt.alloc());
         let missing = Vec::new(rt.alloc());
         Ok(Some(Sources {
+            names,
             files,
             libraries,
             known,
@@ -45,14 +62,9 @@ impl Sources {
         }))
     }
 
-    /// Whether a file of this name is there.
+    /// Whether a file of this name was read.
     fn has_file(&self, name: &str) -> bool {
-        for file in &self.files {
-            if file.name() == name.as_bytes() {
-                return true;
-            }
-        }
-        false
+        has_name(self.names, name) || has_name(&self.libraries, name)
     }
 
     /// Looks for a library under one name of a file. Returns false if there is none.
@@ -115,68 +127,54 @@ impl Sources {
         Ok(false)
     }
 
-    /// Looks for libraries. Returns whether there are more files than before.
+    /// Looks for libraries, and returns those that were found.
     fn take_all(
         &mut self,
         rt: &HostRuntime,
         options: &ExeOptions<'_>,
         names: Vec<Vec<u8>>,
-    ) -> Result<bool, AllocError> {
-        let before = self.files.len();
+    ) -> Result<Vec<InputFile>, AllocError> {
         for name in names {
             if !self.take(rt, options, &name)? {
                 self.missing.push(name.clone()?)?;
             }
             self.known.push(name)?;
         }
-        Ok(self.files.len() > before)
+        Ok(self.unread(rt))
     }
 
-    /// The modules of the files, with names in lower case if their case does not count.
-    fn of_files(
-        &self,
-        rt: &HostRuntime,
-        options: &ExeOptions<'_>,
-    ) -> Result<ProgramModules, Refusal> {
-        if options.ignore_case {
-            ProgramModules::folded(rt.alloc(), &self.files)
-        } else {
-            ProgramModules::of(rt.alloc(), &self.files)
-        }
+    /// The files whose modules are not read yet.
+    fn unread(&mut self, rt: &HostRuntime) -> Vec<InputFile>
+        ensures { result.items ≡ self.old.files.items }
+    {
+        replace(&mut self.files, Vec::new(rt.alloc()))
     }
 
-    /// The modules of the files and of the libraries that they ask for.
-    fn joined(
+    /// The files and the libraries that their modules ask for, with the modules that they give.
+    pub(crate) fn joined(
         &mut self,
         rt: &HostRuntime,
         options: &ExeOptions<'_>,
-    ) -> Result<Result<ProgramModules, Refusal>, AllocError> {
-        let mut modules = self.of_files(rt, options);
+    ) -> Result<Result<ProgramFiles, Refusal>, AllocError> {
+        let files = self.unread(rt);
+        let mut program = match ProgramFiles::of(rt.alloc(), files, options.ignore_case) {
+            Ok(program) => program,
+            Err(refusal) => return Ok(Err(refusal)),
+        };
         if !options.default_libraries {
-            return Ok(modules);
+            return Ok(Ok(program));
         }
         for _ in 0..ROUNDS {
-            let names = match &modules {
-                Ok(modules) => modules.sought(rt.alloc(), &self.known)?,
-                Err(_) => return Ok(modules),
-            };
-            if !self.take_all(rt, options, names)? {
-                return Ok(modules);
+            let names = program.sought(rt.alloc(), &self.known)?;
+            let more = self.take_all(rt, options, names)?;
+            if more.is_empty() {
+                return Ok(Ok(program));
             }
-            modules = self.of_files(rt, options);
+            program = match program.with_more(rt.alloc(), more) {
+                Ok(program) => program,
+                Err(refusal) => return Ok(Err(refusal)),
+            };
         }
-        Ok(modules)
-    }
-
-    /// The modules of the program: those of the files, of the libraries that they ask for, and those that the linker adds.
-    pub(crate) fn modules(
-        &mut self,
-        rt: &HostRuntime,
-        options: &ExeOptions<'_>,
-    ) -> Result<Result<ProgramModules, Refusal>, AllocError> {
-        match self.joined(rt, options)? {
-            Ok(modules) => Ok(modules.with_added(rt.alloc(), options)),
-            Err(refusal) => Ok(Err(refusal)),
-        }
+        Ok(Ok(program))
     }
 }

@@ -28,10 +28,10 @@ use Rattle.omf_text.proofs.PrintedLaws.{printed-decimal, printed-quoted, Passes,
 use Rattle.omf_layout.proofs.SaidLaws.{IsWord, tight-two, tight-word}
 use Rattle.omf_layout.proofs.TableLaws.{length-alignments}
 use Rattle.omf_layout.proofs.TextLaws.{IsLineOf, SpellsLines, no-lines, one-line, more-lines, each-line}
-use Rattle.omf_linking.specs.Locator.Drafted.{HasEntries, blanks, group_lines_of, labels, module_lines, segment_lines_of}
+use Rattle.omf_linking.specs.Locator.Drafted.{HasEntries, Labels, blanks, group_lines_of, labels, module_lines, segment_lines_of}
 use Rattle.omf_linking.specs.Locator.KeyForms.{class_of, is_repeated, key_form, key_of, key_text, key_words, module_key, module_key_by, module_texts, spelled}
 use Rattle.omf_linking.specs.Locator.Keys.{entry_name, module_name}
-use Rattle.omf_linking.specs.Locator.LinkEntries.{Blank, Gives, GroupFrame, Key, LinkEntry, Opens, SegmentPlace, frame_in, link_entry_on, place_in}
+use Rattle.omf_linking.specs.Locator.LinkEntries.{Blank, Gives, GroupFrame, Key, LinkEntry, Opens, Own, SegmentPlace, frame_in, link_entry_on, own_or, place_in, shared_place, shared_word}
 use Rattle.omf_linking.specs.declared.locator.forms.KeyForm.{KeyForm}
 use Rattle.omf_linking.specs.declared.locator.forms.KeyForm.TheVariants as form
 use Rattle.omf_linking.proofs.KeyNames.{keys-written}
@@ -199,7 +199,7 @@ printed-comment m s a =
     (both-pass is_printed (codes "class " ++ name) (32 ∷ room) (both-pass is_printed (codes "class ") name refl (printed-named (names m) s.class)) (printed-alignment s.absolute a)) refl)
     (printed-decimal s.length)
 
-segment-is-line : (frames : Frames) (m : List Rec) (s : ℕ × ((SegInfo × Alignment) × Placed)) → s.0 < 2 ^ 32 → IsShortPlace s.1.1 → IsLineOf link_entry_on (segment_line frames m s) (Gives (key m kinds.Segment s.0) (SegmentPlace s.1.1))
+segment-is-line : (frames : Frames) (m : List Rec) (s : ℕ × ((SegInfo × Alignment) × Placed)) → s.0 < 2 ^ 32 → IsShortPlace s.1.1 → IsLineOf link_entry_on (segment_line frames m s) (Gives (key m kinds.Segment s.0) (Own (SegmentPlace s.1.1)))
 segment-is-line frames m s low short =
     let k = key m kinds.Segment s.0 in
     let place = place_text frames s.1.1 in
@@ -214,10 +214,10 @@ segment-is-line frames m s low short =
       unbroken = both-pass is_printed (key_words k) (32 ∷ (place ++ tail)) (form-printed m kinds.Segment (key_form m kinds.Segment s.0) s.0)
           (both-pass is_printed place tail is.are.tight.printed (printed-comment m s.1.0.0 s.1.0.1));
       says = key-words 83 s-letter k place tail is.words (form-key m kinds.Segment (key_form m kinds.Segment s.0) s.0 low) is.are (comment-end comment)
-          ∙ ap (option_map (λ p. Gives k (SegmentPlace p))) is.gives;
+          ∙ ap (λ o. option_map (Gives k) (own_or (option_map SegmentPlace o) (shared_place is.words))) is.gives;
     }
 
-group-is-line : (m : List Rec) (g : ℕ × Frame) → g.0 < 2 ^ 32 → IsShortFrame g.1 → IsLineOf link_entry_on (group_line m g) (Gives (key m kinds.Group g.0) (GroupFrame (Some g.1)))
+group-is-line : (m : List Rec) (g : ℕ × Frame) → g.0 < 2 ^ 32 → IsShortFrame g.1 → IsLineOf link_entry_on (group_line m g) (Gives (key m kinds.Group g.0) (Own (GroupFrame (Some g.1))))
 group-is-line m g low short =
     let k = key m kinds.Group g.0 in
     let frame = in_words (number g.1.base ∷ number g.1.selector ∷ []) in
@@ -228,7 +228,7 @@ group-is-line m g low short =
       unbroken = both-pass is_printed (key_words k) (32 ∷ frame) (form-printed m kinds.Group (key_form m kinds.Group g.0) g.0) are.tight.printed;
       says = ap (λ t. link_entry_on (71 ∷ 32 ∷ (key_words k ++ (32 ∷ t)))) (sym (append-nil frame))
           ∙ key-words 71 g-letter k frame [] (number g.1.base ∷ number g.1.selector ∷ []) (form-key m kinds.Group (key_form m kinds.Group g.0) g.0 low) are no-end
-          ∙ ap (option_map (λ f. Gives k (GroupFrame f))) (frame-gives g.1 short);
+          ∙ ap (λ o. option_map (Gives k) (own_or (option_map GroupFrame o) (shared_word (number g.1.base ∷ number g.1.selector ∷ [])))) (frame-gives g.1 short);
     }
 
 wanted-is-line : (m : List Rec) (i : ℕ) (room : Option ℕ) → IsLineOf link_entry_on (wanted_line_by m (key_form m kinds.External i) i room) Blank
@@ -290,36 +290,40 @@ all-numbered P Q n f j [] low h = All-nil Q
 all-numbered P Q n f j (y ∷ ys) low h =
     All-cons Q (j, y) (enumerate_from (j + 1) ys) (f (j, y) (omega (arith, low)) (All-head P y ys h)) (all-numbered P Q n f (j + 1) ys (omega (arith, low)) (All-tail P y ys h))
 
-told-segments : (frames : Frames) (m : List Rec) (xs : List Placed) → length xs ≡ length (segments m) → length (segments m) < 2 ^ 32 → All IsShortPlace xs → Told (segment_lines frames m xs) (segment_lines_of (key m kinds.Segment) 1 xs)
-told-segments frames m xs count few short =
+-- no line shares a frame
+abbrev own_labels : List (List Rec) → List Places → ℕ → List Rec → ℕ → Labels
+own_labels all whole j m c = labels false all whole j m c
+
+told-segments : (all : List (List Rec)) (whole : List Places) (j c : ℕ) (frames : Frames) (m : List Rec) (xs : List Placed) → length xs ≡ length (segments m) → length (segments m) < 2 ^ 32 → All IsShortPlace xs → Told (segment_lines frames m xs) (segment_lines_of (own_labels all whole j m c) 1 xs)
+told-segments all whole j c frames m xs count few short =
     let told : List (SegInfo × Alignment) = zip (segments m) (alignments m) in
-    let say : ℕ → Placed → LinkEntry = λ i p. Gives (key m kinds.Segment i) (SegmentPlace p) in
+    let say : ℕ → Placed → LinkEntry = λ i p. Gives (key m kinds.Segment i) (Own (SegmentPlace p)) in
     subst (Told (segment_lines frames m xs)) (second-of say 1 told xs (count ∙ sym (length-pairs (segments m) (alignments m) (length-alignments m))))
     (each-line link_entry_on (segment_line frames m) (λ s. say s.0 s.1.1) (enumerate_from 1 (zip told xs))
     (all-pairs IsShortPlace (λ s. IsLineOf link_entry_on (segment_line frames m s) (say s.0 s.1.1)) (2 ^ 32) (segment-is-line frames m) 1 told xs (omega (arith, count, few)) short))
 
-told-groups : (m : List Rec) (fs : List Frame) → length fs ≡ length (groups m) → length (groups m) < 2 ^ 32 → All IsShortFrame fs → Told (group_lines m fs) (group_lines_of (key m kinds.Group) 1 fs)
-told-groups m fs count few short =
-    each-line link_entry_on (group_line m) (λ g. Gives (key m kinds.Group g.0) (GroupFrame (Some g.1))) (enumerate_from 1 fs)
-    (all-numbered IsShortFrame (λ g. IsLineOf link_entry_on (group_line m g) (Gives (key m kinds.Group g.0) (GroupFrame (Some g.1)))) (2 ^ 32) (group-is-line m) 1 fs (omega (arith, count, few)) short)
+told-groups : (all : List (List Rec)) (whole : List Places) (j c : ℕ) (m : List Rec) (fs : List Frame) → length fs ≡ length (groups m) → length (groups m) < 2 ^ 32 → All IsShortFrame fs → Told (group_lines m fs) (group_lines_of (own_labels all whole j m c) 1 fs)
+told-groups all whole j c m fs count few short =
+    each-line link_entry_on (group_line m) (λ g. Gives (key m kinds.Group g.0) (Own (GroupFrame (Some g.1)))) (enumerate_from 1 fs)
+    (all-numbered IsShortFrame (λ g. IsLineOf link_entry_on (group_line m g) (Gives (key m kinds.Group g.0) (Own (GroupFrame (Some g.1))))) (2 ^ 32) (group-is-line m) 1 fs (omega (arith, count, few)) short)
 
 -- ---- the lines of a module
 
-pub record IsToldModule (all : List (List Rec)) (j : ℕ) (m : List Rec) (pl : Places) (text : List ℕ) : Type 0 where
+pub record IsToldModule (all : List (List Rec)) (whole : List Places) (j : ℕ) (m : List Rec) (pl : Places) (text : List ℕ) : Type 0 where
   pub count : ℕ
-  pub told : Told text (module_lines (labels all j m count) pl)
+  pub told : Told text (module_lines (own_labels all whole j m count) pl)
 
-pub module-is-told : (frames : Frames) (all : List (List Rec)) (j : ℕ) (m : List Rec) (pl : Places) → j + 1 < 2 ^ 32 → HasEntries m pl → HasFew m → AreShort pl → IsToldModule all j m pl (module_text frames all (j, (m, pl)))
-module-is-told frames all j m pl low has few short =
+pub module-is-told : (frames : Frames) (all : List (List Rec)) (whole : List Places) (j : ℕ) (m : List Rec) (pl : Places) → j + 1 < 2 ^ 32 → HasEntries m pl → HasFew m → AreShort pl → IsToldModule all whole j m pl (module_text frames all (j, (m, pl)))
+module-is-told frames all whole j m pl low has few short =
     let among = seen_names all m in
     let a = opening_line all j m in
     let b = segment_lines frames m pl.segments in
     let g = group_lines m pl.groups in
     let w = wanted_lines among m in
-    let segs = segment_lines_of (key m kinds.Segment) 1 pl.segments in
-    let grps = group_lines_of (key m kinds.Group) 1 pl.groups in
     let left = blank-wanted among m (enumerate_from 1 (zip (named_externals m) (rooms m))) in
-    let placed = more-lines link_entry_on b g segs grps (told-segments frames m pl.segments has.segments few.segments short.segments) (told-groups m pl.groups has.groups few.groups short.groups) in
+    let segs = segment_lines_of (own_labels all whole j m left.count) 1 pl.segments in
+    let grps = group_lines_of (own_labels all whole j m left.count) 1 pl.groups in
+    let placed = more-lines link_entry_on b g segs grps (told-segments all whole j left.count frames m pl.segments has.segments few.segments short.segments) (told-groups all whole j left.count m pl.groups has.groups few.groups short.groups) in
     let part : Told (b ++ g ++ w) (segs ++ (grps ++ blanks left.count)) = subst (Told (b ++ g ++ w)) (append_assoc segs grps (blanks left.count)) (more-lines link_entry_on (b ++ g) w (segs ++ grps) (blanks left.count) placed left.told) in
     record {
       count = left.count;

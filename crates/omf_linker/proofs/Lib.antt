@@ -24,6 +24,7 @@ pub mod UnresolvedLaws
 pub mod RepeatedLaws
 pub mod TwiceLaws
 pub mod RefusingLaws
+pub mod MakingLaws
 pub mod TakenLaws
 pub mod InputLaws
 pub mod JoiningLaws
@@ -34,3 +35,5 @@ pub mod FrameLaws
 pub mod LabelLaws
 pub mod SettledLaws
 pub mod SuitingLaws
+pub mod TellingLaws
+pub mod CommunalFinds

@@ -1,16 +1,14 @@
--- A run of `omf-link` over files, from its steps.
+-- What a task shows of files, from its steps.
 use Rattle.std.proofs.Common.{◌≡◌, ℕ, List, refl, sym, ap, subst, ◌∙◌, inl, inr}
 use Rattle.std.specs.Prelude.{Result, Ok, Err, string_bytes}
-use Rattle.omf_frame.specs.Device.{Device}
 use Rattle.omf_cmd.specs.Printed.{line}
-use Rattle.omf_cmd.specs.Runs.{PrintsOr}
 use Rattle.omf_linking.specs.File.{InputFile}
 use Rattle.omf_check.specs.Module.{Module, typed_modules}
 use Rattle.omf_linking.specs.Files.{IsFirstAtFault}
 use Rattle.omf_linking.specs.declared.fault.LinkFault.{LinkFault}
 use Rattle.omf_linking.specs.declared.fault.LinkFault.TheVariants as link
 use Rattle.omf_linker.specs.Link.Faults.{link_words}
-use Rattle.omf_linker.specs.Link.Files.{AreFilesShown, AreLabeled, EndsShown, IsFileNamed, IsFileRefused, IsShownAs, file_front, file_line}
+use Rattle.omf_linker.specs.Link.Files.{AreFilesShown, AreLabeled, IsFileNamed, IsFileRefused, IsShownAs, file_front, file_line}
 use Rattle.omf_linker.specs.Link.Linked.{any}
 use Rattle.omf_linker.specs.declared.link.files_fault.FilesFault.{FilesFault}
 use Rattle.omf_linker.specs.declared.link.files_fault.FilesFault.TheVariants as fault
@@ -34,13 +32,6 @@ pub from_modules : (t : Task) (files : List InputFile) (text : List ℕ) (ms : L
 from_modules t files text ms labels (Ok shown) h i = (ms, labels, h, i)
 from_modules t files text ms labels (Err (fault.Link f)) h i = inl (ms, labels, h, i)
 from_modules t files text ms labels (Err (fault.File f front)) h i = absurd i
-
--- the text of a result is written, or the writer failed
-pub ends_written : {F : Type 0} (failed : F) (old new : Device) (text : List ℕ) → PrintsOr failed old new (Ok text) (Ok tt) → EndsShown old new (Ok text) 0
-ends_written failed old new text h = inl (refl, h.0, h.1)
-
-pub ends_cut : {F : Type 0} (failed : F) (old new : Device) (text : List ℕ) (e : F) → PrintsOr failed old new (Ok text) (Err e) → EndsShown old new (Ok text) 3
-ends_cut failed old new text e h = inr (refl, h.1, h.2)
 
 -- the line of any other fault of a file is that of the link fault
 pub rest_of_line : (f : LinkFault) → ((at : ℕ) → f ≡ link.NoText at → ⊥) → line (link_words f) ≡ file_line f

@@ -2,7 +2,9 @@ pub mod Libraries
 pub mod Input
 pub mod Program
 pub mod Refusing
+pub mod Making
 pub mod Taken
 pub mod Sharing
 pub mod Ordering
 pub mod Adding
+pub mod Laws

@@ -7,4 +7,5 @@ pub mod Link
 pub mod Place
 pub mod Exe
 pub mod Seen
+pub mod Telling
 pub mod Inner

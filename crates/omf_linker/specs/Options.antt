@@ -3,25 +3,24 @@ use Rattle.std.specs.Prelude.{◌≡◌, ℕ, List, Bool, true, false, Option, S
 use Rattle.clap.specs.Words.{App, Row, Rule, Text, first_of, new_rule, one_of, with_rule}
 use Rattle.clap.specs.declared.builder.ArgAction.TheVariants.{Set, SetTrue}
 use Rattle.omf_cmd.specs.Words.{flag_text}
--- computed, and proved equal to the rule: entries_are_read, places_are_read and numbers_are_read of omf_placement.
-use Rattle.omf_placement.specs.Inner.EntryReading.{hexadecimal}
+use Rattle.omf_host.specs.Numbers.{number}
 use Rattle.omf_layout.specs.declared.options.Frames.{Frames}
 use Rattle.omf_layout.specs.declared.options.Frames.TheVariants.{Real, Flat}
 use Rattle.omf_linker.specs.declared.options.AskedOptions.{AskedOptions}
 
--- The base: 1 to 8 hexadecimal digits; 10000H by default.
+-- The base: 1 to 8 hexadecimal digits, alone, after 0x or before H; 10000H by default.
 abbrev pub base_named : Option Text → Option ℕ
 base_named None = Some 0x10000
-base_named (Some word) = hexadecimal 8 word
+base_named (Some word) = number 8 word
 
--- The frames: real mode, or one flat frame with a selector of 1 to 4 hexadecimal digits. Not both. None of the two leaves the frames open.
+-- The frames: real mode, or one flat frame with a selector of 1 to 4 such digits. Not both. None of the two leaves the frames open.
 abbrev pub flat_frames : ℕ → Option Frames
 flat_frames selector = Some (Flat selector)
 
 abbrev pub frames_named : Bool → Option Text → Option (Option Frames)
 frames_named true (Some word) = None
 frames_named true None = Some (Some Real)
-frames_named false (Some word) = option_map flat_frames (hexadecimal 4 word)
+frames_named false (Some word) = option_map flat_frames (number 4 word)
 frames_named false None = Some None
 
 -- The options: a base and frames, if both are valid.

@@ -9,13 +9,16 @@ mod files;
 mod folding;
 mod input;
 mod joining;
+pub mod laws;
 mod lines;
 mod listing;
+mod made;
 mod making;
 mod memory;
 mod options;
 mod ordering;
 mod program;
+mod program_files;
 mod refusal;
 mod refused;
 mod sharing;
@@ -27,13 +30,12 @@ pub use fault::{ComProgramFault, PlacingFault, ProgramFault};
 pub(crate) use input::is_library;
 pub(crate) use joining::move_all;
 pub use joining::{Joined, JoiningFault, join_needed};
+pub use made::MadeProgram;
 pub use making::{
     between_of, com_linked, long_of, map_linked, near_linked, program_linked, program_of,
 };
-pub use options::{ExeOptions, Order};
+pub use options::{ExeOptions, Order, ProgramKind};
 pub use ordering::{OrderingFault, order_of};
-pub use program::{
-    LinkedModules, ProgramModules, com_of_files, exe_of_files, order_modules, share_communals,
-};
+pub use program_files::ProgramFiles;
 pub use refusal::Refusal;
 pub use sharing::{SharingFault, shared_module};

@@ -15,3 +15,4 @@ pub mod rows;
 pub mod seen;
 mod spot;
 pub mod suiting;
+mod telling;

@@ -6,8 +6,8 @@ ghost use Rattle.omf_cmd.specs.Words.{flag_text};
 ghost use Rattle.omf_linker.specs.Options.{base_id, base_named, flag_rule, flat_id, frames_named, options_named, real_id, value_rule, with_options};
 
 use clap::{Arg, ArgAction, ArgMatches, Command};
+use omf_host::number;
 use omf_layout::Frames;
-use omf_placement::hexadecimal;
 use std::alloc::{AllocError, Global};
 
 /// The default base address.
@@ -74,17 +74,17 @@ fn options(base: Option<u32>, frames: Option<Option<Frames>>) -> Option<AskedOpt
     Some(AskedOptions { base, frames })
 }
 
-/// The base address: 1 to 8 hexadecimal digits, 10000H by default.
+/// The base address: 1 to 8 hexadecimal digits, alone, after `0x` or before an H; 10000H by default.
 fn base_named(word: Option<&str>) -> Option<u32>
     ensures { result ≡ base_named (option_map (λ w. w.now) word.entry) }
 {
     match word {
-        Some(word) => hexadecimal(word.as_bytes(), 8),
+        Some(word) => number(word.as_bytes(), 8),
         None => Some(BASE),
     }
 }
 
-/// The frames: `--real`, or one flat frame with a selector of 1 to 4 hexadecimal digits. Without either they are left open.
+/// The frames: `--real`, or one flat frame with a selector of 1 to 4 such digits. Without either they are left open.
 fn frames_named(real: bool, flat: Option<&str>) -> Option<Option<Frames>>
     ensures { result ≡ frames_named real (option_map (λ w. w.now) flat.entry) }
 {
@@ -93,7 +93,7 @@ fn frames_named(real: bool, flat: Option<&str>) -> Option<Option<Frames>>
             if real {
                 return None;
             }
-            let selector = hexadecimal(word.as_bytes(), 4)? as u16;
+            let selector = number(word.as_bytes(), 4)? as u16;
             Some(Some(Frames::Flat { selector }))
         }
         None => {

@@ -72,6 +72,7 @@ pub fn fault_lines()
     ensures unknown { line_of (link.Line 12 why.Unknown) ≡ codes "text line 12: names nothing" }
     ensures several { line_of (link.Line 2 why.Several) ≡ codes "text line 2: names more than one" }
     ensures again { line_of (link.Line 4 why.Twice) ≡ codes "text line 4: a second line for the same" }
+    ensures unshared { line_of (link.Line 4 why.Unshared) ≡ codes "text line 4: no line before it gives the frame" }
     ensures external { line_of (link.External (derive.Undefined 0 2)) ≡ codes "not linked" }
     ensures starts { line_of (link.Starts 0 2) ≡ codes "not linked" }
 {}

@@ -1,12 +1,13 @@
-//! The program on the arguments, the file, the standard input and the standard output of its process.
+//! The program on the arguments, the file, the standard input, the standard output and the standard error of its process.
 
-use omf_cmd::run_with;
 use omf_frame::{Bytes, Sink, Writing};
 use omf_host::{
-    About, Status, end, explain, misused_by, out_of_memory, program_and_arguments, question_in,
+    About, StandardOutput, Status, Streams, end, explain, misused_by, out_of_memory,
+    program_and_arguments, question_in,
 };
 use omf_linker::asked::{Asked, sorted};
-use omf_linker::host::{read_or_tell, run_on_input};
+use omf_linker::host::{perform, perform_on_input, read_or_tell};
+use omf_linker::options::AskedOptions;
 use omf_linker::place::{Place, options_of};
 use std::alloc::AllocError;
 use std::process::ExitCode;
@@ -26,56 +27,68 @@ input.
   --flat SELECTOR  one frame with base 0 and this selector, hexadecimal; the default
                    for other modules, with selector 0
 
-omf-place(1) and docs/PLACEMENT.md have more.
+1000, 0x1000 and 1000H are one number. @FILE is the words of a file, and
+-- ends the options. omf-place(1) and docs/PLACEMENT.md have more.
 ",
 };
 
-/// Does what arguments ask for on a file. Returns the status.
-fn on_file<K: Sink>(
+/// Drafts a placement for a file. Returns the status.
+fn on_file<K: Sink, E: Sink>(
     rt: &HostRuntime,
-    words: &[String],
+    options: AskedOptions,
     name: &str,
-    writer: &mut K,
+    streams: &mut Streams<K, E>,
 ) -> Result<Status, AllocError> {
-    let Some(bytes) = read_or_tell(rt, name, writer)? else {
+    let Some(bytes) = read_or_tell(rt, name, streams)? else {
         return Ok(Status::Failed);
     };
-    let code = run_with::<Place, _, _>(rt.alloc(), words, &mut Bytes::new(&bytes), writer);
-    Ok(Status::of_code(code))
+    perform::<Place, _, _, _>(rt.alloc(), options, &mut Bytes::new(&bytes), streams)
+}
+
+/// The options, if the arguments have no others.
+fn options_in(rt: &HostRuntime, asked: &Asked) -> Result<Option<AskedOptions>, AllocError> {
+    if asked.text.is_some() || asked.output.is_some() {
+        return Ok(None);
+    }
+    options_of(rt.alloc(), asked.words.as_slice())
 }
 
 /// Does what the arguments ask for. Returns the status.
-fn act<K: Sink>(rt: &HostRuntime, writer: &mut K) -> Result<Status, AllocError> {
-    let Some(words) = program_and_arguments(rt)? else {
-        return misused_by(rt, writer, &ABOUT);
+fn act<K: Sink, E: Sink>(
+    rt: &HostRuntime,
+    streams: &mut Streams<K, E>,
+) -> Result<Status, AllocError> {
+    let about = &ABOUT;
+    let Some(words) = program_and_arguments(rt, about.usage)? else {
+        return misused_by(rt, streams, about);
     };
     if let Some(question) = question_in(words.get(1..).unwrap_or(&[])) {
-        return explain(rt.alloc(), writer, question, &ABOUT);
+        return explain(rt.alloc(), &mut streams.output, question, &ABOUT);
     }
     if let Some(asked) = sorted(rt.alloc(), &words, 1)?
-        && asked.text.is_none()
-        && asked.output.is_none()
-        && options_of(rt.alloc(), asked.words.as_slice())?.is_some()
+        && let Some(options) = options_in(rt, &asked)?
     {
         match asked.files.as_slice() {
-            [] => return run_on_input::<Place, _>(rt, asked.words.as_slice(), writer),
+            [] => return perform_on_input::<Place, _, _>(rt, options, streams),
             [name] if name.as_str() == "-" => {
-                return run_on_input::<Place, _>(rt, asked.words.as_slice(), writer);
+                return perform_on_input::<Place, _, _>(rt, options, streams);
             }
-            [name] => return on_file(rt, asked.words.as_slice(), name.as_str(), writer),
+            [name] => return on_file(rt, options, name.as_str(), streams),
             _ => {}
         }
     }
-    misused_by(rt, writer, &ABOUT)
+    misused_by(rt, streams, &ABOUT)
 }
 
 /// Runs the program. Returns the exit status: 0 done, 1 the input is refused or has no room, 2 the arguments are not understood, 3 out of
 /// memory, or the file could not be read, or the output could not be written.
 pub fn run(rt: &HostRuntime) -> ExitCode {
-    let mut output = Writing::new(rt.stdout());
-    let status = match act(rt, &mut output) {
+    let about = &ABOUT;
+    let output = StandardOutput::new(rt.stdout());
+    let mut streams = Streams::new(about.name, output, Writing::new(rt.stderr()));
+    let status = match act(rt, &mut streams) {
         Ok(status) => status,
-        Err(AllocError) => out_of_memory(&mut output),
+        Err(AllocError) => out_of_memory(&mut streams),
     };
-    end(&mut output, status)
+    end(rt.alloc(), &mut streams, status)
 }

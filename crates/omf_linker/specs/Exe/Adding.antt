@@ -9,6 +9,7 @@ use Rattle.omf_linker.specs.Exe.Ordering.{AreOrdered}
 use Rattle.omf_linker.specs.Exe.Sharing.{AreShared, any_profile, with_added}
 use Rattle.omf_linker.specs.declared.exe.options.Order.{Order}
 use Rattle.omf_linker.specs.declared.exe.options.Order.TheVariants.{Dos, Input}
+use Rattle.omf_linker.specs.declared.exe.options.ProgramKind.{ProgramKind}
 
 -- The module of a stack of n bytes, if one is asked for.
 abbrev pub IsStackOf : Option ℕ → Option Module → Type 0
@@ -29,9 +30,9 @@ AreOrderedIf true ms all = AreOrdered ms all
 AreOrderedIf false ms all = all ≡ ms
 
 -- Modules with those that are added: after them that of their communals and that of the stack; before all that of DOS order, if it is wanted.
-pub record AreAdded (stack : Option ℕ) (order : Option Order) (ms all : List Module) : Type 0 where
+pub record AreAdded (kind : ProgramKind) (stack : Option ℕ) (order : Option Order) (ms all : List Module) : Type 0 where
   pub shared : List Module
-  pub communals : AreShared ms shared
+  pub communals : AreShared kind ms shared
   pub added : Option Module
   pub stacked : IsStackOf stack added
   pub ordered : AreOrderedIf (wants_dos order (with_added shared added)) (with_added shared added) all

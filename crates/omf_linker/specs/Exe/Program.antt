@@ -17,7 +17,7 @@ use Rattle.omf_output.specs.declared.exe.fault.ExeFault.{ExeFault}
 use Rattle.omf_output.specs.Exe.Com.{IsComFault, after_prefix, com_bytes, com_fault, com_loaded, stack_bytes}
 use Rattle.omf_output.specs.Exe.Derived.{AreMovers, IsMoversFault}
 use Rattle.omf_output.specs.Exe.Exe.{exe}
-use Rattle.omf_output.specs.Exe.Linked.{IsExeFault, linked, linked_at}
+use Rattle.omf_output.specs.Exe.Linked.{IsExeFault, exe_fault, linked, linked_at}
 use Rattle.omf_output.specs.Exe.Loading.{loaded}
 use Rattle.omf_output.specs.Exe.Members.{Member, portions, stack}
 use Rattle.omf_output.specs.Exe.Moved.{Movers}
@@ -71,13 +71,14 @@ pub record AreMade (ms : List Module) (members : List Member) : Type 0 where
   pub numbered : members ≡ members_from 0 ms placements movers
 
 -- The bytes of the program, and whether it has a stack. What DOS loads at paragraph k, for every k, is what these modules are at their placements moved
--- by k paragraphs.
+-- by k paragraphs. The modules so placed have no fault.
 pub record IsProgramOf (ms : List Module) (bytes : List ℕ) (has_stack : Bool) : Type 0 where
   pub members : List Member
   pub made : AreMade ms members
   pub file : bytes ≡ exe (linked members)
   pub loads : (k : ℕ) → loaded bytes k ≡ linked_at k members
   pub stack : has_stack ≡ is_some (stack (portions members))
+  pub none : exe_fault members ≡ None
 
 -- The first segment, or else the first member of a group, that ends too far from its frame, with the modules at the places of their program.
 pub record IsLongOf (ms : List Module) (found : Option FarMember) : Type 0 where

@@ -41,6 +41,7 @@ use Rattle.omf_linker.specs.Link.Files.{files_report}
 use Rattle.omf_linker.specs.Link.Repeated.{IsRepeatedText}
 use Rattle.omf_linker.specs.Link.Unresolved.{all_rows, spots_of}
 use Rattle.omf_linker.specs.declared.exe.options.Order.{Order}
+use Rattle.omf_linker.specs.declared.exe.options.ProgramKind.{ProgramKind}
 use Rattle.omf_linker.specs.declared.exe.ordering.OrderingFault.{OrderingFault}
 use Rattle.omf_linker.specs.declared.exe.ordering.OrderingFault.TheVariants as ordering
 use Rattle.omf_linker.specs.declared.exe.refusal.Refusal.{Refusal}
@@ -162,24 +163,24 @@ abbrev pub GiveNoFolded : List InputFile → Type 0
 GiveNoFolded fs = AreUnread fs ⊎ HaveRefusedFolded fs
 
 -- Why there is no module of the communals of modules.
-abbrev pub AreNotShared : List Module → Type 0
-AreNotShared ms = (f : SharingFault) × (is_sharing_memory f ≡ false) × IsSharingFault ms f
+abbrev pub AreNotShared : ProgramKind → List Module → Type 0
+AreNotShared kind ms = (f : SharingFault) × (is_sharing_memory f ≡ false) × IsSharingFault kind ms f
 
 -- Why there is no module that puts modules in DOS order.
 abbrev pub AreNotOrdered : List Module → Type 0
 AreNotOrdered ms = (f : OrderingFault) × (is_ordering_memory f ≡ false) × IsOrderingFault ms f
 
 -- Why the modules of communals, stack and order are not added: there is none of the communals; or none of DOS order, where that is wanted.
-pub record HaveNoOrder (stack : Option ℕ) (order : Option Order) (ms : List Module) : Type 0 where
+pub record HaveNoOrder (kind : ProgramKind) (stack : Option ℕ) (order : Option Order) (ms : List Module) : Type 0 where
   pub shared : List Module
-  pub communals : AreShared ms shared
+  pub communals : AreShared kind ms shared
   pub added : Option Module
   pub stacked : IsStackOf stack added
   pub wanted : wants_dos order (with_added shared added) ≡ true
   pub fault : AreNotOrdered (with_added shared added)
 
-abbrev pub AreNotAdded : Option ℕ → Option Order → List Module → Type 0
-AreNotAdded stack order ms = AreNotShared ms ⊎ HaveNoOrder stack order ms
+abbrev pub AreNotAdded : ProgramKind → Option ℕ → Option Order → List Module → Type 0
+AreNotAdded kind stack order ms = AreNotShared kind ms ⊎ HaveNoOrder kind stack order ms
 
 -- Why modules have no places in a program.
 abbrev pub AreUnplaced : List Module → Type 0

@@ -54,6 +54,7 @@ why_text why.NoModule = codes ": no M line before it"
 why_text why.Unknown = codes ": names nothing"
 why_text why.Several = codes ": names more than one"
 why_text why.Twice = codes ": a second line for the same"
+why_text why.Unshared = codes ": no line before it gives the frame"
 
 -- A fault about a module and its parts has lines of its own, by their names.
 abbrev pub not_linked : List (List ℕ)
@@ -95,12 +96,24 @@ report fault.Write = record { status = 3; text = [] }
 -- The usage.
 abbrev pub usage : List ℕ
 usage = flat_map (λ line. line ++ 10 ∷ [])
-    (codes "usage: omf-link exe -o FILE [--map FILE] [--stack SIZE] [--order dos|input] [--library-path DIR] [--no-default-libraries] [--allow KIND] [--ignore-case] FILE .."
-    ∷ codes "       omf-link com -o FILE [--map FILE] [--stack SIZE] [--order dos|input] [--library-path DIR] [--no-default-libraries] [--allow KIND] [--ignore-case] FILE .."
-    ∷ codes "       omf-link image [--allow KIND] [--ignore-case] [-t TEXT] [-o FILE] [FILE ..]"
+    (codes "usage: omf-link exe -o FILE [--map FILE] [--stack BYTES] [--order dos|input]"
+    ∷ codes "           [--library-path DIR ..] [--no-default-libraries]"
+    ∷ codes "           [--allow group|near|twice ..] [--ignore-case] FILE .."
+    ∷ codes "       omf-link com -o FILE [--map FILE] [--stack BYTES] [--order dos|input]"
+    ∷ codes "           [--library-path DIR ..] [--no-default-libraries]"
+    ∷ codes "           [--allow group|near|twice ..] [--ignore-case] FILE .."
+    ∷ codes "       omf-link image [--allow overlap|align|group|frame|near|twice ..]"
+    ∷ codes "           [--ignore-case] [-t TEXT] [-o FILE] [FILE ..]"
     ∷ codes "       omf-link map [--ignore-case] [-t TEXT] [-o FILE] [FILE ..]"
-    ∷ codes "       omf-link bin --base ADDRESS --size SIZE [--fill BYTE] [--allow KIND] [--ignore-case] [-t TEXT] [-o FILE] [FILE ..]"
-    ∷ codes "       omf-link hex [--addresses linear|segment] [--allow KIND] [--ignore-case] [-t TEXT] [-o FILE] [FILE ..]"
-    ∷ codes "       omf-link srec [--addresses 16|24|32] [--allow KIND] [--ignore-case] [-t TEXT] [-o FILE] [FILE ..]"
-    ∷ codes "       omf-link draft [--base ADDRESS] [--real | --flat SELECTOR] [--ignore-case] [-o FILE] [FILE ..]"
+    ∷ codes "       omf-link bin --base ADDRESS --size SIZE [--fill BYTE]"
+    ∷ codes "           [--allow overlap|align|group|frame|near|twice ..]"
+    ∷ codes "           [--ignore-case] [-t TEXT] [-o FILE] [FILE ..]"
+    ∷ codes "       omf-link hex [--addresses linear|segment]"
+    ∷ codes "           [--allow overlap|align|group|frame|near|twice ..]"
+    ∷ codes "           [--ignore-case] [-t TEXT] [-o FILE] [FILE ..]"
+    ∷ codes "       omf-link srec [--addresses 16|24|32]"
+    ∷ codes "           [--allow overlap|align|group|frame|near|twice ..]"
+    ∷ codes "           [--ignore-case] [-t TEXT] [-o FILE] [FILE ..]"
+    ∷ codes "       omf-link draft [--base ADDRESS] [--real | --flat SELECTOR]"
+    ∷ codes "           [--ignore-case] [-o FILE] [FILE ..]"
     ∷ [])

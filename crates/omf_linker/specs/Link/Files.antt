@@ -1,11 +1,8 @@
--- A run of `omf-link` over files (a rule of this profile).
+-- What a task of `omf-link` shows of files (a rule of this profile).
 use Rattle.std.specs.Prelude.{◌≡◌, ◌⊎◌, ℕ, zero, suc, List, [], ◌∷◌, ◌++◌, length, Result, Ok, Err, codes, decimal, string_bytes}
-use Rattle.std.specs.Io.KnownBytes.{Appends}
-use Rattle.omf_frame.specs.Device.{Device}
 use Rattle.omf_check.specs.Module.{Module, typed_modules}
 use Rattle.omf_cmd.specs.Printed.{line}
 use Rattle.omf_cmd.specs.Programs.{FaultReport}
-use Rattle.omf_cmd.specs.Runs.{HasGivenUp, IsPart, IsUnbroken, IsWritten}
 use Rattle.omf_placement.specs.Quoted.{quoted}
 use Rattle.omf_records.specs.Values.{Rec}
 use Rattle.omf_linking.specs.File.{InputFile}
@@ -85,15 +82,3 @@ abbrev pub IsShownAs : Task → List (List ℕ) → List (List Rec) → List ℕ
 IsShownAs t labels ms text (Ok shown) = AreShown t labels ms text (Ok shown)
 IsShownAs t labels ms text (Err (fault.Link f)) = AreShown t labels ms text (Err f)
 IsShownAs t labels ms text (Err (fault.File f front)) = ⊥
-
--- ---- the run
-
--- The text is written whole, with status 0; or in part, with status 3, if the writer failed. Of a fault the line is written.
-abbrev pub EndsShown : Device → Device → Result (List ℕ) FilesFault → ℕ → Type 0
-EndsShown old new (Ok text) status = ((status ≡ 0) × IsUnbroken old new × Appends old.bytes new.bytes text) ⊎ ((status ≡ 3) × HasGivenUp old new × IsPart old.bytes new.bytes text)
-EndsShown old new (Err f) status = (status ≡ (files_report f).status) × IsWritten old new (files_report f).text
-
-pub record HasRunFiles (t : Task) (files : List InputFile) (text : List ℕ) (writer writer' : Device) (status : ℕ) : Type 0 where
-  pub shown : Result (List ℕ) FilesFault
-  pub shows : AreFilesShown t files text shown
-  pub ended : EndsShown writer writer' shown status

@@ -2,8 +2,7 @@
 use Rattle.std.specs.Prelude.{◌≡◌, ℕ, List, Option, Some, None, option_map, option_and_then, codes, if◌then◌else◌}
 use Rattle.std.specs.Str.{bytes_eq}
 use Rattle.clap.specs.Words.{App, Row, Text, first_of, with_rule}
--- computed, and proved equal to the rule: entries_are_read, places_are_read and numbers_are_read of omf_placement.
-use Rattle.omf_placement.specs.Inner.EntryReading.{hexadecimal}
+use Rattle.omf_host.specs.Numbers.{number, size}
 use Rattle.omf_output.specs.declared.rom.form.Chip.{Chip}
 use Rattle.omf_output.specs.declared.rom.form.Form.{Form}
 use Rattle.omf_output.specs.declared.rom.form.Form.TheVariants as form
@@ -25,20 +24,24 @@ fill_id = codes "fill"
 abbrev pub with_chip : App → App
 with_chip a = with_rule (with_rule (with_rule a (value_rule base_id)) (value_rule size_id)) (value_rule fill_id)
 
--- The base and the size: 1 to 8 hexadecimal digits. Both must be given.
-abbrev pub number_named : Option Text → Option ℕ
-number_named None = None
-number_named (Some word) = hexadecimal 8 word
+-- The base: 1 to 8 hexadecimal digits, alone, after 0x or before H. The size: the same, or kilobytes before K. Both must be given.
+abbrev pub address_named : Option Text → Option ℕ
+address_named None = None
+address_named (Some word) = number 8 word
 
--- The fill: 1 or 2 hexadecimal digits; FFH by default, as in an erased chip.
+abbrev pub size_named : Option Text → Option ℕ
+size_named None = None
+size_named (Some word) = size word
+
+-- The fill: 1 or 2 hexadecimal digits, as those of the base; FFH by default, as in an erased chip.
 abbrev pub fill_named : Option Text → Option ℕ
 fill_named None = Some 0xFF
-fill_named (Some word) = hexadecimal 2 word
+fill_named (Some word) = number 2 word
 
 -- The chip, if all are valid.
 abbrev pub chip_named : Option Text → Option Text → Option Text → Option Chip
-chip_named base size fill =
-    option_and_then (λ b. option_and_then (λ s. option_map (λ f. record { base = b; size = s; fill = f }) (fill_named fill)) (number_named size)) (number_named base)
+chip_named base bytes fill =
+    option_and_then (λ b. option_and_then (λ s. option_map (λ f. record { base = b; size = s; fill = f }) (fill_named fill)) (size_named bytes)) (address_named base)
 
 abbrev pub chip_in : List Row → Option Chip
 chip_in rows = chip_named (first_of base_id rows) (first_of size_id rows) (first_of fill_id rows)

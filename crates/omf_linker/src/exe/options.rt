@@ -1,5 +1,6 @@
 //! The options of `omf-link exe` and `omf-link com`.
 
+use omf_host::amount;
 use std::alloc::{AllocError, Global};
 
 /// The order of the segments of a program.
@@ -9,6 +10,15 @@ pub enum Order {
     Dos,
     /// The order in which classes and names first appear in the modules.
     Input,
+}
+
+/// The kind of a DOS program.
+#[derive(Clone, Copy, Debug, PartialEq, Eq)]
+pub enum ProgramKind {
+    /// An MZ file (.EXE).
+    Exe,
+    /// A .COM file.
+    Com,
 }
 
 /// The order that a value names.
@@ -23,6 +33,8 @@ fn order_named(value: &str) -> Option<Order> {
 /// The options of `omf-link exe` and `omf-link com`.
 #[derive(Drop)]
 pub struct ExeOptions<'a> {
+    /// The kind of the program, which the task names.
+    pub kind: ProgramKind,
     /// The name of the file for the map.
     pub map: Option<&'a str>,
     /// The folders in which libraries are looked for, in order, after the current one.
@@ -43,12 +55,9 @@ pub struct ExeOptions<'a> {
     pub allows_near: bool,
 }
 
-/// The size of a stack: a decimal number from 1 to 65534.
+/// The size of a stack: a number from 1 to 65534, decimal without a mark.
 fn stack_of(value: &str) -> Option<u16> {
-    if value.starts_with('+') {
-        return None;
-    }
-    match value.parse::<u16>() {
+    match u16::try_from(amount(value.as_bytes())?) {
         Ok(0 | u16::MAX) => None,
         Ok(size) => Some(size),
         Err(_) => None,
@@ -72,9 +81,10 @@ fn allow_once(is_allowed: &mut bool) -> bool {
 }
 
 impl<'a> ExeOptions<'a> {
-    /// The options of a call without any.
-    pub fn new(alloc: Global) -> ExeOptions<'a> {
+    /// The options of a call without any, for a program of this kind.
+    pub fn new(alloc: Global, kind: ProgramKind) -> ExeOptions<'a> {
         ExeOptions {
+            kind,
             map: None,
             folders: Vec::new(alloc),
             default_libraries: true,
@@ -127,16 +137,17 @@ impl<'a> ExeOptions<'a> {
         }
     }
 
-    /// The options that arguments give. None if one is unknown, has no value or a wrong one, or is given twice, but for `--library-path`.
+    /// The options that arguments give for a program of this kind. None if one is unknown, has no value or a wrong one, or is given twice, but for `--library-path`.
     ///
     /// # Errors
     ///
     /// `AllocError` if memory runs out.
     pub fn of(
         alloc: Global,
+        kind: ProgramKind,
         arguments: &'a [String],
     ) -> Result<Option<ExeOptions<'a>>, AllocError> {
-        let mut options = ExeOptions::new(alloc);
+        let mut options = ExeOptions::new(alloc, kind);
         let mut rest = arguments;
         while let [name, others @ ..] = rest {
             if options.take_flag(name.as_str()) {

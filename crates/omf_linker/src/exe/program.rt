@@ -27,7 +27,7 @@ use crate::exe::making::{
     between_of, com_linked, long_of, map_linked, near_linked, program_linked,
 };
 use crate::exe::memory::{is_com_memory, is_memory, is_placing_memory};
-use crate::exe::options::ExeOptions;
+use crate::exe::options::{ExeOptions, ProgramKind};
 use crate::exe::ordering::{order_of, with_front};
 use crate::exe::refusal::Refusal;
 use crate::exe::refused::of_joining;
@@ -106,16 +106,20 @@ fn all_of(alloc: Global, files: &[InputFile], input: Input) -> Result<ProgramMod
     }
 }
 
-/// Modules, and after them the module of their communals, if they have any.
+/// Modules of a program of this kind, and after them the module of their communals, if they have any.
 ///
 /// # Errors
 ///
 /// The fault of `shared_module`.
-pub fn share_communals(alloc: Global, modules: Vec<Checked>) -> Result<Vec<Checked>, Refusal>
-    ensures shared { IfOk result (λ v. AreShared modules.items v.items) }
-    ensures refused { IfErr result (IsRefusalFor (AreNotShared modules.items)) }
+pub fn share_communals(
+    alloc: Global,
+    modules: Vec<Checked>,
+    kind: ProgramKind,
+) -> Result<Vec<Checked>, Refusal>
+    ensures shared { IfOk result (λ v. AreShared kind modules.items v.items) }
+    ensures refused { IfErr result (IsRefusalFor (AreNotShared kind modules.items)) }
 {
-    let added = match shared_module(alloc, &modules) {
+    let added = match shared_module(alloc, &modules, kind) {
         Ok(added) => added,
         Err(fault) => return Err(of_sharing(alloc, &fault)),
     };
@@ -242,11 +246,11 @@ impl ProgramModules {
         alloc: Global,
         options: &ExeOptions<'_>,
     ) -> Result<ProgramModules, Refusal>
-        ensures added { IfOk result (λ p. AreAdded options.now.stack options.now.order self.modules p.modules) }
-        ensures refused { IfErr result (IsRefusalFor (AreNotAdded options.now.stack options.now.order self.modules)) }
+        ensures added { IfOk result (λ p. AreAdded options.now.kind options.now.stack options.now.order self.modules p.modules) }
+        ensures refused { IfErr result (IsRefusalFor (AreNotAdded options.now.kind options.now.stack options.now.order self.modules)) }
     {
         let ProgramModules { modules, from } = self;
-        let shared = share_communals(alloc, modules)?;
+        let shared = share_communals(alloc, modules, options.kind)?;
         let Ok(stack) = stack_of(alloc, options.stack) else {
             return Err(memory());
         };
@@ -539,35 +543,4 @@ impl<'a> LinkedModules<'a> {
         text.push_str(map)?;
         Ok(text)
     }
-}
-
-/// The MZ file (.EXE) of files, each with modules, which all take part, or a library, of which the members take part that are needed. The
-/// first library in the order of the files that defines a name serves. The last module is that of the communals, if there are any.
-///
-/// # Errors
-///
-/// The first file that is not read; otherwise the fault of `share_communals`; otherwise that of `program_linked`; otherwise the names that more
-/// than one public has.
-pub fn exe_of_files(alloc: Global, files: &[InputFile]) -> Result<ExeFile, Refusal> {
-    let options = ExeOptions::new(alloc);
-    let modules = ProgramModules::of(alloc, files)?.with_added(alloc, &options)?;
-    let linked = modules.linked(alloc)?;
-    let file = linked.exe(alloc, files)?;
-    let _ = linked.repeated(alloc, files, options.allows_twice)?;
-    Ok(file)
-}
-
-/// The .COM file of files, whose modules take part as those of an .EXE file.
-///
-/// # Errors
-///
-/// The first file that is not read; otherwise the fault of `share_communals`; otherwise that of `com_linked`; otherwise the names that more than
-/// one public has.
-pub fn com_of_files(alloc: Global, files: &[InputFile]) -> Result<Vec<u8>, Refusal> {
-    let options = ExeOptions::new(alloc);
-    let modules = ProgramModules::of(alloc, files)?.with_added(alloc, &options)?;
-    let linked = modules.linked(alloc)?;
-    let bytes = linked.com(alloc, files)?;
-    let _ = linked.repeated(alloc, files, options.allows_twice)?;
-    Ok(bytes)
 }

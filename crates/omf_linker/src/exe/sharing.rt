@@ -1,11 +1,13 @@
 //! The module that a linker adds to the modules of a program for their communals.
 
 ghost use Rattle.std.specs.Prelude.{◌≡◌, IfErr, IfOk};
-ghost use Rattle.omf_linker.specs.Exe.Sharing.{AreShared, IsShared, IsSharingFault, any_profile, with_added};
+ghost use Rattle.omf_check.specs.Module.{typed_modules};
+ghost use Rattle.omf_linker.specs.Exe.Sharing.{AreShared, IsShared, IsSharingFault, any_profile, home_of, with_added};
 
+use crate::exe::options::ProgramKind;
 use omf_check::{CheckFault, Checked, Profile, check};
 use omf_frame::{Bytes, Place, Reason};
-use omf_layout::own::{CommunalsFault, communals_module};
+use omf_layout::own::{CommunalsFault, Home, com_home, communals_module, exe_home};
 use std::alloc::{AllocError, Global};
 
 /// Why communals are not shared.
@@ -26,7 +28,17 @@ pub(crate) fn any_profile() -> Profile
     }
 }
 
-/// The checked module of the communals of modules; `None` if they have no communals.
+/// Where the near communals of a program of this kind are.
+fn home_of<'a>(modules: &'a [Checked], kind: ProgramKind) -> Home<'a>
+    ensures { result ≡ home_of kind (typed_modules modules.entry.now) }
+{
+    match kind {
+        ProgramKind::Exe => exe_home(modules),
+        ProgramKind::Com => com_home(modules),
+    }
+}
+
+/// The checked module of the communals of the modules of a program of this kind; `None` if they have no communals.
 ///
 /// # Errors
 ///
@@ -34,11 +46,13 @@ pub(crate) fn any_profile() -> Profile
 pub fn shared_module<'a>(
     alloc: Global,
     modules: &'a [Checked],
+    kind: ProgramKind,
 ) -> Result<Option<Checked>, SharingFault<'a>>
-    ensures shared { IfOk result (IsShared modules.entry.now) }
-    ensures fault { IfErr result (IsSharingFault modules.entry.now) }
+    ensures shared { IfOk result (IsShared kind modules.entry.now) }
+    ensures fault { IfErr result (IsSharingFault kind modules.entry.now) }
 {
-    let bytes = match communals_module(alloc, modules) {
+    let home = home_of(modules, kind);
+    let bytes = match communals_module(alloc, modules, &home) {
         Ok(Some(bytes)) => bytes,
         Ok(None) => return Ok(None),
         Err(fault) => return Err(SharingFault::Communals(fault)),

@@ -3,7 +3,7 @@
 ghost use Rattle.std.specs.Prelude.{◌≡◌, codes, false, option_and_then, option_map, true, IfOk, IfSome, Some};
 ghost use Rattle.std.specs.Str.{bytes_eq};
 ghost use Rattle.clap.specs.Words.{app_of, first_of, found_of, rows_of};
-ghost use Rattle.omf_linker.specs.Link.FormWords.{IsFormNamed, addresses_id, chip_in, chip_named, fill_named, hex_named, number_named, width_named, with_addresses, with_chip};
+ghost use Rattle.omf_linker.specs.Link.FormWords.{IsFormNamed, address_named, addresses_id, chip_in, chip_named, fill_named, hex_named, size_named, width_named, with_addresses, with_chip};
 ghost use Rattle.omf_output.specs.declared.rom.form.Chip.{Chip as Asked};
 ghost use Rattle.omf_output.specs.declared.rom.form.Form.TheVariants.{Binary, Hex, SRecords};
 ghost use Rattle.omf_output.specs.declared.rom.hex.HexBase.{HexBase as Base};
@@ -11,8 +11,8 @@ ghost use Rattle.omf_output.specs.declared.rom.srec.SAddress.{SAddress as Width}
 
 use crate::options::valued;
 use clap::{ArgMatches, Command};
+use omf_host::{number, size};
 use omf_output::rom::{Chip, Form, HexBase, SAddress};
-use omf_placement::hexadecimal;
 use std::alloc::{AllocError, Global};
 
 /// The default fill: the byte of an erased chip.
@@ -43,12 +43,22 @@ pub fn with_addresses<'a>(alloc: Global, command: Command<'a>) -> Result<Command
     command.arg(valued(alloc, "addresses"))
 }
 
-/// A base or a size: 1 to 8 hexadecimal digits.
-fn number_named(word: Option<&str>) -> Option<u32>
-    ensures { result ≡ number_named (option_map (λ w. w.now) word.entry) }
+/// A base: 1 to 8 hexadecimal digits, alone, after `0x` or before an H.
+fn address_named(word: Option<&str>) -> Option<u32>
+    ensures { result ≡ address_named (option_map (λ w. w.now) word.entry) }
 {
     match word {
-        Some(word) => hexadecimal(word.as_bytes(), 8),
+        Some(word) => number(word.as_bytes(), 8),
+        None => None,
+    }
+}
+
+/// A size: as a base, or a decimal number of kilobytes before a K.
+fn size_named(word: Option<&str>) -> Option<u32>
+    ensures { result ≡ size_named (option_map (λ w. w.now) word.entry) }
+{
+    match word {
+        Some(word) => size(word.as_bytes()),
         None => None,
     }
 }
@@ -58,7 +68,7 @@ fn fill_named(word: Option<&str>) -> Option<u8>
     ensures { result ≡ fill_named (option_map (λ w. w.now) word.entry) }
 {
     match word {
-        Some(word) => Some(hexadecimal(word.as_bytes(), 2)? as u8),
+        Some(word) => Some(number(word.as_bytes(), 2)? as u8),
         None => Some(ERASED),
     }
 }
@@ -77,8 +87,8 @@ fn chip(base: Option<u32>, size: Option<u32>, fill: Option<u8>) -> Option<Chip>
 fn chip_in(matches: &ArgMatches<'_>) -> Option<Chip>
     ensures { result ≡ chip_in (rows_of (found_of matches.now)) }
 {
-    let base = number_named(matches.get_str("base"));
-    let size = number_named(matches.get_str("size"));
+    let base = address_named(matches.get_str("base"));
+    let size = size_named(matches.get_str("size"));
     let fill = fill_named(matches.get_str("fill"));
     chip(base, size, fill)
 }

@@ -68,6 +68,7 @@ fn why_text(why: LineFault) -> &'static str
         LineFault::Unknown => ": names nothing",
         LineFault::Several => ": names more than one",
         LineFault::Twice => ": a second line for the same",
+        LineFault::Unshared => ": no line before it gives the frame",
     }
 }
 

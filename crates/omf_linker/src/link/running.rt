@@ -143,7 +143,7 @@ pub(crate) fn shown_at(
 }
 
 /// What a task prints for modules and a link text.
-pub(crate) fn modules_shown(
+fn modules_shown(
     alloc: Global,
     task: Task,
     labeled: Labeled<'_>,
@@ -263,7 +263,7 @@ fn read_and_shown<S: Source>(
 /// Those of `shown_output`: `Link` with `Refused` for the first module that is not well formed, or with `NoText` if what follows the modules and
 /// their padding is no text; otherwise the fault of `modules_text` or `modules_map`, as `Lines` if it is about a module and its parts; `NoRoom` if a segment of a draft has no room. `Link` with `Read` if the
 /// reader fails, `Write` if the writer fails, `Link` with `Memory` if memory runs out.
-pub fn run_task<S: Source, K: Sink>(
+pub(crate) fn run_task<S: Source, K: Sink>(
     alloc: Global,
     task: Task,
     reader: &mut S,

@@ -186,12 +186,14 @@ fn of_modules(
     }
 }
 
-/// The output of a task for the modules of files and a link text, as that of `files_text`, with the lines of what the text does unseen.
-/// Each file is dropped once its modules are checked.
+/// The output of a task for the modules of files and a link text, with the lines of what the text does unseen. Each file is dropped once its
+/// modules are checked, so each module is kept once.
 ///
 /// # Errors
 ///
-/// Those of `files_text`.
+/// `File` for the first file that does not hold modules and padding alone, as in `modules_of_files`; otherwise `Link` with the fault of
+/// `shown_text` for their modules and the link text. Its lines call each module by its file and its number there, from 1. `Link` with
+/// `Memory` if memory runs out.
 pub fn files_seen(
     alloc: Global,
     request: Request<'_>,

@@ -37,3 +37,7 @@ returns-clause-several c = refl
 pub returns-clause-again : goal.returns-clause-again
 unfolding digits
 returns-clause-again c = refl
+
+pub returns-clause-unshared : goal.returns-clause-unshared
+unfolding digits
+returns-clause-unshared c = refl

@@ -12,6 +12,6 @@ returns-in-Ok-clause-shared c =
     let same : c.in-Ok-Some.field-0 ≡ Some c.in-Ok-Some.bytes = search rules in
     record {
       bytes = Some bytes;
-      communals = subst (λ o. AreCommunals (typed_modules c.args.modules.now) (option_map (λ v. v.items) o)) same c.in-Ok-Some.ensures.ok;
+      communals = subst (λ h. AreCommunals h (typed_modules c.args.modules.now) (Some bytes)) c.home_of-home.ensures (subst (λ o. AreCommunals c.home_of-home.result (typed_modules c.args.modules.now) (option_map (λ v. v.items) o)) same c.in-Ok-Some.ensures.ok);
       checked = subst (λ p. Decides p bytes (Ok c.in-Ok.module)) c.any_profile.ensures (c.in-Ok.ensures.verdict bytes given);
     }

@@ -1,0 +1,47 @@
+-- Laws of the modules that a linker adds to a program, each the contract of a function of the same name.
+use Rattle.std.specs.Prelude.{◌≡◌, ℕ, List, [], ◌∷◌, ◌++◌, filter_map, zip, Some, None, true, false}
+use Rattle.omf_records.specs.Values.{Rec}
+use Rattle.omf_placement.specs.Derive.{PlacedModule, all_publics, publics, seen_publics}
+-- computed: derived_is_taken of omf_placement.
+use Rattle.omf_placement.specs.Inner.Derived.{external_place, given_place, of_name, one_public}
+use Rattle.omf_placement.specs.Placement.{Places}
+use Rattle.omf_placement.specs.declared.frame.Placed.{Placed}
+use Rattle.omf_placement.specs.declared.several.given.Given.{Given}
+use Rattle.omf_layout.specs.declared.own.homes.Home.{Home}
+use Rattle.omf_layout.specs.Own.Claims.{all_claims}
+use Rattle.omf_layout.specs.Own.Communals.{communals_of, is_communal}
+use Rattle.omf_layout.specs.Own.Order.{has_claim, order_records}
+use Rattle.omf_layout.specs.Own.Stack.{stack_records}
+use Rattle.omf_layout.specs.Several.Gathered.{of_name as claims_of}
+use Rattle.omf_linker.specs.Drafting.Laws.{HasBases}
+
+-- A name is that of a communal of modules: a COMDEF has it, and no PUBDEF.
+pub record IsCommunalOf (ms : List (List Rec)) (name : List ℕ) : Type 0 where
+  pub defined : has_claim (all_claims ms) name ≡ true
+  pub shared : is_communal (claims_of (all_claims ms) name) ≡ true
+
+-- No public of these modules has the name.
+abbrev pub HaveNone : List ℕ → List PlacedModule → Type 0
+HaveNone name ms = filter_map (of_name name) (all_publics ms) ≡ []
+
+-- One public of all modules has the name: one of this module. Each external of the name that is not local and has no given place is there.
+pub record IsFoundIn (own : PlacedModule) (all : List PlacedModule) (name : List ℕ) : Type 0 where
+  pub place : Placed
+  pub its_own : filter_map (of_name name) (publics false own) ≡ place ∷ []
+  pub only : filter_map (of_name name) (all_publics all) ≡ place ∷ []
+  pub taken : (m : PlacedModule) (given : List Given) (j i : ℕ) → given_place given j i ≡ None
+      → external_place (seen_publics all m false) given j i name ≡ one_public j i (place ∷ [])
+
+-- With the module of communals after the modules, and others around them that do not define the name, the externals of a communal find the public of the module of communals.
+abbrev pub CommunalsAreFound : Type 0
+CommunalsAreFound = (home : Home) (ms : List (List Rec)) (pls : List Places) (added : List Rec) (pl : Places) (before after : List PlacedModule) (name : List ℕ)
+    → communals_of home ms ≡ Some added → HasBases added pl → IsCommunalOf ms name → HaveNone name before → HaveNone name after
+    → IsFoundIn (added, pl) (before ++ (zip ms pls ++ (added, pl) ∷ after)) name
+
+-- The modules of DOS order and of a stack define no name that these modules define.
+pub record DefineNoOther (ms : List (List Rec)) (name : List ℕ) : Type 0 where
+  pub order : (pl : Places) → HaveNone name ((order_records ms, pl) ∷ [])
+  pub stack : (size : ℕ) (pl : Places) → HaveNone name ((stack_records size, pl) ∷ [])
+
+abbrev pub AddedDefineNewNames : Type 0
+AddedDefineNewNames = (ms : List (List Rec)) (name : List ℕ) → has_claim (all_claims ms) name ≡ true → DefineNoOther ms name

@@ -1,0 +1,82 @@
+-- What is written of a DOS program, from the bytes of its files on (this profile's rule).
+use Rattle.std.specs.Prelude.{◌≡◌, ◌⊎◌, ⊤, ◌++◌, ℕ, List, Bool, true, false, not, Option, Some, None, is_some}
+use Rattle.std.specs.Global.{Vec}
+use Rattle.omf_check.specs.Module.{Module}
+use Rattle.omf_linking.specs.File.{InputFile}
+use Rattle.omf_linker.specs.Exe.Adding.{AreAdded}
+use Rattle.omf_linker.specs.Exe.Input.{AreOfFiles, AreOfFolded}
+use Rattle.omf_linker.specs.Exe.Program.{IsBetweenOf, IsComOf, IsLongOf, IsMapOf, IsNearOf, IsProgramOf}
+use Rattle.omf_linker.specs.Exe.Refusing.{AreNoComProgram, AreNoProgram, AreNotAdded, AreUnplaced, Finds, GiveNoFolded, GiveNoModules, HaveNamesTwice, IsNotAllowed}
+use Rattle.omf_linker.specs.declared.exe.made.MadeProgram.{MadeProgram}
+use Rattle.omf_linker.specs.declared.exe.options.ExeOptions.{ExeOptions}
+use Rattle.omf_linker.specs.declared.exe.options.ProgramKind.{ProgramKind}
+use Rattle.omf_linker.specs.declared.exe.options.ProgramKind.TheVariants.{Exe, Com}
+
+-- The files of a program, and the modules that they give. Names may be compared without case.
+pub record ProgramFiles : Type 0 where
+  pub files : List InputFile
+  pub ignores_case : Bool
+  pub modules : List Module
+
+-- Modules are those of files.
+abbrev pub AreOf : Bool → List InputFile → List Module → Type 0
+AreOf true files ms = AreOfFolded files ms
+AreOf false files ms = AreOfFiles files ms
+
+-- Why files give no modules.
+abbrev pub GiveNone : Bool → List InputFile → Type 0
+GiveNone true files = GiveNoFolded files
+GiveNone false files = GiveNoModules files
+
+-- The bytes of the program of modules, and whether an .EXE file lacks a stack; or why there are none.
+abbrev pub AreBytesOf : ProgramKind → List Module → List ℕ → Bool → Type 0
+AreBytesOf Exe ms bytes lacks_stack = IsProgramOf ms bytes (not lacks_stack)
+AreBytesOf Com ms bytes lacks_stack = IsComOf ms bytes × (lacks_stack ≡ false)
+
+abbrev pub HaveNoBytes : ProgramKind → List Module → Type 0
+HaveNoBytes Exe ms = AreNoProgram ms
+HaveNoBytes Com ms = AreNoComProgram ms
+
+-- The stack of an .EXE file is alone.
+abbrev pub IsAlone : ProgramKind → List Module → Type 0
+IsAlone Exe ms = IsBetweenOf ms None
+IsAlone Com ms = ⊤
+
+-- What is found is allowed.
+abbrev pub IsAllowed : Bool → Bool → Type 0
+IsAllowed is_allowed is_found = is_allowed ≡ false → is_found ≡ false
+
+-- The map, if it is asked for: lines of the modules, and after them the map of the program.
+abbrev pub IsMapIf : Bool → List Module → Option (Vec ℕ) → Type 0
+IsMapIf false ms map = map ≡ None
+IsMapIf true ms None = ⊥
+IsMapIf true ms (Some map) = (front : List ℕ) × (text : List ℕ) × (map.items ≡ front ++ text) × IsMapOf ms text
+
+-- What is written of modules.
+pub record IsMadeOf (options : ExeOptions) (ms : List Module) (made : MadeProgram) : Type 0 where
+  pub program : AreBytesOf options.kind ms made.bytes.items made.lacks_stack
+  pub map : IsMapIf (is_some options.map) ms made.map
+  pub alone : IsAlone options.kind ms
+  pub long : Finds (IsLongOf ms) (is_some made.long) × IsAllowed options.allows_long (is_some made.long)
+  pub near : Finds (IsNearOf ms) (is_some made.near) × IsAllowed options.allows_near (is_some made.near)
+  pub twice : HaveNamesTwice ms (is_some made.repeated) × IsAllowed options.allows_twice (is_some made.repeated)
+
+-- What is written of files: of their modules, with those that are added.
+pub record IsMade (options : ExeOptions) (p : ProgramFiles) (made : MadeProgram) : Type 0 where
+  pub given : AreOf p.ignores_case p.files p.modules
+  pub all : List Module
+  pub added : AreAdded options.kind options.stack options.order p.modules all
+  pub made_of : IsMadeOf options all made
+
+-- Why nothing is written of modules: there is no program of them; they have no places; or a look finds what is not allowed.
+abbrev pub IsLookFault : ExeOptions → List Module → Type 0
+IsLookFault options ms =
+    IsNotAllowed (IsLongOf ms) options.allows_long ms ⊎ (IsNotAllowed (IsNearOf ms) options.allows_near ms ⊎ ((options.kind ≡ Exe) × IsNotAllowed (IsBetweenOf ms) false ms))
+
+abbrev pub IsNotMadeOf : ExeOptions → List Module → Type 0
+IsNotMadeOf options ms = HaveNoBytes options.kind ms ⊎ (IsLookFault options ms ⊎ (AreUnplaced ms ⊎ ((options.allows_twice ≡ false) × HaveNamesTwice ms true)))
+
+-- Why nothing is written of files.
+pub record IsNotMade (options : ExeOptions) (p : ProgramFiles) : Type 0 where
+  pub given : AreOf p.ignores_case p.files p.modules
+  pub why : AreNotAdded options.kind options.stack options.order p.modules ⊎ ((all : List Module) × AreAdded options.kind options.stack options.order p.modules all × IsNotMadeOf options all)

@@ -1,0 +1,160 @@
+//! What is written of a DOS program: its bytes, its map, and lines of what is found in it.
+
+ghost use Rattle.std.specs.Prelude.{◌≡◌, IfErr, IfOk, false, is_some};
+ghost use Rattle.omf_linker.specs.Exe.Making.{AreBytesOf, HaveNoBytes, IsAllowed, IsAlone, IsLookFault, IsMadeOf, IsMapIf, IsNotMadeOf};
+ghost use Rattle.omf_linker.specs.declared.exe.options.ProgramKind.TheVariants.{Exe};
+ghost use Rattle.omf_linker.specs.Exe.Program.{IsBetweenOf, IsLongOf, IsNearOf};
+ghost use Rattle.omf_linker.specs.Exe.Refusing.{AreUnplaced, Finds, IsNotAllowed, IsRefusalFor};
+
+use crate::exe::options::{ExeOptions, ProgramKind};
+use crate::exe::program::LinkedModules;
+use crate::exe::refusal::Refusal;
+use crate::link::InputFile;
+use std::alloc::Global;
+
+/// A program, its map, and lines of what is found in it.
+#[derive(Drop)]
+pub struct MadeProgram {
+    /// The bytes of the .EXE file, or of the .COM file.
+    pub bytes: Vec<u8>,
+    /// Whether an .EXE file has no stack.
+    pub lacks_stack: bool,
+    /// The map, if the options ask for it.
+    pub map: Option<Vec<u8>>,
+    /// The line of the first segment, or else of the first member of a group, that ends more than 64 KB after its frame.
+    pub long: Option<String>,
+    /// The line of the first near reference into another frame.
+    pub near: Option<String>,
+    /// The lines of the names that more than one public has.
+    pub repeated: Option<String>,
+}
+
+/// The bytes of a program, and whether an .EXE file lacks a stack.
+#[derive(Drop)]
+struct ProgramBytes {
+    bytes: Vec<u8>,
+    lacks_stack: bool,
+}
+
+/// The bytes of the program of modules.
+fn bytes_of(
+    alloc: Global,
+    modules: &LinkedModules<'_>,
+    files: &[InputFile],
+    kind: ProgramKind,
+) -> Result<ProgramBytes, Refusal>
+    ensures bytes { IfOk result (λ b. AreBytesOf kind modules.now.modules b.bytes.items b.lacks_stack) }
+    ensures refused { IfErr result (IsRefusalFor (HaveNoBytes kind modules.now.modules)) }
+{
+    match kind {
+        ProgramKind::Exe => {
+            let file = modules.exe(alloc, files)?;
+            Ok(ProgramBytes {
+                bytes: file.bytes,
+                lacks_stack: !file.has_stack,
+            })
+        }
+        ProgramKind::Com => {
+            let bytes = modules.com(alloc, files)?;
+            Ok(ProgramBytes {
+                bytes,
+                lacks_stack: false,
+            })
+        }
+    }
+}
+
+/// Looks whether the stack of an .EXE file is alone.
+fn look_at_stack(
+    alloc: Global,
+    modules: &LinkedModules<'_>,
+    files: &[InputFile],
+    kind: ProgramKind,
+) -> Result<(), Refusal>
+    ensures alone { IfOk result (λ _. IsAlone kind modules.now.modules) }
+    ensures refused { IfErr result (IsRefusalFor ((kind ≡ Exe) × IsNotAllowed (IsBetweenOf modules.now.modules) false modules.now.modules)) }
+{
+    match kind {
+        ProgramKind::Exe => modules.stack_is_alone(alloc, files),
+        ProgramKind::Com => Ok(()),
+    }
+}
+
+/// The lines of what the linker finds where it looks.
+#[derive(Drop)]
+struct Looks {
+    long: Option<String>,
+    near: Option<String>,
+}
+
+/// What the linker finds where it looks, if it is allowed.
+fn looks_of(
+    alloc: Global,
+    modules: &LinkedModules<'_>,
+    files: &[InputFile],
+    options: &ExeOptions<'_>,
+) -> Result<Looks, Refusal>
+    ensures alone { IfOk result (λ _. IsAlone options.now.kind modules.now.modules) }
+    ensures long { IfOk result (λ l. Finds (IsLongOf modules.now.modules) (is_some l.long) × IsAllowed options.now.allows_long (is_some l.long)) }
+    ensures near { IfOk result (λ l. Finds (IsNearOf modules.now.modules) (is_some l.near) × IsAllowed options.now.allows_near (is_some l.near)) }
+    ensures refused { IfErr result (IsRefusalFor (IsLookFault options.now modules.now.modules)) }
+{
+    let long = modules.long(alloc, files, options.allows_long)?;
+    let near = modules.near(alloc, files, options.allows_near)?;
+    look_at_stack(alloc, modules, files, options.kind)?;
+    Ok(Looks { long, near })
+}
+
+/// The map of a program, if it is asked for.
+fn map_of(
+    alloc: Global,
+    modules: &LinkedModules<'_>,
+    files: &[InputFile],
+    is_asked: bool,
+) -> Result<Option<Vec<u8>>, Refusal>
+    ensures map { IfOk result (IsMapIf is_asked modules.now.modules) }
+    ensures refused { IfErr result (IsRefusalFor (AreUnplaced modules.now.modules)) }
+{
+    if !is_asked {
+        return Ok(None);
+    }
+    let map = modules.map(alloc, files)?;
+    Ok(Some(map))
+}
+
+/// The program of modules, with its map and what is found in it. A look refuses before there is a fault of the program, but for a name that is
+/// not defined.
+///
+/// # Errors
+///
+/// The names that are not defined; otherwise the line of a look, if it finds what is not allowed; otherwise the fault of the program or its
+/// map; otherwise the names that more than one public has, if they are not allowed. Out of memory.
+pub(crate) fn made_of(
+    alloc: Global,
+    modules: &LinkedModules<'_>,
+    files: &[InputFile],
+    options: &ExeOptions<'_>,
+) -> Result<MadeProgram, Refusal>
+    ensures made { IfOk result (IsMadeOf options.now modules.now.modules) }
+    ensures refused { IfErr result (IsRefusalFor (IsNotMadeOf options.now modules.now.modules)) }
+{
+    let ProgramBytes { bytes, lacks_stack } = match bytes_of(alloc, modules, files, options.kind) {
+        Ok(program) => program,
+        Err(Refusal::Undefined(lines)) => return Err(Refusal::Undefined(lines)),
+        Err(refusal) => {
+            looks_of(alloc, modules, files, options)?;
+            return Err(refusal);
+        }
+    };
+    let Looks { long, near } = looks_of(alloc, modules, files, options)?;
+    let map = map_of(alloc, modules, files, options.map.is_some())?;
+    let repeated = modules.repeated(alloc, files, options.allows_twice)?;
+    Ok(MadeProgram {
+        bytes,
+        lacks_stack,
+        map,
+        long,
+        near,
+        repeated,
+    })
+}

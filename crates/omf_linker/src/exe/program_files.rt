@@ -1,0 +1,130 @@
+//! The files of a program, and what is written of them.
+
+ghost use Rattle.std.specs.Prelude.{◌≡◌, ◌++◌, IfErr, IfOk, map};
+ghost use Rattle.omf_linker.specs.Exe.Libraries.{sought};
+ghost use Rattle.omf_linker.specs.Exe.Making.{AreOf, GiveNone, IsMade, IsNotMade};
+ghost use Rattle.omf_linker.specs.Exe.Refusing.{IsRefusalFor};
+
+use crate::exe::files::memory;
+use crate::exe::joining::move_all;
+use crate::exe::made::{MadeProgram, made_of};
+use crate::exe::options::ExeOptions;
+use crate::exe::program::ProgramModules;
+use crate::exe::refusal::Refusal;
+use crate::link::InputFile;
+use std::alloc::{AllocError, Global};
+use std::marker::Model;
+use std::mem::forget;
+
+/// The files of a program, and the modules that they give.
+#[derive(Drop)]
+pub struct ProgramFiles {
+    files: Vec<InputFile>,
+    ignores_case: bool,
+    modules: ProgramModules,
+}
+
+impl Model for ProgramFiles {
+    ghost use Rattle.omf_linker.specs.Exe.Making.{AreOf, ProgramFiles as Seen};
+
+    ghost Value = { Seen };
+
+    ghost view = { λ p. record { files = p.files.items; ignores_case = p.ignores_case; modules = p.modules.modules } };
+
+    ghost invariant = { λ p. AreOf p.ignores_case p.files.items p.modules.modules };
+}
+
+/// The modules of files, with names in lower case if their case does not count.
+fn modules_of(
+    alloc: Global,
+    files: &[InputFile],
+    ignores_case: bool,
+) -> Result<ProgramModules, Refusal>
+    ensures modules { IfOk result (λ p. AreOf ignores_case files.now p.modules) }
+    ensures refused { IfErr result (IsRefusalFor (GiveNone ignores_case files.now)) }
+{
+    if ignores_case {
+        ProgramModules::folded(alloc, files)
+    } else {
+        ProgramModules::of(alloc, files)
+    }
+}
+
+impl ProgramFiles {
+    /// Reads the modules of files. Each file has modules, which all take part, or is a library, of which the members take part that are needed. The
+    /// first library in the order of the files that defines a name serves. Names are compared without case if `ignores_case` is set.
+    ///
+    /// # Errors
+    ///
+    /// The first file that is not read; the first needed member of a library that is refused; or out of memory.
+    pub fn of(
+        alloc: Global,
+        files: Vec<InputFile>,
+        ignores_case: bool,
+    ) -> Result<ProgramFiles, Refusal>
+        ensures files { IfOk result (λ p. p.files ≡ files.items) }
+        ensures case { IfOk result (λ p. p.ignores_case ≡ ignores_case) }
+        ensures refused { IfErr result (IsRefusalFor (GiveNone ignores_case files.items)) }
+    {
+        let modules = modules_of(alloc, &files, ignores_case)?;
+        Ok(ProgramFiles {
+            files,
+            ignores_case,
+            modules,
+        })
+    }
+
+    /// Reads these files and more.
+    ///
+    /// # Errors
+    ///
+    /// The first file that is not read; the first needed member of a library that is refused; or out of memory.
+    pub fn with_more(self, alloc: Global, more: Vec<InputFile>) -> Result<ProgramFiles, Refusal>
+        ensures files { IfOk result (λ p. p.files ≡ self.files ++ more.items) }
+        ensures case { IfOk result (λ p. p.ignores_case ≡ self.ignores_case) }
+        ensures refused { IfErr result (IsRefusalFor (GiveNone self.ignores_case (self.files ++ more.items))) }
+    {
+        let ProgramFiles {
+            files,
+            ignores_case,
+            modules: _,
+        } = self;
+        let mut all = files;
+        let Ok(()) = move_all(more, &mut all) else {
+            return Err(memory());
+        };
+        ProgramFiles::of(alloc, all, ignores_case)
+    }
+
+    /// The names of libraries that the modules ask for, in order, each once, without those that are known.
+    ///
+    /// # Errors
+    ///
+    /// `AllocError` if memory runs out.
+    pub fn sought(&self, alloc: Global, known: &[Vec<u8>]) -> Result<Vec<Vec<u8>>, AllocError>
+        ensures { IfOk result (λ v. map (λ n. n.items) v.items ≡ sought (map (λ k. k.items) known.now) self.now.modules) }
+    {
+        self.modules.sought(alloc, known)
+    }
+
+    /// What is written of the files: the program as a .COM file or as an .EXE file, its map, and lines of what is found in it. The memory of the
+    /// modules is not freed, which takes long: the process ends soon.
+    ///
+    /// # Errors
+    ///
+    /// The fault of the modules that are added; otherwise the names that are not defined; otherwise the line of a look, if it finds what the
+    /// options do not allow; otherwise the fault of the program or its map; otherwise the names that more than one public has, if they are not
+    /// allowed. Out of memory.
+    pub fn make(self, alloc: Global, options: &ExeOptions<'_>) -> Result<MadeProgram, Refusal>
+        ensures made { IfOk result (IsMade options.now self) }
+        ensures refused { IfErr result (IsRefusalFor (IsNotMade options.now self)) }
+    {
+        let ProgramFiles { files, modules, .. } = self;
+        let all = modules.with_added(alloc, options)?;
+        let linked = all.linked(alloc)?;
+        let made = made_of(alloc, &linked, &files, options)?;
+        forget(linked);
+        forget(all);
+        Ok(made)
+    }
+}
