@@ -2,10 +2,8 @@
 -- shown as far as it goes.
 use Rattle.std.specs.Prelude.{ℕ, ◌+◌, ◌-◌, ◌*◌, ◌%◌, List, [], ◌∷◌, ◌++◌, length, take, drop, Bool, true, false, not, ◌==◌, ◌||◌, nat_le, nat_lt, Option, Some, None, codes, if◌then◌else◌}
 use Rattle.omf_frame.specs.Bytes.{has_bit}
-use Rattle.omf_frame.specs.declared.kinds.Width.TheVariants.{Bits16}
-use Rattle.omf_dump.specs.Fields.{Number, Hex, Word, Characters, Named, Flag, Field, field, Item, item}
+use Rattle.omf_dump.specs.Fields.{Number, Signed, Word, Characters, Named, Flag, Field, field, Item, item}
 use Rattle.omf_dump.specs.Known.{Tables, external_entry}
-use Rattle.omf_dump.specs.Render.{digits}
 use Rattle.omf_dump.specs.Words.{subtype_word}
 
 -- A name after its length byte, and the bytes after it.
@@ -52,23 +50,29 @@ export_fields [] = []
 export_fields (flags ∷ bytes) = export_flags flags ++ name_before (codes "exported") (export_internal flags) (counted bytes)
 
 -- INCDEF: what is added to the counts of externals and of line numbers.
-abbrev pub both_deltas : ℕ → ℕ → List Field
-both_deltas externals lines = field (codes "external-delta") (Hex (digits Bits16) externals) ∷ field (codes "line-delta") (Hex (digits Bits16) lines) ∷ []
+abbrev pub line_fields : List ℕ → List Field
+line_fields (low ∷ high ∷ _) = field (codes "line-delta") (Signed (low + 256 * high)) ∷ []
+line_fields _ = []
 
 abbrev pub delta_fields : List ℕ → List Field
-delta_fields (a ∷ b ∷ c ∷ d ∷ _) = both_deltas (a + 256 * b) (c + 256 * d)
+delta_fields (low ∷ high ∷ bytes) = field (codes "external-delta") (Signed (low + 256 * high)) ∷ line_fields bytes
 delta_fields _ = []
 
 -- LNKDIR: flags, the versions of the pseudocode and of the CodeView information.
 abbrev pub directive_flags : ℕ → List Field
 directive_flags flags = field (codes "new-EXE") (Flag (has_bit flags 0)) ∷ field (codes "omit-publics") (Flag (has_bit flags 1)) ∷ field (codes "run-MPC") (Flag (has_bit flags 2)) ∷ []
 
-abbrev pub version_fields : ℕ → ℕ → List Field
-version_fields pseudocode codeview = field (codes "pseudocode") (Number pseudocode) ∷ field (codes "CodeView") (Number codeview) ∷ []
+abbrev pub codeview_fields : List ℕ → List Field
+codeview_fields [] = []
+codeview_fields (codeview ∷ _) = field (codes "CodeView") (Number codeview) ∷ []
+
+abbrev pub version_fields : List ℕ → List Field
+version_fields [] = []
+version_fields (pseudocode ∷ bytes) = field (codes "pseudocode") (Number pseudocode) ∷ codeview_fields bytes
 
 abbrev pub directive_fields : List ℕ → List Field
-directive_fields (flags ∷ pseudocode ∷ codeview ∷ _) = directive_flags flags ++ version_fields pseudocode codeview
-directive_fields _ = []
+directive_fields [] = []
+directive_fields (flags ∷ bytes) = directive_flags flags ++ version_fields bytes
 
 -- The class A0H: its subtype, which is the first byte of the text, and the fields of the subtype.
 abbrev pub subtype_fields : ℕ → List ℕ → List Field

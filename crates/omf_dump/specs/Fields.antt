@@ -6,11 +6,12 @@ pub record Entry : Type 0 where
   pub index : ℕ
   pub name : Option (List ℕ)
 
--- A value: a number; a number in hexadecimal, with the least number of digits; one word of a fixed list; bytes as characters; bytes as numbers;
+-- A value: a number; a 16-bit number with a sign; a number in hexadecimal, with the least number of digits; one word of a fixed list; bytes as characters; bytes as numbers;
 -- bytes with those before and after them; an entry of a table; a frame or target method, with its entry if it has one; whether something is set;
 -- how deep something is nested.
 pub data Value : Type 0 where
   Number : ℕ → Value
+  Signed : ℕ → Value
   Hex : ℕ → ℕ → Value
   Word : List ℕ → Value
   Characters : List ℕ → Value

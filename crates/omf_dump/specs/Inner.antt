@@ -3,3 +3,5 @@ pub mod Resolving
 pub mod Showing
 pub mod Walking
 pub mod Later
+pub mod Facts
+pub mod Naming

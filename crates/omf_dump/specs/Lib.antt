@@ -10,6 +10,9 @@ pub mod Dump
 pub mod Later
 pub mod Refused
 pub mod Library
+pub mod Csv
 pub mod Verdict
+pub mod Names
+pub mod Listing
 pub mod Rows
 pub mod Inner

@@ -2,7 +2,6 @@
 use Rattle.std.specs.Prelude.{ℕ, ◌+◌, ◌-◌, ◌*◌, ◌/◌, ◌%◌, List, [], ◌∷◌, ◌++◌, length, take, drop, replicate, slice_index, nat_le, ◌==◌, if◌then◌else◌, Bool, true, false, codes, decimal}
 use Rattle.omf_frame.specs.Fault.{reason_number, reason_name, sentence}
 use Rattle.omf_frame.specs.Framing.{present}
-use Rattle.omf_frame.specs.Types.{type_name}
 use Rattle.omf_frame.specs.declared.kinds.Width.TheVariants.{Bits32}
 use Rattle.omf_frame.specs.declared.fault.Place.{Place}
 use Rattle.omf_frame.specs.declared.fault.Reason.{Reason}
@@ -11,6 +10,7 @@ use Rattle.omf_dump.specs.Fields.{Number, Hex, Word, Characters, Field, field}
 use Rattle.omf_dump.specs.Later.{later_text}
 use Rattle.omf_dump.specs.Looks.{is_foreign, looks_like}
 use Rattle.omf_dump.specs.Render.{bytes_block, digits, fields_text, kind_head, line_end, place_head, record_end, rows}
+use Rattle.omf_dump.specs.Words.{type_word}
 use Rattle.omf_dump.specs.declared.format.Format.{Format}
 use Rattle.omf_dump.specs.declared.format.Format.TheVariants as format
 
@@ -52,7 +52,7 @@ window within bytes = take 48 (drop (window_start within) bytes)
 -- The type of a record, if its type byte is present.
 abbrev pub kind_if : Format → List ℕ → List ℕ
 kind_if f [] = []
-kind_if f (kind ∷ _) = kind_head f kind (type_name kind)
+kind_if f (kind ∷ _) = kind_head f kind (type_word kind)
 
 -- The number of these bytes up to the end of the line with the offset.
 abbrev pub marked_len : ℕ → ℕ

@@ -1,10 +1,11 @@
 -- The two renderings of what is shown, text and JSON (this profile's rule).
-use Rattle.std.specs.Prelude.{ℕ, zero, suc, ◌+◌, ◌-◌, ◌*◌, ◌/◌, List, [], ◌∷◌, ◌++◌, length, flat_map, map, take, drop, replicate, Bool, true, false, Option, Some, None, ◌==◌, codes, decimal, if◌then◌else◌}
+use Rattle.std.specs.Prelude.{ℕ, zero, suc, ◌+◌, ◌-◌, ◌*◌, ◌/◌, List, [], ◌∷◌, ◌++◌, length, flat_map, map, take, drop, replicate, Bool, true, false, Option, Some, None, ◌==◌, ◌&&◌, nat_le, nat_lt, codes, decimal, if◌then◌else◌}
 use Rattle.std.specs.List.{range_with_len}
-use Rattle.omf_frame.specs.Types.{type_name, width_bytes}
+use Rattle.omf_frame.specs.Types.{width_bytes}
 use Rattle.omf_frame.specs.declared.kinds.Width.{Width}
 use Rattle.omf_placement.specs.Quoted.{hex, is_plain}
-use Rattle.omf_dump.specs.Fields.{Entry, Value, Number, Hex, Word, Characters, Bytes, Marked, Named, Method, Flag, Depth, Field, Item, Block, Shown}
+use Rattle.omf_dump.specs.Fields.{Entry, Value, Number, Signed, Hex, Word, Characters, Bytes, Marked, Named, Method, Flag, Depth, Field, Item, Block, Shown}
+use Rattle.omf_dump.specs.Words.{type_word}
 use Rattle.omf_dump.specs.declared.format.Format.{Format}
 use Rattle.omf_dump.specs.declared.format.Style.{Style}
 use Rattle.omf_dump.specs.declared.format.Format.TheVariants as format
@@ -102,8 +103,13 @@ abbrev pub depth_text : Format → List ℕ → ℕ → List ℕ
 depth_text format.Text name n = replicate n 32 ++ replicate n 32
 depth_text format.Json name n = opened format.Json name ++ decimal n
 
+-- A 16-bit number with a sign: from 8000H on it is negative.
+abbrev pub signed : ℕ → List ℕ
+signed n = if nat_lt n 32768 then decimal n else 45 ∷ decimal (65536 - n)
+
 abbrev pub value_text : Format → List ℕ → Value → List ℕ
 value_text f name (Number n) = opened f name ++ decimal n
+value_text f name (Signed n) = opened f name ++ signed n
 value_text f name (Hex least n) = opened f name ++ hexadecimal f least n
 value_text f name (Word w) = opened f name ++ word_text f w
 value_text f name (Characters bytes) = opened f name ++ quoted f bytes
@@ -150,8 +156,11 @@ list_text f None = []
 list_text f (Some xs) = list_start f ++ (items_text f true xs ++ list_end f)
 
 -- Bytes: in text lines of 16, each with the offset of its first byte, the bytes, and the characters that they are; in JSON one word.
+abbrev pub is_shown : ℕ → Bool
+is_shown c = nat_le 0x20 c && nat_le c 0x7E
+
 abbrev pub shown_byte : ℕ → ℕ
-shown_byte c = if is_plain c then c else 46
+shown_byte c = if is_shown c then c else 46
 
 abbrev pub row : ℕ → List ℕ → List ℕ
 row first bytes = codes "    " ++ (hex 8 first ++ (flat_map (λ c. 32 ∷ hex 2 c) bytes ++ (replicate (3 * (16 - length bytes) + 2) 32 ++ (map shown_byte bytes ++ 10 ∷ []))))
@@ -195,7 +204,7 @@ abbrev pub named_head : Format → ℕ → ℕ → ℕ → List ℕ → List ℕ
 named_head f number start kind name = place_head f number start ++ kind_head f kind name
 
 abbrev pub head_text : Format → ℕ → ℕ → ℕ → List ℕ
-head_text f number start kind = named_head f number start kind (type_name kind)
+head_text f number start kind = named_head f number start kind (type_word kind)
 
 abbrev pub line_end : Format → List ℕ
 line_end format.Text = 10 ∷ []

@@ -1,6 +1,7 @@
 -- The words for packed fields and classes (TIS OMF 1.1, SEGDEF's ACBP, FIXUPP's LOCATION and methods, COMENT's classes; their spelling here is
 -- this profile's rule).
-use Rattle.std.specs.Prelude.{ℕ, List, [], ◌∷◌, find, unwrap_or, option_map, ◌==◌, codes}
+use Rattle.std.specs.Prelude.{ℕ, List, [], ◌∷◌, find, unwrap_or, option_map, ◌==◌, codes, if◌then◌else◌}
+use Rattle.omf_frame.specs.Types.{type_name}
 
 -- The word of a number in a table, or another one if the table has none.
 abbrev pub word_in : List (ℕ × List ℕ) → List ℕ → ℕ → List ℕ
@@ -46,3 +47,10 @@ subtypes = (1, codes "IMPDEF") ∷ (2, codes "EXPDEF") ∷ (3, codes "INCDEF") �
 
 abbrev pub subtype_word : ℕ → List ℕ
 subtype_word n = word_in subtypes (codes "reserved") n
+
+-- The name of a record's type. F1H, the end of a library, has a name of its own.
+abbrev pub library_end : ℕ
+library_end = 0xF1
+
+abbrev pub type_word : ℕ → List ℕ
+type_word kind = if kind == library_end then codes "library-end" else type_name kind

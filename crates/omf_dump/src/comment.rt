@@ -2,13 +2,12 @@
 
 ghost use Rattle.std.specs.Prelude.{◌≡◌, ◌+◌, ◌*◌, ◌++◌, [], codes, option_map};
 ghost use Rattle.omf_frame.specs.Bytes.{AddsText, has_bit};
-ghost use Rattle.omf_dump.specs.Comments.{both_deltas, class_fields, counted, delta_fields, directive_fields, directive_flags, export_end, export_fields, export_flags, export_internal, export_marks, extension_fields, import_end, import_fields, import_module, name_before, ordinal_fields, subtype_fields, version_fields};
+ghost use Rattle.omf_dump.specs.Comments.{class_fields, codeview_fields, counted, delta_fields, directive_fields, directive_flags, export_end, export_fields, export_flags, export_internal, export_marks, extension_fields, import_end, import_fields, import_module, line_fields, name_before, ordinal_fields, subtype_fields, version_fields};
 ghost use Rattle.omf_dump.specs.Render.{fields_text};
 
-use crate::field::{characters, flag, hexadecimal, number, word};
+use crate::field::{characters, flag, number, signed, word};
 use crate::format::Format;
 use crate::words::subtype_word;
-use omf_frame::Width;
 use std::alloc::AllocError;
 
 /// A name after its length byte, and the bytes after it.
@@ -215,25 +214,32 @@ fn put_export(text: &mut Vec<u8>, format: Format, bytes: &[u8]) -> Result<(), Al
     }
 }
 
-/// What an INCDEF adds to the counts of externals and of line numbers.
-fn put_both_deltas(
-    text: &mut Vec<u8>,
-    format: Format,
-    externals: u64,
-    lines: u64,
-) -> Result<(), AllocError>
-    ensures { AddsText result text.old.items text.new.items (fields_text format (both_deltas externals lines)) }
+/// A 16-bit number with a sign, little-endian, as it is stored.
+fn delta_of(low: u8, high: u8) -> u16
+    ensures { result ≡ low + 256 * high }
 {
-    hexadecimal(text, format, "external-delta", Width::Bits16, externals)?;
-    hexadecimal(text, format, "line-delta", Width::Bits16, lines)
+    u16::from(low) + 256 * u16::from(high)
 }
 
-/// INCDEF.
+/// What an INCDEF adds to the count of line numbers.
+fn put_line_delta(text: &mut Vec<u8>, format: Format, bytes: &[u8]) -> Result<(), AllocError>
+    ensures { AddsText result text.old.items text.new.items (fields_text format (line_fields bytes.now)) }
+{
+    match bytes {
+        [low, high, ..] => signed(text, format, "line-delta", delta_of(*low, *high)),
+        _ => Ok(()),
+    }
+}
+
+/// INCDEF, as far as it goes.
 fn put_deltas(text: &mut Vec<u8>, format: Format, bytes: &[u8]) -> Result<(), AllocError>
     ensures { AddsText result text.old.items text.new.items (fields_text format (delta_fields bytes.now)) }
 {
     match bytes {
-        [a, b, c, d, ..] => put_both_deltas(text, format, word_of(*a, *b), word_of(*c, *d)),
+        [low, high, rest @ ..] => {
+            signed(text, format, "external-delta", delta_of(*low, *high))?;
+            put_line_delta(text, format, rest)
+        }
         _ => Ok(()),
     }
 }
@@ -247,29 +253,39 @@ fn put_directive_flags(text: &mut Vec<u8>, format: Format, flags: u8) -> Result<
     flag(text, format, "run-MPC", flags / 4 % 2 == 1)
 }
 
-/// The versions in an LNKDIR.
-fn put_versions(
-    text: &mut Vec<u8>,
-    format: Format,
-    pseudocode: u8,
-    codeview: u8,
-) -> Result<(), AllocError>
-    ensures { AddsText result text.old.items text.new.items (fields_text format (version_fields pseudocode codeview)) }
+/// The version of the CodeView information in an LNKDIR.
+fn put_codeview(text: &mut Vec<u8>, format: Format, bytes: &[u8]) -> Result<(), AllocError>
+    ensures { AddsText result text.old.items text.new.items (fields_text format (codeview_fields bytes.now)) }
 {
-    number(text, format, "pseudocode", u64::from(pseudocode))?;
-    number(text, format, "CodeView", u64::from(codeview))
+    match bytes {
+        [] => Ok(()),
+        [codeview, ..] => number(text, format, "CodeView", u64::from(*codeview)),
+    }
 }
 
-/// LNKDIR.
+/// The versions in an LNKDIR.
+fn put_versions(text: &mut Vec<u8>, format: Format, bytes: &[u8]) -> Result<(), AllocError>
+    ensures { AddsText result text.old.items text.new.items (fields_text format (version_fields bytes.now)) }
+{
+    match bytes {
+        [] => Ok(()),
+        [pseudocode, rest @ ..] => {
+            number(text, format, "pseudocode", u64::from(*pseudocode))?;
+            put_codeview(text, format, rest)
+        }
+    }
+}
+
+/// LNKDIR, as far as it goes.
 fn put_directives(text: &mut Vec<u8>, format: Format, bytes: &[u8]) -> Result<(), AllocError>
     ensures { AddsText result text.old.items text.new.items (fields_text format (directive_fields bytes.now)) }
 {
     match bytes {
-        [flags, pseudocode, codeview, ..] => {
+        [] => Ok(()),
+        [flags, rest @ ..] => {
             put_directive_flags(text, format, *flags)?;
-            put_versions(text, format, *pseudocode, *codeview)
+            put_versions(text, format, rest)
         }
-        _ => Ok(()),
     }
 }
 

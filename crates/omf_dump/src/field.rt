@@ -2,14 +2,15 @@
 
 ghost use Rattle.std.specs.Prelude.{◌≡◌, codes};
 ghost use Rattle.omf_frame.specs.Bytes.{AddsText};
-ghost use Rattle.omf_dump.specs.Fields.{Number, Hex, Word, Characters, Bytes, Depth, Marked, Named, Method, Flag};
+ghost use Rattle.omf_dump.specs.Fields.{Number, Signed, Hex, Word, Characters, Bytes, Depth, Marked, Named, Method, Flag};
 ghost use Rattle.omf_dump.specs.Render.{digits, opened, value_text};
 
 use crate::entry::Entry;
 use crate::format::Format;
 use crate::item::put_spaces;
 use crate::value::{
-    put_list, put_marked, put_method, put_named, put_number, put_quoted, put_small, put_word,
+    put_list, put_marked, put_method, put_named, put_number, put_quoted, put_signed, put_small,
+    put_word,
 };
 use omf_frame::Width;
 use omf_host::put_decimal;
@@ -45,6 +46,19 @@ pub(crate) fn number(
 {
     open(text, format, name)?;
     put_decimal(text, number)
+}
+
+/// Appends a 16-bit number with a sign: from 8000H on it is negative.
+pub(crate) fn signed(
+    text: &mut Vec<u8>,
+    format: Format,
+    name: &str,
+    number: u16,
+) -> Result<(), AllocError>
+    ensures { AddsText result text.old.items text.new.items (value_text format name.now (Signed number)) }
+{
+    open(text, format, name)?;
+    put_signed(text, number)
 }
 
 /// Appends a number of a 16-bit or a 32-bit field, in text in at least four or eight hexadecimal digits.

@@ -25,3 +25,40 @@ pub struct Mode {
     pub profile: Profile,
     pub style: Style,
 }
+
+/// The renderings of a list, which has a line for each module or for each name.
+#[derive(Clone, Copy, Debug, PartialEq, Eq)]
+pub enum Shape {
+    Text,
+    /// Each line is an object of JSON.
+    Json,
+    /// Comma-separated values (RFC 4180), after a line with the names of the columns.
+    Csv,
+}
+
+/// The names that are listed.
+#[derive(Clone, Copy, Debug, PartialEq, Eq)]
+pub enum Which {
+    All,
+    /// Those that the module defines.
+    Defined,
+    /// Those that other modules are to define.
+    Undefined,
+}
+
+/// What a list has a line for.
+#[derive(Clone, Copy, Debug, PartialEq, Eq)]
+pub enum Subject {
+    /// Each module.
+    Verdicts,
+    /// Each name of a module.
+    Names(Which),
+}
+
+/// How modules are judged, and what list of them is written.
+#[derive(Clone, Copy, Debug, PartialEq, Eq)]
+pub struct Listing {
+    pub profile: Profile,
+    pub shape: Shape,
+    pub subject: Subject,
+}

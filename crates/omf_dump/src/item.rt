@@ -2,14 +2,15 @@
 
 ghost use Rattle.std.specs.Prelude.{◌≡◌, ◌+◌, ◌++◌, ◌<◌, ◌≤◌, ◌^◌, ◌∷◌, [], Some, codes, length, map, replicate};
 ghost use Rattle.omf_frame.specs.Bytes.{AddsText};
-ghost use Rattle.omf_frame.specs.Types.{type_name};
-ghost use Rattle.omf_dump.specs.Render.{block_text, bytes_block, head_text, item_end, item_start, kind_head, left_out, line_end, list_end, list_start, many_bytes, more_bytes, place_head, record_end, row, rows, shown_byte, some_left_out};
+ghost use Rattle.omf_dump.specs.Words.{type_word};
+ghost use Rattle.omf_dump.specs.Render.{block_text, bytes_block, head_text, is_shown, item_end, item_start, kind_head, left_out, line_end, list_end, list_start, many_bytes, more_bytes, place_head, record_end, row, rows, shown_byte, some_left_out};
 
 use crate::format::{Format, Style};
 use crate::part::first;
 use crate::value::{put_after_spaces, put_bytes};
-use omf_frame::{Place, RawRecord, type_name};
-use omf_host::{is_plain, put_byte, put_decimal, put_eight};
+use crate::words::type_word;
+use omf_frame::{Place, RawRecord};
+use omf_host::{put_byte, put_decimal, put_eight};
 use std::alloc::AllocError;
 
 /// The number of bytes in a line.
@@ -86,9 +87,9 @@ fn put_named_kind(
 
 /// Appends the type byte and the type name of a record.
 pub(crate) fn put_kind_head(text: &mut Vec<u8>, format: Format, kind: u8) -> Result<(), AllocError>
-    ensures { AddsText result text.old.items text.new.items (kind_head format kind (type_name kind)) }
+    ensures { AddsText result text.old.items text.new.items (kind_head format kind (type_word kind)) }
 {
-    put_named_kind(text, format, kind, type_name(kind))
+    put_named_kind(text, format, kind, type_word(kind))
 }
 
 /// Begins a record: number, offset, type byte and type name.
@@ -185,11 +186,18 @@ pub(crate) fn close_item(text: &mut Vec<u8>, format: Format) -> Result<(), Alloc
     Ok(())
 }
 
+/// Whether a byte is shown as a character: 20H to 7EH.
+fn is_shown(byte: u8) -> bool
+    ensures { result ≡ is_shown byte }
+{
+    byte >= 0x20 && byte <= 0x7E
+}
+
 /// Appends the character of a byte, or a dot.
 fn put_shown(text: &mut Vec<u8>, byte: u8) -> Result<(), AllocError>
     ensures { AddsText result text.old.items text.new.items (shown_byte byte ∷ []) }
 {
-    text.push(if is_plain(byte) { byte } else { b'.' })?;
+    text.push(if is_shown(byte) { byte } else { b'.' })?;
     Ok(())
 }
 

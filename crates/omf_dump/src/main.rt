@@ -2,14 +2,17 @@
 //!
 //! A record is shown as named fields, the items that it repeats, and bytes (`specs/Fields`); text and JSON are two renderings of these
 //! (`specs/Render`). `specs/Contents` has the fields of each record, `specs/Dump` the text of a module, `specs/Refused` that of a refused one,
-//! `specs/Library` that of a library and of a whole input.
+//! `specs/Library` that of a library and of a whole input. `specs/Listing` has the lists of verdicts (`specs/Verdict`) and of names
+//! (`specs/Names`).
 #![tactic(auto)]
 
 mod answer;
 mod blocks;
 mod comment;
 mod contents;
+mod csv;
 mod entry;
+mod facts;
 mod fault;
 mod field;
 mod format;
@@ -19,7 +22,9 @@ mod items;
 mod known;
 mod later;
 mod library;
+mod listing;
 mod looks;
+mod naming;
 mod options;
 mod output;
 mod pairs;
@@ -27,7 +32,9 @@ mod part;
 mod record;
 mod reference;
 mod refused;
+mod row;
 mod rows;
+mod sort;
 mod spot;
 mod subrecord;
 mod value;

@@ -1,9 +1,10 @@
 //! The indices in the text of a WKEXT or an LZEXT.
 
-ghost use Rattle.std.specs.Prelude.{◌≡◌, ◌≤◌, [], ◌∷◌, IfSome, codes, length, false, true};
+ghost use Rattle.std.specs.Prelude.{◌≡◌, ◌<◌, ◌≤◌, [], ◌∷◌, IfSome, codes, length, false, true};
 ghost use Rattle.omf_frame.specs.Bytes.{AddsText};
 ghost use Rattle.omf_dump.specs.Comments.{front_index, pair_item, pair_items, role};
 ghost use Rattle.omf_dump.specs.Render.{fields_text, items_text};
+ghost use Rattle.omf_placement.specs.Inner.Pairing as pairing;
 
 use crate::field::named;
 use crate::format::Format;
@@ -12,8 +13,10 @@ use crate::known::Tables;
 use std::alloc::AllocError;
 
 /// The index at the front, and its size in bytes.
-fn front_index(bytes: &[u8]) -> Option<(u16, usize)>
+pub(crate) fn front_index(bytes: &[u8]) -> Option<(u16, usize)>
     ensures index { result ≡ front_index bytes.now }
+    ensures pairing { result ≡ pairing.front_index bytes.now }
+    ensures some { IfSome result (λ p. 0 < p.1) }
     ensures fits { IfSome result (λ p. p.1 ≤ length bytes.now) }
 {
     match bytes {

@@ -8,8 +8,11 @@ ghost use Rattle.omf_dump.specs.Dump.{dump_text};
 ghost use Rattle.omf_dump.specs.Looks.{looks_like};
 ghost use Rattle.omf_dump.specs.Refused.{refusal_text};
 ghost use Rattle.omf_dump.specs.Render.{left_out};
-ghost use Rattle.omf_dump.specs.Rows.{json, lines, short, text};
+ghost use Rattle.omf_dump.specs.Csv.{csv_quoted};
+ghost use Rattle.omf_dump.specs.Rows.{json, lines, named_text, short, text};
 ghost use Rattle.omf_dump.specs.declared.format.Format.TheVariants as format;
+ghost use Rattle.omf_dump.specs.declared.format.Shape.TheVariants as shape;
+ghost use Rattle.omf_dump.specs.declared.format.Which.TheVariants as which;
 
 /// A module as text, as JSON, and with two bytes of data for each record.
 pub fn a_module()
@@ -45,4 +48,17 @@ pub fn looks()
     ensures text { looks_like (codes "org 100h\r\n") ≡ codes "text" }
     ensures zeros { looks_like (0 ∷ 0 ∷ []) ≡ codes "zeros" }
     ensures none { looks_like (0x7F ∷ 0x45 ∷ []) ≡ codes "no format known here" }
+{}
+
+/// The names of a module: all as text, those that it defines as comma-separated values, the others as JSON.
+pub fn names_of_a_module()
+    ensures text { named_text shape.Text which.All (codes "a: ") ≡ lines (codes "a: weak - - \"w\"" ∷ codes "a: undefined - - \"u\"" ∷ codes "a: text \"_TEXT\" 0000 \"m\"" ∷ codes "a: bss \"_DATA\" 0001 \"d\"" ∷ codes "a: absolute 0040 006C \"t\" local" ∷ codes "a: common - - \"c\"" ∷ codes "a: imported - - \"i\"" ∷ []) }
+    ensures csv { named_text shape.Csv which.Defined (codes "\"a\",,") ≡ lines (codes "\"a\",,,text,false,\"_TEXT\",,0,\"m\",,,,,," ∷ codes "\"a\",,,bss,false,\"_DATA\",,1,\"d\",,,,,," ∷ codes "\"a\",,,absolute,true,,64,108,\"t\",,,,,," ∷ codes "\"a\",,,common,false,,,,\"c\",,,,,," ∷ codes "\"a\",,,imported,false,,,,\"i\",,,,,," ∷ []) }
+    ensures json { named_text shape.Json which.Undefined (codes "{\"file\":\"a\"") ≡ lines (codes "{\"file\":\"a\",\"kind\":\"weak\",\"local\":false,\"symbol\":\"w\"}" ∷ codes "{\"file\":\"a\",\"kind\":\"undefined\",\"local\":false,\"symbol\":\"u\"}" ∷ []) }
+{}
+
+/// Names in comma-separated values: a comma, a quote.
+pub fn csv_names()
+    ensures comma { csv_quoted (codes "a,b") ≡ codes "\"a,b\"" }
+    ensures quote { csv_quoted (codes "a\"b") ≡ codes "\"a\"\"b\"" }
 {}

@@ -4,7 +4,7 @@ ghost use Rattle.std.specs.Prelude.{◌≡◌, ◌++◌, ◌∷◌, [], flat_map
 ghost use Rattle.omf_frame.specs.Bytes.{AddsText};
 ghost use Rattle.omf_placement.specs.Quoted.{hex};
 ghost use Rattle.omf_dump.specs.declared.format.Format.TheVariants as format;
-ghost use Rattle.omf_dump.specs.Render.{bytes_text, digits, entry_text, escape, escaped, hexadecimal, index_text, marked_text, method_entry, method_text, name_beside, named_text, quoted, spaced, word_text};
+ghost use Rattle.omf_dump.specs.Render.{bytes_text, digits, entry_text, escape, escaped, hexadecimal, index_text, marked_text, method_entry, method_text, name_beside, named_text, quoted, signed, spaced, word_text};
 
 use crate::entry::Entry;
 use crate::format::Format;
@@ -25,6 +25,19 @@ pub(crate) fn put_number(
         (Format::Json, _) => put_decimal(text, number),
         (Format::Text, Width::Bits16) => put_four(text, number),
         (Format::Text, Width::Bits32) => put_eight(text, number),
+    }
+}
+
+/// Appends a 16-bit number with a sign: from 8000H on it is negative.
+pub(crate) fn put_signed(text: &mut Vec<u8>, number: u16) -> Result<(), AllocError>
+    ensures { AddsText result text.old.items text.new.items (signed number) }
+{
+    let number = u64::from(number);
+    if number < 0x8000 {
+        put_decimal(text, number)
+    } else {
+        text.push(b'-')?;
+        put_decimal(text, 0x1_0000 - number)
     }
 }
 
@@ -64,7 +77,7 @@ fn escape(format: Format) -> &'static [u8]
 }
 
 /// Appends a byte of a name, as it is or by its digits.
-fn put_escaped(text: &mut Vec<u8>, format: Format, byte: u8) -> Result<(), AllocError>
+pub(crate) fn put_escaped(text: &mut Vec<u8>, format: Format, byte: u8) -> Result<(), AllocError>
     ensures { AddsText result text.old.items text.new.items (escaped format byte) }
 {
     if is_plain(byte) {

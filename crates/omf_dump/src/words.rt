@@ -3,8 +3,9 @@
 ghost use Rattle.std.specs.Prelude.{◌≡◌};
 ghost use Rattle.omf_records.specs.Inner.Names.{location_number};
 ghost use Rattle.omf_records.specs.Methods.{alignment_number, combination_number};
-ghost use Rattle.omf_dump.specs.Words.{alignment_word, class_word, combination_word, location_word, subtype_word};
+ghost use Rattle.omf_dump.specs.Words.{alignment_word, class_word, combination_word, location_word, subtype_word, type_word};
 
+use omf_frame::type_name;
 use omf_records::{Alignment, Combination, LocationType};
 
 /// The word for an alignment.
@@ -99,5 +100,19 @@ pub(crate) fn subtype_word(subtype: u8) -> &'static str
         6 => "big-endian",
         7 => "PRECOMP",
         _ => "reserved",
+    }
+}
+
+/// The end of a library.
+const LIBRARY_END: u8 = 0xF1;
+
+/// The name of a record's type; F1H, the end of a library, has a name of its own.
+pub(crate) fn type_word(kind: u8) -> &'static str
+    ensures { result.now ≡ type_word kind }
+{
+    if kind == LIBRARY_END {
+        "library-end"
+    } else {
+        type_name(kind)
     }
 }
