@@ -5,7 +5,7 @@ use crate::fault::Fault;
 use crate::library::{Library, member_of, read_library};
 use crate::making::{Members, write_members};
 use crate::members::{Member, Verdict, judge};
-use crate::shown::{Shown, Stop};
+use crate::shown::{Stop, Told};
 use omf_canon::canon;
 use omf_check::{Checked, Profile};
 use omf_frame::Sink;
@@ -15,14 +15,14 @@ use std::alloc::{AllocError, Global};
 
 /// A member that the check accepts; None, after a line, if it refuses it.
 fn accepted(
-    shown: &mut Shown,
+    told: &mut Told<'_>,
     profile: Profile,
     member: &Member<'_>,
 ) -> Result<Option<Checked>, AllocError> {
-    match judge(*shown.text.allocator(), profile, member.bytes)? {
+    match judge(*told.faults.allocator(), profile, member.bytes)? {
         Verdict::Accepted(module) => Ok(Some(module)),
         Verdict::Refused { reason, place } => {
-            shown.fault(Fault::Member {
+            told.fault(Fault::Member {
                 offset: member.offset,
                 member: member.number,
                 reason,
@@ -35,13 +35,13 @@ fn accepted(
 
 /// Appends the canonical bytes of a member as a part, with its names in their order; or a line, if it is refused.
 fn push_canonical(
-    shown: &mut Shown,
+    told: &mut Told<'_>,
     parts: &mut Vec<Part>,
     profile: Profile,
     member: &Member<'_>,
 ) -> Result<(), AllocError> {
-    let alloc = *shown.text.allocator();
-    let Some(module) = accepted(shown, profile, member)? else {
+    let alloc = *told.faults.allocator();
+    let Some(module) = accepted(told, profile, member)? else {
         return Ok(());
     };
     let bytes = canon(alloc, &module)?;
@@ -51,7 +51,7 @@ fn push_canonical(
         bytes: &bytes,
     };
     // The check accepts the canonical bytes of a module that it accepts.
-    if let Some(module) = accepted(shown, profile, &canonical)? {
+    if let Some(module) = accepted(told, profile, &canonical)? {
         parts.push(Part::new(alloc, &module)?)?;
     }
     Ok(())
@@ -66,7 +66,7 @@ fn push_name(alloc: Global, names: &mut Vec<String>, number: usize) -> Result<()
 /// Makes a library of the canonical bytes of the members.
 fn write_canonical<K: Sink>(
     rt: &HostRuntime,
-    shown: &mut Shown,
+    told: &mut Told<'_>,
     writer: &mut K,
     asked: &Make,
     library: &Library<'_>,
@@ -75,10 +75,10 @@ fn write_canonical<K: Sink>(
     let mut names = Vec::new(rt.alloc());
     for (number, span) in library.spans.members.iter().enumerate() {
         let member = member_of(number, span);
-        push_canonical(shown, &mut parts, asked.profile, &member)?;
+        push_canonical(told, &mut parts, asked.profile, &member)?;
         push_name(rt.alloc(), &mut names, number)?;
     }
-    if shown.status != Status::Done {
+    if told.shown.status != Status::Done {
         return Ok(());
     }
     let members = Members {
@@ -86,14 +86,14 @@ fn write_canonical<K: Sink>(
         parts: parts.as_slice(),
         is_case_sensitive: library.header.flags % 2 == 1,
     };
-    write_members(rt, shown, writer, asked, members)
+    write_members(rt, told, writer, asked, members)
 }
 
 /// Makes a library of the canonical bytes of another one's members, in order. Nothing is written if that is no library,
 /// or if a member is refused.
 pub fn canon_library<K: Sink>(
     rt: &HostRuntime,
-    shown: &mut Shown,
+    told: &mut Told<'_>,
     writer: &mut K,
     asked: &Make,
 ) -> Result<(), Stop> {
@@ -102,14 +102,14 @@ pub fn canon_library<K: Sink>(
     };
     let bytes = match read_input(rt, name.as_str()) {
         Ok(bytes) => bytes,
-        Err(error) => return Ok(shown.unread(name.as_str(), &error)?),
+        Err(error) => return Ok(told.unread(name.as_str(), &error)?),
     };
     let library = match read_library(rt.alloc(), &bytes)? {
         Ok(library) => library,
-        Err(fault) => return Ok(shown.fault(Fault::from(fault))?),
+        Err(fault) => return Ok(told.fault(Fault::from(fault))?),
     };
     match library.spans.end {
-        Err(fault) => Ok(shown.fault(Fault::from(fault))?),
-        Ok(_) => write_canonical(rt, shown, writer, asked, &library),
+        Err(fault) => Ok(told.fault(Fault::from(fault))?),
+        Ok(_) => write_canonical(rt, told, writer, asked, &library),
     }
 }

@@ -5,13 +5,14 @@ ghost use Rattle.omf_frame.specs.Bytes.{AddsText};
 ghost use Rattle.omf_lib.specs.Lines.{public_line};
 
 use crate::fault::Fault;
+use crate::imports::put_imports;
 use crate::library::{Library, member_of, page_of, read_library};
 use crate::members::{Member, Verdict, judge, name_of};
-use crate::shown::{Shown, Stop};
+use crate::shown::{Shown, Stop, Told};
 use crate::text::put_reason;
 use omf_check::Profile;
 use omf_frame::Sink;
-use omf_host::{Status, put_quoted};
+use omf_host::{Status, Streams, put_quoted};
 use omf_library::{Defined, Header, Kind, defined_names};
 use std::alloc::{AllocError, Global};
 use std::fmt::Write;
@@ -67,7 +68,7 @@ fn put_member(text: &mut String, header: Header, member: &Member<'_>) -> Result<
     put_quoted(text, name_of(bytes))
 }
 
-/// Appends the lines of a member: its own, and one for each public.
+/// Appends the lines of a member: its own, and one for each public and each import.
 fn list_member(
     shown: &mut Shown,
     profile: Profile,
@@ -80,7 +81,8 @@ fn list_member(
         Verdict::Accepted(module) => {
             shown.text.push('\n')?;
             let names = defined_names(alloc, &module)?;
-            put_publics(&mut shown.text, member.number, names.as_slice())
+            put_publics(&mut shown.text, member.number, names.as_slice())?;
+            put_imports(&mut shown.text, member.number, &module)
         }
         Verdict::Refused { reason, place } => {
             shown.raise(Status::Refused);
@@ -102,37 +104,39 @@ fn put_extended(text: &mut String, library: &Library<'_>) -> Result<(), AllocErr
     write!(text, "X {offset:08X} {length}\n")
 }
 
-/// Writes the lines of a library.
-fn list_library<K: Sink>(
-    shown: &mut Shown,
-    writer: &mut K,
+/// Writes the lines of a library, and those of a fault.
+fn list_library<K: Sink, E: Sink>(
+    told: &mut Told<'_>,
+    streams: &mut Streams<K, E>,
     profile: Profile,
     library: &Library<'_>,
 ) -> Result<(), Stop> {
-    put_header(&mut shown.text, library.header)?;
+    put_header(&mut told.shown.text, library.header)?;
     for (number, span) in library.spans.members.iter().enumerate() {
-        list_member(shown, profile, library, &member_of(number, span))?;
-        shown.flush(writer)?;
+        list_member(&mut told.shown, profile, library, &member_of(number, span))?;
+        told.flush(streams)?;
     }
-    put_extended(&mut shown.text, library)?;
+    put_extended(&mut told.shown.text, library)?;
+    told.flush(streams)?;
     if let Err(fault) = library.spans.end {
-        shown.fault(Fault::from(fault))?;
+        told.fault(Fault::from(fault))?;
     }
     Ok(())
 }
 
-/// Writes the list of a file: its header, its members, their publics; or why it is no library. Returns the status.
-pub fn list<K: Sink>(
+/// Writes the list of a file: its header, its members, their publics and imports; and on the standard error why it is no library. Returns the status.
+pub fn list<K: Sink, E: Sink>(
     alloc: Global,
-    writer: &mut K,
+    streams: &mut Streams<K, E>,
     profile: Profile,
+    name: &str,
     bytes: &[u8],
 ) -> Result<Status, Stop> {
-    let mut shown = Shown::new(alloc);
+    let mut told = Told::new(alloc, name);
     match read_library(alloc, bytes)? {
-        Ok(library) => list_library(&mut shown, writer, profile, &library)?,
-        Err(fault) => shown.fault(Fault::from(fault))?,
+        Ok(library) => list_library(&mut told, streams, profile, &library)?,
+        Err(fault) => told.fault(Fault::from(fault))?,
     }
-    shown.flush(writer)?;
-    Ok(shown.status)
+    told.flush(streams)?;
+    Ok(told.shown.status)
 }

@@ -8,6 +8,7 @@ mod canonical;
 mod fault;
 mod finding;
 mod host;
+mod imports;
 mod judging;
 mod library;
 mod listing;

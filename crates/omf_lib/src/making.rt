@@ -1,46 +1,99 @@
-//! The task `omf-lib make`: a library of modules; and what `canon` has in common with it.
+//! The task `omf-lib make`: a library of modules and of the members of libraries; and what `canon` has in common with it.
 
 use crate::asked::Make;
+use crate::fault::Fault;
+use crate::library::read_library;
 use crate::members::{Verdict, judge};
 use crate::names::is_same_name;
-use crate::shown::{Shown, Stop, send_bytes};
+use crate::shown::{Stop, Told, send_bytes};
 use crate::text::put_reason;
+use omf_check::Profile;
 use omf_frame::Sink;
 use omf_host::{Status, Written, put_name, put_quoted, read_input, write_new};
 use omf_library::{Defined, Kind, MakeFault, Part, make};
 use std::alloc::AllocError;
 use std::fmt::Write;
 
-/// Appends the line of a file that is refused.
-fn put_refused(shown: &mut Shown, name: &str, why: &Verdict) -> Result<(), AllocError> {
-    shown.raise(Status::Refused);
-    put_name(&mut shown.text, name.as_bytes())?;
-    shown.text.push_str(": refused")?;
+/// The first byte of a library.
+const LIBRARY_HEADER: u8 = 0xF0;
+
+/// Appends the line of a module that is refused.
+fn put_refused(told: &mut Told<'_>, name: &str, why: &Verdict) -> Result<(), AllocError> {
+    told.shown.raise(Status::Refused);
+    put_name(&mut told.faults, name.as_bytes())?;
+    told.faults.push_str(": refused")?;
     if let Verdict::Refused { reason, place } = why {
-        put_reason(&mut shown.text, *reason, *place)?;
+        put_reason(&mut told.faults, *reason, *place)?;
     }
-    shown.text.push('\n')
+    told.faults.push('\n')
 }
 
-/// Appends the part of a file; or a line, if it is no module or could not be read.
-fn push_part(
+/// The modules that become members, and what each is called: the name of its file; in a library also its number there.
+#[derive(Drop)]
+struct Given {
+    names: Vec<String>,
+    parts: Vec<Part>,
+}
+
+/// Appends a module; or a line, if it is refused.
+fn push_module(
+    told: &mut Told<'_>,
+    given: &mut Given,
+    profile: Profile,
+    name: String,
+    bytes: &[u8],
+) -> Result<(), AllocError> {
+    let alloc = *told.faults.allocator();
+    match judge(alloc, profile, bytes)? {
+        Verdict::Accepted(module) => {
+            given.parts.push(Part::new(alloc, &module)?)?;
+            given.names.push(name)?;
+            Ok(())
+        }
+        refused => put_refused(told, name.as_str(), &refused),
+    }
+}
+
+/// Appends the members of a library, in order; and lines on what is wrong with it.
+fn push_library(
+    told: &mut Told<'_>,
+    given: &mut Given,
+    profile: Profile,
+    name: &str,
+    bytes: &[u8],
+) -> Result<(), AllocError> {
+    let alloc = *told.faults.allocator();
+    let library = match read_library(alloc, bytes)? {
+        Ok(library) => library,
+        Err(fault) => return told.fault_of(name, Fault::from(fault)),
+    };
+    for (number, span) in library.spans.members.iter().enumerate() {
+        let member = format!(in alloc; "{name} member {number}")?;
+        push_module(told, given, profile, member, span.bytes)?;
+    }
+    match library.spans.end {
+        Ok(_) => Ok(()),
+        Err(fault) => told.fault_of(name, Fault::from(fault)),
+    }
+}
+
+/// Appends the module of a file, or the members of a library; or a line, if it is neither or could not be read.
+fn push_file(
     rt: &HostRuntime,
-    shown: &mut Shown,
-    parts: &mut Vec<Part>,
-    asked: &Make,
+    told: &mut Told<'_>,
+    given: &mut Given,
+    profile: Profile,
     name: &str,
 ) -> Result<(), AllocError> {
     let bytes = match read_input(rt, name) {
         Ok(bytes) => bytes,
-        Err(error) => return shown.unread(name, &error),
+        Err(error) => return told.unread(name, &error),
     };
-    match judge(rt.alloc(), asked.profile, &bytes)? {
-        Verdict::Accepted(module) => {
-            parts.push(Part::new(rt.alloc(), &module)?)?;
-            Ok(())
-        }
-        refused => put_refused(shown, name, &refused),
+    if bytes.first() == Some(&LIBRARY_HEADER) {
+        return push_library(told, given, profile, name, &bytes);
     }
+    let name = format!(in rt.alloc(); "{name}")?;
+    push_module(told, given, profile, name, &bytes)
 }
 
 /// Appends the name of a part.
@@ -100,7 +153,7 @@ fn put_twice(
 
 /// Appends the line of a fault.
 fn put_fault(
-    shown: &mut Shown,
+    told: &mut Told<'_>,
     asked: &Make,
     names: &[String],
     parts: &[Part],
@@ -114,19 +167,19 @@ fn put_fault(
             second,
             name,
         } => {
-            shown.raise(Status::Refused);
+            told.shown.raise(Status::Refused);
             if let (Some(one), Some(other)) = (parts.get(first), parts.get(second))
                 && let Some(twice) = twice_of(one, other, name)
             {
-                put_twice(&mut shown.text, names, twice, first, second)?;
+                put_twice(&mut told.faults, names, twice, first, second)?;
             }
         }
-        MakeFault::TooLarge => shown.refuse(output, "too large")?,
+        MakeFault::TooLarge => told.refuse(output, "too large")?,
         MakeFault::LongSearches => {
-            shown.refuse(output, "the searches for its names would be too long")?
+            told.refuse(output, "the searches for its names would be too long")?
         }
         MakeFault::Refused { .. } | MakeFault::Rest { .. } | MakeFault::Unlike => {
-            shown.refuse(output, "not read back as it was made")?
+            told.refuse(output, "not read back as it was made")?
         }
     }
     Ok(())
@@ -135,7 +188,7 @@ fn put_fault(
 /// Writes the library, and appends a line on it.
 fn write_library(
     rt: &HostRuntime,
-    shown: &mut Shown,
+    told: &mut Told<'_>,
     asked: &Make,
     count: usize,
     bytes: &[u8],
@@ -144,12 +197,12 @@ fn write_library(
     match write_new(rt, output, bytes)? {
         Written::Whole => {
             let length = bytes.len();
-            shown.text.push_str("wrote ")?;
-            put_name(&mut shown.text, output.as_bytes())?;
-            write!(&mut shown.text, " {length} bytes, {count} members\n")
+            told.shown.text.push_str("wrote ")?;
+            put_name(&mut told.shown.text, output.as_bytes())?;
+            write!(&mut told.shown.text, " {length} bytes, {count} members\n")
         }
-        Written::IsThere => shown.refuse(output, "it is there already"),
-        Written::Failed(error) => shown.unwritten(output, &error),
+        Written::IsThere => told.refuse(output, "it is there already"),
+        Written::Failed(error) => told.unwritten(output, &error),
     }
 }
 
@@ -164,7 +217,7 @@ pub struct Members<'a> {
 /// Makes a library of modules, and writes it; on the standard output if its name is `-`.
 pub fn write_members<K: Sink>(
     rt: &HostRuntime,
-    shown: &mut Shown,
+    told: &mut Told<'_>,
     writer: &mut K,
     asked: &Make,
     members: Members<'_>,
@@ -176,29 +229,33 @@ pub fn write_members<K: Sink>(
     } = members;
     match make(rt.alloc(), asked.profile, is_case_sensitive, parts) {
         Ok(bytes) if asked.output.as_str() == "-" => send_bytes(writer, &bytes),
-        Ok(bytes) => Ok(write_library(rt, shown, asked, parts.len(), &bytes)?),
-        Err(fault) => put_fault(shown, asked, names, parts, fault),
+        Ok(bytes) => Ok(write_library(rt, told, asked, parts.len(), &bytes)?),
+        Err(fault) => put_fault(told, asked, names, parts, fault),
     }
 }
 
-/// Makes a library of the files, in order. Nothing is written if a file is refused or could not be read.
+/// Makes a library of the files, in order: modules, and the members of libraries. Nothing is written if a file or a member
+/// is refused, or a file could not be read.
 pub fn make_library<K: Sink>(
     rt: &HostRuntime,
-    shown: &mut Shown,
+    told: &mut Told<'_>,
     writer: &mut K,
     asked: &Make,
 ) -> Result<(), Stop> {
-    let mut parts = Vec::new(rt.alloc());
+    let mut given = Given {
+        names: Vec::new(rt.alloc()),
+        parts: Vec::new(rt.alloc()),
+    };
     for name in asked.files.iter() {
-        push_part(rt, shown, &mut parts, asked, name.as_str())?;
+        push_file(rt, told, &mut given, asked.profile, name.as_str())?;
     }
-    if shown.status != Status::Done {
+    if told.shown.status != Status::Done {
         return Ok(());
     }
     let members = Members {
-        names: asked.files.as_slice(),
-        parts: parts.as_slice(),
+        names: given.names.as_slice(),
+        parts: given.parts.as_slice(),
         is_case_sensitive: !asked.ignores_case,
     };
-    write_members(rt, shown, writer, asked, members)
+    write_members(rt, told, writer, asked, members)
 }

@@ -7,7 +7,7 @@ ghost use Rattle.omf_lib.specs.Find.{refused_status};
 use crate::fault::Fault;
 use crate::text::put_fault;
 use omf_frame::Sink;
-use omf_host::{Status, put, put_failure, put_unread, put_unwritten};
+use omf_host::{Status, Streams, put, put_failure, put_name, put_unread, put_unwritten};
 use std::alloc::{AllocError, Global};
 use std::io;
 
@@ -74,28 +74,10 @@ impl Shown {
         self.status = self.status.worst(status);
     }
 
-    /// Appends the line of a fault.
+    /// Appends the line of a fault that is asked for.
     pub fn fault(&mut self, fault: Fault<'_>) -> Result<(), AllocError> {
         self.raise(Status::Refused);
         put_fault(&mut self.text, fault)
-    }
-
-    /// Appends the line of a name that is refused: `refused NAME: REASON`.
-    pub fn refuse(&mut self, name: &str, reason: &str) -> Result<(), AllocError> {
-        self.raise(Status::Refused);
-        put_failure(&mut self.text, "refused", name, reason)
-    }
-
-    /// Appends the line of a file that could not be read.
-    pub fn unread(&mut self, name: &str, error: &io::Error) -> Result<(), AllocError> {
-        self.raise(Status::Failed);
-        put_unread(&mut self.text, name, error)
-    }
-
-    /// Appends the line of a file that could not be written.
-    pub fn unwritten(&mut self, name: &str, error: &io::Error) -> Result<(), AllocError> {
-        self.raise(Status::Failed);
-        put_unwritten(&mut self.text, name, error)
     }
 
     /// Writes the text so far.
@@ -103,5 +85,66 @@ impl Shown {
         send(writer, self.text.as_str())?;
         self.text.clear();
         Ok(())
+    }
+}
+
+/// What a task shows of a library, and the lines of what is wrong.
+#[derive(Drop)]
+pub struct Told<'a> {
+    /// The library's name.
+    pub name: &'a str,
+    /// What goes on the output.
+    pub shown: Shown,
+    /// What goes on the standard error.
+    pub faults: String,
+}
+
+impl<'a> Told<'a> {
+    /// No text and no faults.
+    pub fn new(alloc: Global, name: &'a str) -> Told<'a> {
+        Told {
+            name,
+            shown: Shown::new(alloc),
+            faults: String::new(alloc),
+        }
+    }
+
+    /// Appends the line of a fault of a library: its name, and the fault.
+    pub fn fault_of(&mut self, name: &str, fault: Fault<'_>) -> Result<(), AllocError> {
+        self.shown.raise(Status::Refused);
+        put_name(&mut self.faults, name.as_bytes())?;
+        self.faults.push_str(": ")?;
+        put_fault(&mut self.faults, fault)
+    }
+
+    /// The same of the library that the task is about.
+    pub fn fault(&mut self, fault: Fault<'_>) -> Result<(), AllocError> {
+        self.fault_of(self.name, fault)
+    }
+
+    /// Appends the line of a name that is refused: `refused NAME: REASON`.
+    pub fn refuse(&mut self, name: &str, reason: &str) -> Result<(), AllocError> {
+        self.shown.raise(Status::Refused);
+        put_failure(&mut self.faults, "refused", name, reason)
+    }
+
+    /// Appends the line of a file that could not be read.
+    pub fn unread(&mut self, name: &str, error: &io::Error) -> Result<(), AllocError> {
+        self.shown.raise(Status::Failed);
+        put_unread(&mut self.faults, name, error)
+    }
+
+    /// Appends the line of a file that could not be written.
+    pub fn unwritten(&mut self, name: &str, error: &io::Error) -> Result<(), AllocError> {
+        self.shown.raise(Status::Failed);
+        put_unwritten(&mut self.faults, name, error)
+    }
+
+    /// Writes the lines of faults so far on the standard error, and the text so far on the output.
+    pub fn flush<K: Sink, E: Sink>(&mut self, streams: &mut Streams<K, E>) -> Result<(), Stop> {
+        let alloc = *self.faults.allocator();
+        streams.report(alloc, self.faults.as_bytes())?;
+        self.faults.clear();
+        self.shown.flush(&mut streams.output)
     }
 }

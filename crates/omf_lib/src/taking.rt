@@ -5,33 +5,36 @@ use crate::fault::Fault;
 use crate::library::{Library, member_of, read_library};
 use crate::members::Member;
 use crate::naming::{is_named, is_outside, path_of, shown_name};
-use crate::shown::{Shown, Stop};
+use crate::shown::{Stop, Told};
 use omf_frame::Sink;
-use omf_host::{Status, Written, write_new};
+use omf_host::{Status, Streams, Written, write_new};
 use std::alloc::{AllocError, Global};
 use std::fmt::Write;
 
 /// Writes a member's file, and appends a line on it.
 fn take(
     rt: &HostRuntime,
-    shown: &mut Shown,
+    told: &mut Told<'_>,
     folder: &str,
     name: &str,
     member: &Member<'_>,
 ) -> Result<(), AllocError> {
     let length = member.bytes.len();
     if is_outside(name) {
-        shown.raise(Status::Refused);
-        return write!(&mut shown.text, "refused {name}.obj: outside the folder\n");
+        told.shown.raise(Status::Refused);
+        return write!(&mut told.faults, "refused {name}.obj: outside the folder\n");
     }
     let path = path_of(rt.alloc(), folder, name)?;
     match write_new(rt, path.as_str(), member.bytes)? {
-        Written::Whole => write!(&mut shown.text, "wrote {name}.obj {length}\n"),
+        Written::Whole => write!(&mut told.shown.text, "wrote {name}.obj {length}\n"),
         Written::IsThere => {
-            shown.raise(Status::Refused);
-            write!(&mut shown.text, "refused {name}.obj: it is there already\n")
+            told.shown.raise(Status::Refused);
+            write!(
+                &mut told.faults,
+                "refused {name}.obj: it is there already\n"
+            )
         }
-        Written::Failed(error) => shown.unwritten(path.as_str(), &error),
+        Written::Failed(error) => told.unwritten(path.as_str(), &error),
     }
 }
 
@@ -53,10 +56,10 @@ fn file_name(alloc: Global, get: &Get, number: usize, name: String) -> Result<St
 }
 
 /// Takes the members that are asked for, in the order of the library.
-fn take_members<K: Sink>(
+fn take_members<K: Sink, E: Sink>(
     rt: &HostRuntime,
-    shown: &mut Shown,
-    writer: &mut K,
+    told: &mut Told<'_>,
+    streams: &mut Streams<K, E>,
     get: &Get,
     library: &Library<'_>,
 ) -> Result<(), Stop> {
@@ -65,8 +68,8 @@ fn take_members<K: Sink>(
         let name = shown_name(rt.alloc(), &member)?;
         if is_asked(get, number, name.as_str()) {
             let name = file_name(rt.alloc(), get, number, name)?;
-            take(rt, shown, get.folder.as_str(), name.as_str(), &member)?;
-            shown.flush(writer)?;
+            take(rt, told, get.folder.as_str(), name.as_str(), &member)?;
+            told.flush(streams)?;
         }
     }
     Ok(())
@@ -86,35 +89,35 @@ fn names_member(alloc: Global, library: &Library<'_>, argument: &str) -> Result<
 /// Appends a line for each argument that names no member.
 fn put_unnamed(
     alloc: Global,
-    shown: &mut Shown,
+    told: &mut Told<'_>,
     get: &Get,
     library: &Library<'_>,
 ) -> Result<(), AllocError> {
     for argument in get.members.iter() {
         if !names_member(alloc, library, argument.as_str())? {
-            shown.refuse(argument.as_str(), "no such member")?;
+            told.refuse(argument.as_str(), "no such member")?;
         }
     }
     Ok(())
 }
 
 /// Takes members out of a file, with a line for each. If it is no library, no file is written.
-pub fn get<K: Sink>(
+pub fn get<K: Sink, E: Sink>(
     rt: &HostRuntime,
-    shown: &mut Shown,
-    writer: &mut K,
+    told: &mut Told<'_>,
+    streams: &mut Streams<K, E>,
     get: &Get,
     bytes: &[u8],
 ) -> Result<(), Stop> {
     let library = match read_library(rt.alloc(), bytes)? {
         Ok(library) => library,
-        Err(fault) => return Ok(shown.fault(Fault::from(fault))?),
+        Err(fault) => return Ok(told.fault(Fault::from(fault))?),
     };
     match library.spans.end {
-        Err(fault) => Ok(shown.fault(Fault::from(fault))?),
+        Err(fault) => Ok(told.fault(Fault::from(fault))?),
         Ok(_) => {
-            put_unnamed(rt.alloc(), shown, get, &library)?;
-            take_members(rt, shown, writer, get, &library)
+            put_unnamed(rt.alloc(), told, get, &library)?;
+            take_members(rt, told, streams, get, &library)
         }
     }
 }
