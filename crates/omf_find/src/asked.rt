@@ -1,7 +1,8 @@
 //! The arguments of `omf-find`.
 
+use crate::fields::Format;
 use omf_check::Profile;
-use omf_placement::hexadecimal;
+use omf_host::number;
 use std::alloc::{AllocError, Global};
 
 /// The tools for which symbols are written.
@@ -59,6 +60,14 @@ impl Asked {
             files: Vec::new(alloc),
         }
     }
+
+    /// The form of faults: objects in JSON, else lines.
+    pub fn format(&self) -> Format {
+        match self.output {
+            Output::Json => Format::Json,
+            Output::Text | Output::Symbols(_) => Format::Text,
+        }
+    }
 }
 
 /// What one argument is.
@@ -109,14 +118,14 @@ fn tool_of(argument: &str) -> Option<Tool> {
     }
 }
 
-/// The address that an argument is: hexadecimal digits.
+/// The address that an argument is: hexadecimal digits, alone, after `0x` or before an H.
 fn address_of(argument: &str) -> Option<u32> {
-    hexadecimal(argument.as_bytes(), 8)
+    number(argument.as_bytes(), 8)
 }
 
-/// The selector that an argument is: hexadecimal digits.
+/// The selector that an argument is: hexadecimal digits, as those of an address.
 fn selector_of(argument: &str) -> Option<u16> {
-    let number = hexadecimal(argument.as_bytes(), 4)?;
+    let number = number(argument.as_bytes(), 4)?;
     u16::try_from(number).ok()
 }
 

@@ -8,7 +8,7 @@ ghost use Rattle.omf_find.specs.Symbols.{usual_load};
 
 use crate::asked::{Asked, Output, Tool, read_arguments};
 use crate::fields::Format;
-use crate::lines::{fault_line, note_line};
+use crate::lines::{fault_line, fault_object, left_out_objects, note_line};
 use crate::loading::{Kind, LoadFault, Loaded, load};
 use crate::reading::Gathered;
 use crate::report::{Shown, map_text};
@@ -17,8 +17,8 @@ use crate::symbols::{symbols_text, usual_load};
 use omf_finding::{FindOptions, Findings, find};
 use omf_frame::{Sink, Writing};
 use omf_host::{
-    About, Status, arguments, end, explain, misused, misused_by, out_of_memory, put, put_unread,
-    question_in, read_input,
+    About, StandardOutput, Status, Streams, arguments, end, explain, misused_by, out_of_memory,
+    put, put_unread, question_in, read_input, warn,
 };
 use std::alloc::{AllocError, Global};
 use std::io;
@@ -27,16 +27,15 @@ use std::process::ExitCode;
 /// What the program shows of itself.
 const ABOUT: About = About {
     name: "omf-find",
-    usage: "usage: omf-find [--symbols TOOL] [--load ADDRESS] [--json] [--possible]
-       [--least N] [--base ADDRESS] [--frame SELECTOR]
-       [--refuse-vendor-comments] PROGRAM FILE ..
+    usage: "usage: omf-find [--symbols ghidra|ida|r2|nm] [--load ADDRESS] [--json]
+           [--possible] [--least N] [--base ADDRESS] [--frame SELECTOR ..]
+           [--refuse-vendor-comments] PROGRAM FILE ..
 ",
     details: "
 Finds the modules of object files (.OBJ) and libraries (.LIB) in a DOS program
 (.EXE, .COM) or in a raw image, and prints where their segments and names are.
 
-  --symbols TOOL            only the names, as a tool imports them: ghidra, ida,
-                            r2 or nm
+  --symbols TOOL            only the names, as this tool imports them
   --load ADDRESS            add this to the addresses of symbols, in place of
                             10000 for ghidra and ida where they load an .EXE
   --json                    one object of JSON on each line
@@ -48,18 +47,33 @@ Finds the modules of object files (.OBJ) and libraries (.LIB) in a DOS program
                             without it, that of its first byte
   --refuse-vendor-comments  refuse comments of the classes C0H to FFH
 
-Addresses and selectors are hexadecimal. omf-find(1) and docs/FIND.md have more.
+Addresses and selectors are hexadecimal: 1000, 0x1000 and 1000H are one. @FILE
+is the words of a file, and -- ends the options. omf-find(1) and docs/FIND.md have
+more.
 ",
 };
 
-/// The line for a file that could not be read.
-fn unread(alloc: Global, name: &str, error: &io::Error) -> Result<Vec<u8>, AllocError> {
-    let mut line = String::new(alloc);
-    put_unread(&mut line, name, error)?;
-    Ok(line.into_bytes())
+/// The line for a file that could not be read, or in JSON the object.
+fn unread(
+    alloc: Global,
+    format: Format,
+    name: &str,
+    error: &io::Error,
+) -> Result<Vec<u8>, AllocError> {
+    match format {
+        Format::Text => {
+            let mut line = String::new(alloc);
+            put_unread(&mut line, name, error)?;
+            Ok(line.into_bytes())
+        }
+        Format::Json => {
+            let reason = format!(in alloc; "{error}")?;
+            fault_object(alloc, "read", name, reason.as_str())
+        }
+    }
 }
 
-/// Why nothing is searched: the line to write, and the status.
+/// Why nothing is searched: the line or the object to write, and the status.
 #[derive(Drop)]
 struct Refusal {
     line: Vec<u8>,
@@ -67,11 +81,15 @@ struct Refusal {
 }
 
 /// The bytes of a file; or why it could not be read.
-fn bytes_of(rt: &HostRuntime, name: &str) -> Result<Result<Vec<u8>, Refusal>, AllocError> {
+fn bytes_of(
+    rt: &HostRuntime,
+    format: Format,
+    name: &str,
+) -> Result<Result<Vec<u8>, Refusal>, AllocError> {
     match read_input(rt, name) {
         Ok(bytes) => Ok(Ok(bytes)),
         Err(error) => Ok(Err(Refusal {
-            line: unread(rt.alloc(), name, &error)?,
+            line: unread(rt.alloc(), format, name, &error)?,
             status: Status::Failed,
         })),
     }
@@ -95,7 +113,8 @@ fn program_of(
     asked: &Asked,
     name: &str,
 ) -> Result<Result<Loaded, Refusal>, AllocError> {
-    let file = match bytes_of(rt, name)? {
+    let format = asked.format();
+    let file = match bytes_of(rt, format, name)? {
         Ok(file) => file,
         Err(refusal) => return Ok(Err(refusal)),
     };
@@ -104,7 +123,7 @@ fn program_of(
         Ok(loaded) => Ok(Ok(loaded)),
         Err(LoadFault::Memory) => Err(AllocError),
         Err(fault) => Ok(Err(Refusal {
-            line: fault_line(rt.alloc(), name, fault)?,
+            line: fault_line(rt.alloc(), format, name, fault)?,
             status: Status::Refused,
         })),
     }
@@ -118,7 +137,7 @@ fn modules_of(
 ) -> Result<Result<Gathered, Refusal>, AllocError> {
     let mut gathered = Gathered::new(rt.alloc());
     for (number, name) in files.iter().enumerate() {
-        match bytes_of(rt, name.as_str())? {
+        match bytes_of(rt, asked.format(), name.as_str())? {
             Ok(bytes) => gathered.take_file(asked.profile, number, name.as_str(), &bytes)?,
             Err(refusal) => return Ok(Err(refusal)),
         }
@@ -180,88 +199,138 @@ fn search<K: Sink>(
     Ok(put(writer, &text))
 }
 
-/// Writes the notes on the program and on what is left out of the files to the standard error. Returns the status.
-fn note(
-    rt: &HostRuntime,
+/// Writes lines of warnings on the standard error, or objects on the output. Returns the status.
+fn tell<K: Sink, E: Sink>(
+    alloc: Global,
+    streams: &mut Streams<K, E>,
+    format: Format,
+    text: &[u8],
+) -> Status {
+    match format {
+        Format::Text => warn(alloc, streams, text),
+        Format::Json => put(&mut streams.output, text),
+    }
+}
+
+/// Writes the note on a program that is packed. Returns the status.
+fn note_packer<K: Sink, E: Sink>(
+    alloc: Global,
+    streams: &mut Streams<K, E>,
+    format: Format,
     name: &str,
     loaded: &Loaded,
-    gathered: &Gathered,
 ) -> Result<Status, AllocError> {
-    if let Some(packer) = loaded.packer {
-        let line = note_line(rt.alloc(), name, packer)?;
-        let _ = eprint!(rt; "{line}");
+    let Some(packer) = loaded.packer else {
+        return Ok(Status::Done);
+    };
+    let text = note_line(alloc, format, name, packer)?;
+    Ok(tell(alloc, streams, format, &text))
+}
+
+/// Writes what is left out of the files. Returns the status.
+fn note_left_out<K: Sink, E: Sink>(
+    alloc: Global,
+    streams: &mut Streams<K, E>,
+    format: Format,
+    lines: &str,
+) -> Result<Status, AllocError> {
+    if lines.is_empty() {
+        return Ok(Status::Done);
     }
-    let left_out = gathered.left_out.as_str();
-    let _ = eprint!(rt; "{left_out}");
-    if left_out.is_empty() {
-        Ok(Status::Done)
-    } else {
-        Ok(Status::Refused)
-    }
+    let told = match format {
+        Format::Text => tell(alloc, streams, format, lines.as_bytes()),
+        Format::Json => {
+            let objects = left_out_objects(alloc, lines)?;
+            tell(alloc, streams, format, &objects)
+        }
+    };
+    Ok(told.worst(Status::Refused))
 }
 
 /// Writes why nothing is searched. Returns the status.
-fn refuse<K: Sink>(writer: &mut K, refusal: &Refusal) -> Status {
-    refusal.status.worst(put(writer, &refusal.line))
+fn refuse<K: Sink, E: Sink>(
+    alloc: Global,
+    streams: &mut Streams<K, E>,
+    format: Format,
+    refusal: &Refusal,
+) -> Status {
+    refusal
+        .status
+        .worst(tell(alloc, streams, format, &refusal.line))
 }
 
 /// Searches a program for the modules of files. Returns the status.
-fn act_on<K: Sink>(
+fn act_on<K: Sink, E: Sink>(
     rt: &HostRuntime,
-    writer: &mut K,
+    streams: &mut Streams<K, E>,
     asked: &Asked,
     name: &str,
     files: &[String],
 ) -> Result<Status, AllocError> {
+    let format = asked.format();
     let loaded = match program_of(rt, asked, name)? {
         Ok(loaded) => loaded,
-        Err(refusal) => return Ok(refuse(writer, &refusal)),
+        Err(refusal) => return Ok(refuse(rt.alloc(), streams, format, &refusal)),
     };
     let gathered = match modules_of(rt, asked, files)? {
         Ok(gathered) => gathered,
-        Err(refusal) => return Ok(refuse(writer, &refusal)),
+        Err(refusal) => return Ok(refuse(rt.alloc(), streams, format, &refusal)),
     };
-    let noted = note(rt, name, &loaded, &gathered)?;
+    let noted = note_packer(rt.alloc(), streams, format, name, &loaded)?;
+    let left_out = gathered.left_out.as_str();
+    let noted = note_left_out(rt.alloc(), streams, format, left_out)?.worst(noted);
     let source = Source {
         files,
         gathered: &gathered,
     };
-    let status = search(rt.alloc(), writer, asked, &loaded, source)?;
+    let status = search(rt.alloc(), &mut streams.output, asked, &loaded, source)?;
     Ok(status.worst(noted))
 }
 
-/// Writes that a file is missing after the program. Returns `Misused`.
-fn without_file<K: Sink>(rt: &HostRuntime, writer: &mut K) -> Status {
-    let _ = eprint!(rt; "omf-find: there is no \"FILE\"\n");
-    let about = &ABOUT;
-    misused(writer, about.usage.as_bytes())
+/// Writes that memory ran out: a line on the standard error, or in JSON an object on the output. Returns `Failed`.
+fn tell_memory<K: Sink, E: Sink>(streams: &mut Streams<K, E>, format: Format) -> Status {
+    match format {
+        Format::Text => out_of_memory(streams),
+        Format::Json => {
+            let _ = put(&mut streams.output, b"{\"fault\":\"memory\"}\n");
+            Status::Failed
+        }
+    }
 }
 
 /// Does what the arguments ask for. Returns the status.
-fn act<K: Sink>(rt: &HostRuntime, writer: &mut K) -> Result<Status, AllocError> {
-    let Some(words) = arguments(rt)? else {
-        return misused_by(rt, writer, &ABOUT);
+fn act<K: Sink, E: Sink>(
+    rt: &HostRuntime,
+    streams: &mut Streams<K, E>,
+) -> Result<Status, AllocError> {
+    let about = &ABOUT;
+    let Some(words) = arguments(rt, about.usage)? else {
+        return misused_by(rt, streams, about);
     };
     if let Some(question) = question_in(&words) {
-        return explain(rt.alloc(), writer, question, &ABOUT);
+        return explain(rt.alloc(), &mut streams.output, question, &ABOUT);
     }
     let Some(asked) = read_arguments(rt.alloc(), words)? else {
-        return misused_by(rt, writer, &ABOUT);
+        return misused_by(rt, streams, &ABOUT);
     };
     match asked.files.as_slice() {
-        [] => misused_by(rt, writer, &ABOUT),
-        [_] => Ok(without_file(rt, writer)),
-        [program, files @ ..] => act_on(rt, writer, &asked, program.as_str(), files),
+        [] | [_] => misused_by(rt, streams, &ABOUT),
+        [program, files @ ..] => match act_on(rt, streams, &asked, program.as_str(), files) {
+            Ok(status) => Ok(status),
+            Err(AllocError) => Ok(tell_memory(streams, asked.format())),
+        },
     }
 }
 
 /// Runs the program. Returns the exit status: 0 done, 1 the program or a part of a file is refused, 2 the arguments are not understood, 3 a file
 /// could not be read, the output could not be written, or memory ran out.
 pub fn run(rt: &HostRuntime) -> ExitCode {
-    let mut output = Writing::new(rt.stdout());
-    let status = match act(rt, &mut output) {
+    let about = &ABOUT;
+    let output = StandardOutput::new(rt.stdout());
+    let mut streams = Streams::new(about.name, output, Writing::new(rt.stderr()));
+    let status = match act(rt, &mut streams) {
         Ok(status) => status,
-        Err(AllocError) => out_of_memory(&mut output),
+        Err(AllocError) => out_of_memory(&mut streams),
     };
-    end(&mut output, status)
+    end(rt.alloc(), &mut streams, status)
 }

@@ -85,6 +85,7 @@ fn why_word(why: Why) -> &'static str {
         Why::SameBytes(_) => "same-bytes",
         Why::Disagrees => "reference-disagrees",
         Why::OpenBytes => "fixup-disagrees",
+        Why::ManyPlaces => "many-places",
     }
 }
 
@@ -104,6 +105,24 @@ fn put_place(
     close(text, format)
 }
 
+/// Appends the line of a segment that may be at other places too.
+fn put_more(
+    text: &mut Vec<u8>,
+    format: Format,
+    source: Source<'_>,
+    module: usize,
+    candidate: &Candidate,
+) -> Result<(), AllocError> {
+    match format {
+        Format::Text => text.extend_from_slice(b"more")?,
+        Format::Json => text.extend_from_slice(b"{\"more\":true")?,
+    }
+    word(text, format, "why", why_word(candidate.why))?;
+    source.put_origin(text, format, module)?;
+    source.put_segment(text, format, module, candidate.segment)?;
+    close(text, format)
+}
+
 /// Appends the lines of the possible places of a segment.
 fn put_candidate(
     text: &mut Vec<u8>,
@@ -115,7 +134,11 @@ fn put_candidate(
     for place in &candidate.addresses {
         put_place(text, format, source, module, candidate, *place)?;
     }
-    Ok(())
+    if candidate.more {
+        put_more(text, format, source, module, candidate)
+    } else {
+        Ok(())
+    }
 }
 
 /// Appends the lines of the possible places of segments.

@@ -35,7 +35,7 @@ get-begins (c ∷ bytes) (x ∷ xs) h =
     let p : c ≡ x = cc in
     and_from (same c x) (pointwise same bytes (take (length bytes) xs)) (eq-eqb c x p) (get-begins bytes xs (λ i b e. h (suc i) b e))
 
-get-drop : (n i : ℕ) (xs : List ℕ) → slice_get (drop n xs) i ≡ slice_get xs (n + i)
+pub get-drop : (n i : ℕ) (xs : List ℕ) → slice_get (drop n xs) i ≡ slice_get xs (n + i)
 get-drop zero i xs = let e : i ≡ 0 + i = omega arith in ap (slice_get xs) e
 get-drop (suc n) i [] = refl
 get-drop (suc n) i (x ∷ xs) = let e : suc (n + i) ≡ suc n + i = omega arith in get-drop n i xs ∙ ap (slice_get (x ∷ xs)) e

@@ -54,7 +54,7 @@ module _ (pl : Places) (m : List Rec) (holds : ModuleHolds profile_limits m) whe
       (each-defined segment x ls (All-tail InSegment l ls h))
 
   -- A byte of the image is in a segment of the module.
-  segment-defined : (segment x b : ℕ) → image profile_limits pl m segment x ≡ Some b → is_defined (length (segments m)) segment ≡ true
+  pub segment-defined : (segment x b : ℕ) → image profile_limits pl m segment x ≡ Some b → is_defined (length (segments m)) segment ≡ true
   segment-defined segment x b e =
       from-some (is_defined (length (segments m)) segment ≡ true) segment x (laid profile_limits pl (pieces m)) None (λ n. absurd cc)
       (each-defined segment x (laid profile_limits pl (pieces m)) (all-inside pl m holds).each_piece) (is-some (image profile_limits pl m segment x) b e)

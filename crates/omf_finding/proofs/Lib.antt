@@ -10,3 +10,9 @@ pub mod SaidLaws
 pub mod AmongLaws
 mod TellingLaws
 mod CompareLaws
+pub mod IntervalLaws
+pub mod AgreesLaws
+pub mod RareLaws
+pub mod WindowLaws
+pub mod ShapeLaws
+pub mod CandidateLaws

@@ -1,6 +1,6 @@
 -- The bytes of data records and the marks of their fixups, laid in file order, are the pattern.
 use Rattle.std.proofs.Common.{◌≡◌, inl, inr, ℕ, zero, suc, ◌+◌, ◌-◌, ◌<◌, ◌≤◌, Bool, true, false, cond, List, [], ◌∷◌, ◌++◌, append_assoc, length, refl, sym, ap, ap₂, subst, ◌∙◌, arith}
-use Rattle.std.specs.Prelude.{All, map, flat_map, replicate, Option, Some, None, option_map, is_some, slice_get, nat_le, nat_lt, ◌==◌, ◌&&◌, ◌||◌}
+use Rattle.std.specs.Prelude.{All, map, flat_map, replicate, Option, Some, None, IsSome, option_map, is_some, slice_get, nat_le, nat_lt, ◌==◌, ◌&&◌, ◌||◌}
 use Rattle.std.specs.Option.{option_or}
 use Rattle.std.proofs.lemmas.Bool.{le-leb}
 use Rattle.std.proofs.lemmas.Bool.Decides.{leb_tells}
@@ -227,3 +227,64 @@ marks-are-pattern m holds segment x =
     ap₂ (λ a b. byte_with (byte_at a segment x) (byte_at b segment x)) (raws (single_pieces m)) (all-marks None (single_pieces m))
     ∙ all-records segment x (unplaced profile_limits (single_pieces m)) None None None (subst (All Inside) (sym (unplaced-same profile_limits (pieces m))) (all-inside m holds)) refl
     ∙ ap (λ us. pattern_at us segment x) (unplaced-same profile_limits (pieces m))
+
+-- ---- there are marks exactly where there are bytes
+
+or-some : (o k : Option ℕ) → IsSome k → IsSome (option_or o k)
+or-some None k h = h
+or-some (Some v) k h = refl
+
+kept-some : (f : Laid → Option ℕ) (ls : List Laid) (k : Option ℕ) → IsSome k → IsSome (last_from f k ls)
+kept-some f [] k h = h
+kept-some f (l ∷ ls) k h = subst IsSome (sym (last-cons f k l ls)) (kept-some f ls (option_or (f l) k) (or-some (f l) k h))
+
+zeroed : (b o k : Option ℕ) → (IsSome o → IsSome k) → IsSome (option_or b o) → IsSome (option_or (option_map to_zero b) k)
+zeroed None o k h e = h e
+zeroed (Some v) o k h e = refl
+
+module _ (segment x : ℕ) where
+  marks-begun : (u : Unplaced) (k : Option ℕ) → last_from (byte_of segment x) k (marks_with u) ≡ last_from (byte_of segment x) (option_or (option_map to_zero (byte_of segment x u.laid)) k) (marks_for (place_of u.laid) u.fixups)
+  marks-begun u k =
+      last-cons (byte_of segment x) k (unmarked u.laid) (marks_for (place_of u.laid) u.fixups)
+      ∙ ap (λ z. last_from (byte_of segment x) (option_or z k) (marks_for (place_of u.laid) u.fixups)) (zero-of segment x u.laid)
+
+  record-covers : (u : Unplaced) (o k : Option ℕ) → (IsSome o → IsSome k) → IsSome (option_or (byte_of segment x u.laid) o) → IsSome (last_from (byte_of segment x) k (marks_with u))
+  record-covers u o k h e =
+      subst IsSome (sym (marks-begun u k))
+      (kept-some (byte_of segment x) (marks_for (place_of u.laid) u.fixups) (option_or (option_map to_zero (byte_of segment x u.laid)) k) (zeroed (byte_of segment x u.laid) o k h e))
+
+  record-marked : (u : Unplaced) (o k : Option ℕ) → Inside u → (IsSome k → IsSome o) → IsSome (last_from (byte_of segment x) k (marks_with u)) → IsSome (option_or (byte_of segment x u.laid) o)
+  record-marked u o k inside h s = by (byte_of segment x u.laid) refl
+    where
+      by : (b : Option ℕ) → byte_of segment x u.laid ≡ b → IsSome (option_or (byte_of segment x u.laid) o)
+      by (Some v) e = subst (λ z. IsSome (option_or z o)) (sym e) refl
+      by None e =
+          let same : last_from (byte_of segment x) k (marks_with u) ≡ k =
+          marks-begun u k ∙ ap (λ z. last_from (byte_of segment x) (option_or (option_map to_zero z) k) (marks_for (place_of u.laid) u.fixups)) e ∙ fold-none segment x u.laid u.fixups k inside (ap is_some e) in
+          subst (λ z. IsSome (option_or z o)) (sym e) (h (subst IsSome same s))
+
+  all-covered : (us : List Unplaced) (o k : Option ℕ) → (IsSome o → IsSome k) → IsSome (last_from (byte_of segment x) o (map (λ u. u.laid) us)) → IsSome (last_from (byte_of segment x) k (flat_map marks_with us))
+  all-covered [] o k h e = h e
+  all-covered (u ∷ us) o k h e =
+      subst IsSome (sym (last-append (byte_of segment x) k (marks_with u) (flat_map marks_with us)))
+      (all-covered us (option_or (byte_of segment x u.laid) o) (last_from (byte_of segment x) k (marks_with u)) (record-covers u o k h)
+      (subst IsSome (last-cons (byte_of segment x) o u.laid (map (λ u. u.laid) us)) e))
+
+  all-marked : (us : List Unplaced) (o k : Option ℕ) → All Inside us → (IsSome k → IsSome o) → IsSome (last_from (byte_of segment x) k (flat_map marks_with us)) → IsSome (last_from (byte_of segment x) o (map (λ u. u.laid) us))
+  all-marked [] o k a h e = h e
+  all-marked (u ∷ us) o k a h e =
+      subst IsSome (sym (last-cons (byte_of segment x) o u.laid (map (λ u. u.laid) us)))
+      (all-marked us (option_or (byte_of segment x u.laid) o) (last_from (byte_of segment x) k (marks_with u)) (All-tail Inside u us a) (record-marked u o k (All-head Inside u us a) h)
+      (subst IsSome (last-append (byte_of segment x) k (marks_with u) (flat_map marks_with us)) e))
+
+module _ (m : List Rec) (segment x : ℕ) where
+  pub marks-cover : IsSome (byte_at (flat_map raw_of (single_pieces m)) segment x) → IsSome (byte_at (all_marks None (single_pieces m)) segment x)
+  marks-cover e =
+      subst (λ ls. IsSome (byte_at ls segment x)) (sym (all-marks None (single_pieces m)))
+      (all-covered segment x (unplaced profile_limits (single_pieces m)) None None (λ h. h) (subst (λ ls. IsSome (byte_at ls segment x)) (raws (single_pieces m)) e))
+
+  pub marks-only : ModuleHolds profile_limits m → IsSome (byte_at (all_marks None (single_pieces m)) segment x) → IsSome (byte_at (flat_map raw_of (single_pieces m)) segment x)
+  marks-only holds e =
+      subst (λ ls. IsSome (byte_at ls segment x)) (sym (raws (single_pieces m)))
+      (all-marked segment x (unplaced profile_limits (single_pieces m)) None None (subst (All Inside) (sym (unplaced-same profile_limits (pieces m))) (all-inside m holds)) (λ h. h)
+      (subst (λ ls. IsSome (byte_at ls segment x)) (all-marks None (single_pieces m)) e))

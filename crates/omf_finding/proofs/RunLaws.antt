@@ -1,9 +1,9 @@
 -- The bytes of a run of a pattern; and a module that is in a program is found at the places of its pattern.
 use Rattle.std.proofs.Common.{◌≡◌, inl, inr, ℕ, zero, suc, ◌+◌, ◌-◌, ◌<◌, ◌≤◌, Bool, true, false, cond, List, [], ◌∷◌, ◌++◌, length, drop, refl, sym, ap, ap₂, subst, ◌∙◌, arith}
-use Rattle.std.specs.Prelude.{Option, Some, None, is_some, slice_get, nat_le, Contains, filter}
+use Rattle.std.specs.Prelude.{Option, Some, None, is_some, slice_get, nat_le, ◌==◌, Contains, filter}
 use Rattle.std.specs.List.{range_with_len, list_all, zip}
 use Rattle.std.specs.Option.{option_and_then}
-use Rattle.std.proofs.lemmas.Bool.{le-leb, and_from, eq-eqb}
+use Rattle.std.proofs.lemmas.Bool.{le-leb, and_from, eq-eqb, eqb-true}
 use Rattle.std.proofs.lemmas.Bool.Decides.{leb_tells}
 use Rattle.std.proofs.lemmas.List.{length-drop}
 use Rattle.std.proofs.lemmas.List.FromFn.{map-range_with_len_more, length-map-range_with_len}
@@ -19,13 +19,15 @@ use Rattle.omf_check.specs.Tables.{entry}
 use Rattle.omf_placement.specs.Placement.{Places}
 use Rattle.omf_placement.specs.declared.frame.Placed.{Placed}
 use Rattle.omf_reloc.specs.Image.{image}
+use Rattle.omf_finding.specs.Agrees.{Agrees}
 use Rattle.omf_finding.specs.Found.{program_byte, IsFound}
-use Rattle.omf_finding.specs.Laws.{HasPattern, LiesAtItsPlace, FoundAreListed}
+use Rattle.omf_finding.specs.Laws.{HasPattern, LiesAtItsPlace, FoundAgree, FoundAreListed}
 use Rattle.omf_finding.specs.Pattern.{pattern}
 use Rattle.omf_finding.specs.Places.{agrees, lies_at}
 use Rattle.omf_finding.specs.Run.{closed_byte, cells, IsPatternRun}
 use Rattle.omf_finding.specs.declared.patterning.PatternByte.{PatternByte}
 use Rattle.omf_finding.specs.Inner.Walking.{Marks, byte_in}
+use Rattle.omf_finding.proofs.AgreesLaws.{closed-some, some-is}
 use Rattle.omf_finding.proofs.FoundLaws.{below-base, from-drop}
 use Rattle.omf_finding.proofs.PatternLaws.{have-pattern}
 
@@ -140,6 +142,18 @@ module _ (m : List Rec) (pl : Places) (absent program : List ℕ) (base : ℕ) (
             (and_from (nat_le (start - base + length (cells byte first n)) (length program)) (list_all (λ p. agrees p.0 p.1) (zip (cells byte first n) (drop (start - base) program)))
             (le-leb (start - base + length (cells byte first n)) (length program) ends) (all-meet byte first n (drop (start - base) program) each));
       }
+
+  pub agrees-there : Agrees byte program base place.address
+  agrees-there = record {
+    inside = λ x some. let got = meets x some in some-is (program_byte program base (place.address + x)) got.value got.is;
+    closed = λ x b e.
+        let got = meets x (closed-some (byte x) (some-is (closed_byte (byte x)) b e)) in
+        let same : (b == got.value) ≡ true = sym (ap (λ (o : Option ℕ). agrees o got.value) e) ∙ got.agree in
+        got.is ∙ ap Some (sym (eqb-true b got.value same));
+  }
+
+pub found-agree : FoundAgree
+found-agree m pl absent program base segment place holds found none at = agrees-there m pl absent program base holds found segment none place at
 
 pub found-listed : FoundAreListed
 found-listed m pl absent program base segment first len place holds found none at some covered = lies-listed m pl absent program base holds found segment none place at first len some covered

@@ -1,6 +1,6 @@
 -- What is known during the walk that makes a pattern: the pieces so far, and the pieces that are left, are all.
 use Rattle.std.proofs.Common.{◌≡◌, ℕ, List, [], ◌∷◌, length, refl, sym, ap, ap₂, subst, ◌∙◌, arith}
-use Rattle.std.specs.Prelude.{flat_map, Option, Some, None, IfSome}
+use Rattle.std.specs.Prelude.{flat_map, Option, Some, None, IfSome, IsSome}
 use Rattle.omf_records.specs.Values.{Rec, Contents, Names, Plain, Iterated, DataItem}
 use Rattle.omf_image.specs.Limits.{profile_limits}
 use Rattle.omf_image.specs.Overlay.{Laid, byte_at, AreLaidOver}
@@ -15,7 +15,8 @@ use Rattle.omf_reloc.proofs.WalkLaws.{length-short}
 use Rattle.omf_reloc.proofs.WalkedLaws.{laid-on}
 use Rattle.omf_finding.specs.Pattern.{pattern}
 use Rattle.omf_finding.specs.Inner.Walking.{Walk, byte_with, raw_of, marks_of, all_marks, IsNext, CanTake, CanMark}
-use Rattle.omf_finding.proofs.MarkLaws.{marks-are-pattern}
+use Rattle.omf_finding.specs.Inner.Shaping.{IsMarked}
+use Rattle.omf_finding.proofs.MarkLaws.{marks-are-pattern, marks-cover, marks-only}
 
 abbrev place_at : DataItem → Option (ℕ × ℕ)
 place_at d = Some (d.segment.item, d.offset.item)
@@ -97,3 +98,12 @@ module _ (m : List Rec) (holds : ModuleHolds profile_limits m) where
       ap₂ byte_with (bytes_in_turn [] [] (flat_map raw_of (single_pieces m)) w.values (λ s y. refl) (h.values w.values refl) segment x)
       (bytes_in_turn [] [] (all_marks None (single_pieces m)) w.marks (λ s y. refl) (h.marks w.marks refl) segment x)
       ∙ marks-are-pattern m holds segment x
+
+  pub walk-marked : (w : Walk) → IsWalked m w [] → IsMarked (record { values = w.values; marks = w.marks })
+  walk-marked w h =
+      let values = λ (segment x : ℕ). bytes_in_turn [] [] (flat_map raw_of (single_pieces m)) w.values (λ s y. refl) (h.values w.values refl) segment x in
+      let marks = λ (segment x : ℕ). bytes_in_turn [] [] (all_marks None (single_pieces m)) w.marks (λ s y. refl) (h.marks w.marks refl) segment x in
+      record {
+        has = λ segment x e. subst IsSome (sym (marks segment x)) (marks-cover m segment x (subst IsSome (values segment x) e));
+        only = λ segment x e. subst IsSome (sym (values segment x)) (marks-only m segment x holds (subst IsSome (marks segment x) e));
+      }

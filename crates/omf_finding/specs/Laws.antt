@@ -3,6 +3,7 @@ use Rattle.std.specs.Prelude.{◌≡◌, ◌+◌, ◌-◌, ◌<◌, ◌≤◌, �
 use Rattle.omf_check.specs.Sound.{ModuleHolds}
 use Rattle.omf_check.specs.Tables.{entry}
 use Rattle.omf_placement.specs.declared.frame.Placed.{Placed}
+use Rattle.omf_finding.specs.Agrees.{Agrees}
 use Rattle.omf_finding.specs.Found.{IsFound}
 use Rattle.omf_finding.specs.Places.{places}
 use Rattle.omf_finding.specs.Run.{cells}
@@ -29,3 +30,9 @@ abbrev pub FoundAreListed : Type 0
 FoundAreListed = (m : List Rec) (pl : Places) (absent program : List ℕ) (base segment first len : ℕ) (place : Placed) → ModuleHolds profile_limits m → IsFound m pl absent program base → is_one_of absent segment ≡ false
     → entry pl.segments segment ≡ Some place → 0 < len → ((i : ℕ) → i < len → is_some (pattern profile_limits m segment (first + i)) ≡ true)
     → LiesAtItsPlace (cells (pattern profile_limits m segment) first len) program base (place.address + first)
+
+-- If a module is found at a placement, each of its segments that is not absent agrees with the program at its address. So of a module that is NotThere, no
+-- placement has a segment in the program that is searched for.
+abbrev pub FoundAgree : Type 0
+FoundAgree = (m : List Rec) (pl : Places) (absent program : List ℕ) (base segment : ℕ) (place : Placed) → ModuleHolds profile_limits m → IsFound m pl absent program base → is_one_of absent segment ≡ false
+    → entry pl.segments segment ≡ Some place → Agrees (pattern profile_limits m segment) program base place.address

@@ -4,6 +4,7 @@ pub mod Run
 pub mod Candidates
 pub mod Said
 pub mod Found
+pub mod Agrees
 pub mod Finding
 pub mod Rows
 pub mod Laws

@@ -1,19 +1,21 @@
 //! The search for modules in a program.
 
-ghost use Rattle.std.specs.Prelude.{IfOk, IfSome};
+ghost use Rattle.std.specs.Prelude.{◌≡◌, ◌++◌, true, false, IfOk, IfSome, OnOk, option_to_list};
 ghost use Rattle.std.specs.List.{AllZip};
-ghost use Rattle.omf_finding.specs.Finding.{IsHeld, IsTold};
+ghost use Rattle.omf_check.specs.Module.{Module};
+ghost use Rattle.omf_finding.specs.Finding.{AreCandidates, IsHeld, IsTold};
+ghost use Rattle.omf_finding.specs.Inner.Shaping.{AgreeAt, HasShapes, HaveShapes, IsMarked, IsOffered, IsPatternOf, IsShapeOf, bytes_of};
+ghost use Rattle.omf_finding.specs.Inner.Walking.{byte_in};
 
 use crate::findings::{Candidate, FindOptions, Findings, Found, Verdict, Why};
-use crate::following::Search;
-use crate::found::is_found_in_part;
+use crate::following::{Part, Search};
+use crate::found::{is_found_in_part, segment_count};
 use crate::names::Names;
-use crate::patterning::pattern_of;
+use crate::patterning::{Pattern, marked_pattern};
 use crate::program::Program;
 use crate::settling::Settled;
-use crate::shapes::{Indexed, Part};
+use crate::shapes::{Shape, is_at, shapes_of};
 use crate::singles::Singles;
-use crate::windows::Windows;
 use omf_check::Checked;
 use omf_records::{Kind, Rec, Reference};
 use std::alloc::{AllocError, Global};
@@ -23,20 +25,17 @@ use std::collections::BTreeMap;
 fn begun<'a>(
     alloc: Global,
     modules: &'a [Checked],
+    shapes: &'a [Vec<Shape>],
     program: &'a Program,
-    options: &FindOptions,
+    least: usize,
 ) -> Result<Search<'a>, AllocError> {
-    let indexed = Indexed {
-        program,
-        windows: Windows::of(alloc, &program.bytes)?,
-        most: options.most,
-    };
     let mut search = Search {
         alloc,
         modules,
         program,
-        least: options.least,
+        least,
         selectors: program.frames()?,
+        shapes,
         parts: Vec::new(alloc),
         firsts: Vec::new(alloc),
         names: Names::new(alloc),
@@ -45,7 +44,7 @@ fn begun<'a>(
         queue: Vec::new(alloc),
     };
     for module in modules {
-        search.add_module(&indexed, module)?;
+        search.add_module(module)?;
     }
     Ok(search)
 }
@@ -75,15 +74,18 @@ fn start_in(reference: &Reference) -> Option<(u16, u32)> {
 
 impl<'a> Search<'a> {
     /// Adds a module: its segments and its publics.
-    fn add_module(&mut self, indexed: &Indexed<'_>, module: &'a Checked) -> Result<(), AllocError> {
+    fn add_module(&mut self, module: &'a Checked) -> Result<(), AllocError> {
         let number = u32::try_from(self.firsts.len()).unwrap_or(u32::MAX);
         let first = self.parts.len();
         self.firsts.push(first)?;
         self.fixes.push(None)?;
-        let pattern = pattern_of(self.alloc, module)?;
         for segment in 1..=module.segments() {
-            let part = indexed.part(self.alloc, &pattern, number, segment)?;
-            self.parts.push(part)?;
+            self.parts.push(Part {
+                module: number,
+                segment,
+                place: None,
+                selector: None,
+            })?;
         }
         self.names.add_module(module, first)
     }
@@ -98,15 +100,10 @@ impl<'a> Search<'a> {
         };
         let frame = u32::from(selector).wrapping_mul(16);
         let address = frame.wrapping_add(u32::from(offset)).wrapping_sub(within);
-        if let (Some(number), Some(part)) = (
-            self.number_of(number, segment),
-            self.part_of(number, segment),
-        ) {
-            if part.fits(self.program, address) {
-                return self.place(number, address);
-            }
+        match self.number_of(number, segment) {
+            Some(number) if self.fits(number, address) => self.place(number, address),
+            _ => Ok(()),
         }
-        Ok(())
     }
 
     /// Puts segments at places that are sure by themselves.
@@ -123,83 +120,206 @@ impl<'a> Search<'a> {
         Ok(())
     }
 
+    /// The place of a segment of a module, if it is known.
+    fn known_place(&self, module: usize, segment: u16) -> Option<u32> {
+        self.place_of(self.number_of(module, segment)?)
+    }
+
     /// Whether a segment with data of a module has a place.
-    fn has_place(&self, module: usize) -> bool {
-        let first = self.firsts.get(module).copied().unwrap_or(0);
-        for part in self.parts.as_slice().get(first..).unwrap_or(&[]) {
-            if part.module as usize != module {
-                return false;
-            }
-            if part.has_data() && part.place.is_some() {
-                return true;
-            }
-        }
-        false
+    fn has_place(&self, module: usize, shapes: &[Shape]) -> bool {
+        shapes.iter().any(|shape| shape.has_data()
+            && self.known_place(module, shape.segment).is_some())
+    }
+
+    /// The module that has a segment at the only place of a segment of another module; `None` if there is none.
+    fn same_bytes(&self, module: usize, shape: &Shape, singles: &Singles) -> Option<u32> {
+        let [address] = shape.places.as_slice() else {
+            return None;
+        };
+        let number = self.number_of(module, shape.segment)?;
+        let other = self.parts.get(singles.other(*address, number)?)?;
+        Some(other.module)
     }
 
     /// Why none of the places of a segment is sure.
-    fn why(&self, part: &Part, number: usize, singles: &Singles) -> Why {
-        if let [address] = part.places.as_slice() {
-            if let Some(other) = singles.other(*address, number) {
-                if let Some(other) = self.parts.get(other) {
-                    return Why::SameBytes(other.module);
-                }
-            }
+    fn why(&self, module: usize, shape: &Shape, singles: &Singles) -> Why {
+        if shape.is_searched && shape.places.is_empty() {
+            return Why::ManyPlaces;
         }
-        match part.place {
-            Some(place) if part.places.contains(&place) => Why::OpenBytes,
+        if let Some(other) = self.same_bytes(module, shape, singles) {
+            return Why::SameBytes(other);
+        }
+        match self.known_place(module, shape.segment) {
+            Some(place) if !shape.is_searched || shape.places.contains(&place) => Why::OpenBytes,
             Some(_) => Why::Disagrees,
-            None if part.closed < self.least => Why::FewBytes,
+            None if shape.closed < self.least => Why::FewBytes,
             None => Why::SeveralPlaces,
         }
     }
 
-    /// The places of a segment of a module that is not found, if there are some.
-    fn candidate(&self, number: usize, singles: &Singles) -> Result<Option<Candidate>, AllocError> {
-        let Some(part) = self.parts.get(number) else {
-            return Ok(None);
-        };
-        let mut addresses = part.places.clone()?;
-        if let (true, true, Some(place)) = (part.has_data(), addresses.is_empty(), part.place) {
-            addresses.push(place)?;
+    /// The place that references give a segment of a module that is not searched for.
+    fn referred(&self, module: usize, shape: &Shape) -> Option<u32> {
+        if shape.is_searched || !shape.has_data() {
+            return None;
         }
-        if addresses.is_empty() {
-            return Ok(None);
-        }
-        Ok(Some(Candidate {
-            segment: part.segment,
-            addresses,
-            more: part.more,
-            why: self.why(part, number, singles),
-        }))
+        self.known_place(module, shape.segment)
     }
+}
 
-    /// The places of a module that is not found; none if the closed bytes of none of its segments are in the program.
-    fn possible(&self, module: usize, singles: &Singles) -> Result<Vec<Candidate>, AllocError> {
-        let mut candidates = Vec::new(self.alloc);
-        let first = self.firsts.get(module).copied().unwrap_or(0);
-        for number in first..self.parts.len() {
-            if self.parts[number].module as usize != module {
-                break;
-            }
-            if let Some(candidate) = self.candidate(number, singles)? {
-                candidates.push(candidate)?;
-            }
+/// A search at its end, with the program.
+#[derive(Clone, Copy)]
+struct Ended<'a, 'b> {
+    search: &'b Search<'a>,
+    program: &'b Program,
+    singles: &'b Singles,
+}
+
+/// The pattern of a module, if references give a place to a segment that is not searched for.
+fn referred_pattern(
+    ended: Ended<'_, '_>,
+    number: usize,
+    module: &Checked,
+    shapes: &[Shape],
+) -> Result<Option<Pattern>, AllocError>
+    ensures { IfOk result (λ r. IfSome r (IsPatternOf «module».now)) }
+{
+    for shape in shapes {
+        if ended.search.referred(number, shape).is_some() {
+            return Ok(Some(marked_pattern(ended.search.alloc, module)?));
         }
-        Ok(candidates)
     }
+    Ok(None)
+}
+
+/// The place that references give a segment that is not searched for, if its bytes agree there; else none.
+fn referred_places(
+    ended: Ended<'_, '_>,
+    number: usize,
+    pattern: &Pattern,
+    shape: &Shape,
+) -> Result<Vec<u32>, AllocError>
+    requires { IsMarked pattern.now }
+    ensures { IfOk result (λ v. AgreeAt (byte_in pattern.now shape.now.segment) ended.entry.program.now v.items) }
+{
+    let alloc = ended.search.alloc;
+    let mut places = Vec::new(alloc);
+    let Some(address) = ended.search.referred(number, shape) else {
+        return Ok(places);
+    };
+    let intervals = pattern.intervals(alloc, shape.segment)?;
+    if !is_at(ended.program, &intervals, address) {
+        return Ok(places);
+    }
+    places.push(address)?;
+    Ok(places)
+}
+
+/// The places of a segment of a module that is not found: of one that is not searched for, those that its references give. A module of
+/// which no such reference is known needs no pattern.
+fn addresses(
+    ended: Ended<'_, '_>,
+    number: usize,
+    pattern: &Option<Pattern>,
+    shape: &Shape,
+) -> Result<Vec<u32>, AllocError>
+    requires { IfSome pattern.now IsMarked }
+    ensures searched { IfOk result (λ v. shape.now.is_searched ≡ true → v.items ≡ shape.now.places.items) }
+    ensures referred { IfOk result (λ v. shape.now.is_searched ≡ false → (m : Module) → IfSome pattern.now (IsPatternOf m) → AgreeAt (bytes_of m shape.now.segment) ended.entry.program.now v.items) }
+{
+    if shape.is_searched {
+        return shape.places.clone();
+    }
+    match pattern {
+        Some(pattern) => referred_places(ended, number, pattern, shape),
+        None => Ok(Vec::new(ended.search.alloc)),
+    }
+}
+
+/// The places of a segment of a module that is not found. `None` if it is sure that there are none, or if it is not searched for and no
+/// reference points to a place where its bytes agree.
+fn candidate(
+    ended: Ended<'_, '_>,
+    number: usize,
+    pattern: &Option<Pattern>,
+    shape: &Shape,
+) -> Result<Option<Candidate>, AllocError>
+    requires { IfSome pattern.now IsMarked }
+    ensures { IfOk result (λ r. (m : Module) → IfSome pattern.now (IsPatternOf m) → IsShapeOf ended.entry.program.now m shape.now → IsOffered ended.entry.program.now m shape.now r) }
+{
+    let addresses = addresses(ended, number, pattern, shape)?;
+    if addresses.is_empty() && !(shape.is_searched && shape.more) {
+        return Ok(None);
+    }
+    Ok(Some(Candidate {
+        segment: shape.segment,
+        addresses,
+        more: shape.more,
+        why: ended.search.why(number, shape, ended.singles),
+    }))
+}
+
+/// Appends a candidate, if there is one.
+fn push_candidate(
+    candidates: &mut Vec<Candidate>,
+    candidate: Option<Candidate>,
+) -> Result<(), AllocError>
+    ensures { OnOk result (candidates.new.items ≡ candidates.old.items ++ option_to_list candidate) }
+{
+    if let Some(candidate) = candidate {
+        candidates.push(candidate)?;
+    }
+    Ok(())
+}
+
+/// The places of the segments of a module that is not found, with its pattern if that is needed.
+fn shape_candidates(
+    ended: Ended<'_, '_>,
+    number: usize,
+    module: &Checked,
+    pattern: &Option<Pattern>,
+    shapes: &[Shape],
+) -> Result<Vec<Candidate>, AllocError>
+    requires pattern { IfSome pattern.now (IsPatternOf «module».now) }
+    requires shapes { HaveShapes ended.program.now «module».now shapes.now }
+    ensures { IfOk result (λ v. AreCandidates ended.entry.program.now «module».now v.items) }
+{
+    let _count = segment_count(module);
+    let mut candidates = Vec::new(ended.search.alloc);
+    for shape in shapes {
+        push_candidate(&mut candidates, candidate(ended, number, pattern, shape)?)?;
+    }
+    Ok(candidates)
+}
+
+/// The places of the segments of a module that is not found.
+fn candidates(
+    ended: Ended<'_, '_>,
+    number: usize,
+    module: &Checked,
+    shapes: &[Shape],
+) -> Result<Vec<Candidate>, AllocError>
+    requires { HaveShapes ended.program.now «module».now shapes.now }
+    ensures { IfOk result (λ v. AreCandidates ended.entry.program.now «module».now v.items) }
+{
+    let pattern = referred_pattern(ended, number, module, shapes)?;
+    shape_candidates(ended, number, module, &pattern, shapes)
 }
 
 /// A module of a search that is in the program.
 fn held(
-    search: &Search<'_>,
+    ended: Ended<'_, '_>,
     number: usize,
     module: &Checked,
-    program: &Program,
+    shapes: &[Shape],
 ) -> Result<Option<Found>, AllocError>
-    ensures { IfOk result (λ found. IfSome found (IsHeld program.now «module».now)) }
+    ensures { IfOk result (λ found. IfSome found (IsHeld ended.entry.program.now «module».now)) }
 {
-    if !search.has_place(number) {
+    let Ended {
+        search,
+        program,
+        ..
+    } = ended;
+    if !search.has_place(number, shapes) {
         return Ok(None);
     }
     let Settled {
@@ -220,18 +340,18 @@ fn held(
 
 /// What is known of a module in the end.
 fn verdict(
-    search: &Search<'_>,
+    ended: Ended<'_, '_>,
     number: usize,
     module: &Checked,
-    program: &Program,
-    singles: &Singles,
+    shapes: &[Shape],
 ) -> Result<Verdict, AllocError>
-    ensures { IfOk result (IsTold program.now «module».now) }
+    requires { HaveShapes ended.program.now «module».now shapes.now }
+    ensures { IfOk result (IsTold ended.entry.program.now «module».now) }
 {
-    if let Some(found) = held(search, number, module, program)? {
+    if let Some(found) = held(ended, number, module, shapes)? {
         return Ok(Verdict::Found(found));
     }
-    let candidates = search.possible(number, singles)?;
+    let candidates = candidates(ended, number, module, shapes)?;
     if candidates.is_empty() {
         return Ok(Verdict::NotThere);
     }
@@ -240,21 +360,24 @@ fn verdict(
 
 /// What is known of all modules in the end.
 fn verdicts(
-    search: &Search<'_>,
+    ended: Ended<'_, '_>,
     modules: &[Checked],
-    program: &Program,
-    singles: &Singles,
+    shapes: &[Vec<Shape>],
 ) -> Result<Vec<Verdict>, AllocError>
-    ensures { IfOk result (λ v. AllZip (IsTold program.now) modules.now v.items) }
+    requires { AllZip (HasShapes ended.program.now) modules.now shapes.now }
+    ensures { IfOk result (λ v. AllZip (IsTold ended.entry.program.now) modules.now v.items) }
 {
-    let mut verdicts = Vec::new(search.alloc);
+    let mut verdicts = Vec::new(ended.search.alloc);
     for (number, module) in modules.iter().enumerate() {
-        verdicts.push(verdict(search, number, module, program, singles)?)?;
+        let own = shapes[number].as_slice();
+        verdicts.push(verdict(ended, number, module, own)?)?;
     }
     Ok(verdicts)
 }
 
-/// Searches a program for modules. A verdict Found is right: `is_found_in_part` answers true for its placement and its absent segments.
+/// Searches a program for modules. A verdict Found is right: `is_found_in_part` answers true for its placement and its absent segments. So are
+/// the others, for the segments that are searched for: of these NotThere shows that none agrees with the program anywhere, and Possible lists
+/// all that do, with all places or a sign that there may be more; the program must end within the 2^32 addresses that there are.
 ///
 /// A segment is searched for by its closed bytes if four of them are in a row. One that is at one place with at least `least` closed bytes,
 /// alone, is placed there; so is the segment of a module's start, at the program's. Others are placed by the fixups of segments that have a
@@ -271,11 +394,17 @@ pub fn find(
 ) -> Result<Findings, AllocError>
     ensures { IfOk result (λ f. AllZip (IsTold program.now) modules.now f.verdicts.items) }
 {
-    let mut search = begun(alloc, modules, program, options)?;
-    let singles = Singles::of(alloc, &search.parts, options.least)?;
+    let shapes = shapes_of(alloc, modules, program, options.most)?;
+    let singles = Singles::of(alloc, &shapes, options.least)?;
+    let mut search = begun(alloc, modules, &shapes, program, options.least)?;
     search.seed(&singles)?;
     search.close()?;
-    let verdicts = verdicts(&search, modules, program, &singles)?;
+    let ended = Ended {
+        search: &search,
+        program,
+        singles: &singles,
+    };
+    let verdicts = verdicts(ended, modules, &shapes)?;
     let asked = search.asked(&verdicts)?;
     Ok(Findings { verdicts, asked })
 }

@@ -35,16 +35,18 @@ pub enum Why {
     Disagrees,
     /// The fixups do not reach, or a byte at a location is not what they give.
     OpenBytes,
+    /// Four of its closed bytes are at more places than are tried, and at those that were, others of its bytes disagree.
+    ManyPlaces,
 }
 
-/// A segment of a module that is not found, and the places where its closed bytes are.
+/// A segment of a module that is not found, and the places where its closed bytes are, or may be.
 #[derive(Drop)]
 pub struct Candidate {
     /// The segment, from 1.
     pub segment: u16,
-    /// The addresses, in ascending order, at most `most`.
+    /// The addresses, in ascending order, at most `most`. None if `why` is `ManyPlaces`.
     pub addresses: Vec<u32>,
-    /// Whether there are more.
+    /// Whether there may be more.
     pub more: bool,
     /// Why none of them is sure.
     pub why: Why,
@@ -55,7 +57,7 @@ pub struct Candidate {
 pub enum Verdict {
     /// It is in the program, but for absent segments.
     Found(Found),
-    /// The closed bytes of some segments are in the program.
+    /// The closed bytes of some segments are in the program, or may be.
     Possible(Vec<Candidate>),
     /// No segment whose closed bytes were searched for is in the program.
     NotThere,

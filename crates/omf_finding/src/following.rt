@@ -3,7 +3,7 @@
 use crate::fixes::{Fix, fixes_of};
 use crate::names::{Definer, Names};
 use crate::program::Program;
-use crate::shapes::Part;
+use crate::shapes::Shape;
 use omf_check::{Checked, TargetMethod};
 use omf_frame::Name;
 use omf_names::NameKey;
@@ -17,6 +17,19 @@ const MOST_FRAMES: usize = 64;
 /// The number of times that all references are followed at most.
 const MOST_PASSES: usize = 8;
 
+/// What is known of a segment of a module.
+#[derive(Drop)]
+pub(crate) struct Part {
+    /// The module, from 0.
+    pub(crate) module: u32,
+    /// The segment, from 1.
+    pub(crate) segment: u16,
+    /// Its place, once it is known.
+    pub(crate) place: Option<u32>,
+    /// The selector of its frame, once it is known.
+    pub(crate) selector: Option<u16>,
+}
+
 /// The modules of a search, and what is known of their places.
 #[derive(Drop)]
 pub(crate) struct Search<'a> {
@@ -27,6 +40,8 @@ pub(crate) struct Search<'a> {
     pub(crate) least: usize,
     /// The selectors that the program uses, in ascending order.
     pub(crate) selectors: Vec<u16>,
+    /// The places of the closed bytes of each module's segments.
+    pub(crate) shapes: &'a [Vec<Shape>],
     /// The segments of all modules.
     pub(crate) parts: Vec<Part>,
     /// The number of the first segment of each module.
@@ -107,6 +122,21 @@ impl<'a> Search<'a> {
     pub(crate) fn part_of(&self, module: usize, segment: u16) -> Option<&Part> {
         let number = self.number_of(module, segment)?;
         self.parts.get(number)
+    }
+
+    /// The places of the closed bytes of a segment.
+    pub(crate) fn shape(&self, number: usize) -> Option<&'a Shape> {
+        let part = self.parts.get(number)?;
+        let shapes = self.shapes.get(part.module as usize)?;
+        shapes.get(usize::from(part.segment.checked_sub(1)?))
+    }
+
+    /// Whether a segment may be at an address.
+    pub(crate) fn fits(&self, number: usize, address: u32) -> bool {
+        match self.shape(number) {
+            Some(shape) => shape.fits(self.program, address),
+            None => false,
+        }
     }
 
     /// The place of a segment, if it is known.
@@ -291,12 +321,9 @@ impl<'a> Search<'a> {
 
     /// Whether a segment may be at an address: of one that has a place, whether it is this one.
     fn may_be_at(&self, number: usize, address: u32) -> bool {
-        match self.parts.get(number) {
-            Some(part) => match part.place {
-                Some(place) => place == address,
-                None => part.fits(self.program, address),
-            },
-            None => false,
+        match self.place_of(number) {
+            Some(place) => place == address,
+            None => self.fits(number, address),
         }
     }
 
@@ -356,13 +383,13 @@ impl<'a> Search<'a> {
         fix: &Fix,
         hit: Hit,
     ) -> Result<(), AllocError> {
-        let Some(part) = self.parts.get(hit.number) else {
+        let Some(shape) = self.shape(hit.number) else {
             return Ok(());
         };
         let Some(offset) = fix.offset(self.program, segment) else {
             return Ok(());
         };
-        if part.closed < 16 || !fix.is_segment_relative {
+        if shape.closed < 16 || !fix.is_segment_relative {
             return Ok(());
         }
         match self.frame_for(hit.target, fix.displacement, offset) {

@@ -104,7 +104,7 @@ fn part_agrees(image: &Image, places: &[Placed], absent: &[u16], program: &[u8],
 }
 
 /// The number of segments of a module, which is well-formed.
-fn segment_count(module: &Checked) -> u16
+pub(crate) fn segment_count(module: &Checked) -> u16
     ensures count { result ≡ length (segments (recs_of «module».now.bytes)) }
     ensures bounded { result ≤ 32767 }
     ensures holds { ModuleHolds profile_limits (recs_of «module».now.bytes) }

@@ -7,7 +7,7 @@ ghost use Rattle.omf_image.specs.Limits.{profile_limits};
 ghost use Rattle.omf_placement.specs.Placement.{Places};
 ghost use Rattle.omf_finding.specs.Candidates.{CandidatesSuffice};
 ghost use Rattle.omf_finding.specs.Said.{OffsetsSayAddresses};
-ghost use Rattle.omf_finding.specs.Laws.{HasPattern, FoundAreListed};
+ghost use Rattle.omf_finding.specs.Laws.{HasPattern, FoundAgree, FoundAreListed};
 
 /// At each placement, the image of a well-formed module has a byte exactly where its pattern has one, and at each closed byte the pattern's
 /// own.
@@ -19,6 +19,11 @@ pub fn images_have_the_pattern()
 /// the base.
 pub fn found_are_listed()
     ensures { FoundAreListed }
+{}
+
+/// Each segment of a module that is found, but for absent ones, agrees with the program at its address.
+pub fn found_agree()
+    ensures { FoundAgree }
 {}
 
 /// To look at offsets that pass a weaker test is enough to have all places among them.

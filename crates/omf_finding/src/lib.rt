@@ -16,7 +16,6 @@ pub mod rows;
 mod settling;
 mod shapes;
 mod singles;
-mod tests;
 mod windows;
 
 pub use finding::find;

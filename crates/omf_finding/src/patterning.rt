@@ -12,6 +12,7 @@ ghost use Rattle.omf_reloc.specs.Inner.ReachSteps.{data_place};
 ghost use Rattle.omf_reloc.specs.Inner.Walking.{CanExpand, Expands};
 ghost use Rattle.omf_finding.specs.Pattern.{pattern};
 ghost use Rattle.omf_finding.specs.Run.{closed_byte, cells, IsPatternRun};
+ghost use Rattle.omf_finding.specs.Inner.Shaping.{AreIntervals, IsIntervalAt, IsMarked, IsPatternOf};
 ghost use Rattle.omf_finding.specs.Inner.Walking.{byte_in, byte_with, unmarked, marked_all, raw_contents, raw_of, marks_of, IsNext, FitsContents, CanMark, CanTake, marks_contents};
 
 use omf_check::{Checked, Data, Undecoded};
@@ -46,6 +47,17 @@ impl Model for Pattern {
     ghost Value = { Marks };
 
     ghost view = { λ p. record { values = p.values; marks = p.marks } };
+}
+
+/// An interval of a segment that data records cover.
+#[derive(Clone, Copy)]
+pub(crate) struct Interval<'a> {
+    /// Its first offset.
+    pub(crate) first: u32,
+    /// Its bytes.
+    pub(crate) values: &'a [u8],
+    /// Their marks: 1 for an open byte.
+    pub(crate) marks: &'a [u8],
 }
 
 /// The byte with this value, and whether it is marked.
@@ -87,11 +99,36 @@ impl Pattern {
         )
     }
 
-    /// The first offset, the bytes and the marks of the k-th interval of a segment that data records cover, from 0 and in ascending order.
-    pub(crate) fn interval(&self, segment: u16, k: usize) -> Option<(u32, &[u8], &[u8])> {
+    /// The k-th interval of a segment that data records cover, from 0 and in ascending order.
+    fn interval(&self, segment: u16, k: usize) -> Option<Interval<'_>>
+        requires { IsMarked self.now }
+        ensures { IsIntervalAt self.now segment k result }
+    {
         let (first, values) = self.values.run_with_bytes(segment, k)?;
         let marks = self.marks.run_bytes(segment, k)?;
-        Some((first, values, marks))
+        Some(Interval {
+            first,
+            values,
+            marks,
+        })
+    }
+
+    /// The intervals of a segment that data records cover, in ascending order.
+    pub(crate) fn intervals(
+        &self,
+        alloc: Global,
+        segment: u16,
+    ) -> Result<Vec<Interval<'_>>, AllocError>
+        requires { IsMarked self.now }
+        ensures { IfOk result (λ v. AreIntervals (byte_in self.now segment) v.items) }
+    {
+        let mut intervals = Vec::new(alloc);
+        let mut k = 0;
+        while let Some(interval) = self.interval(segment, k) {
+            intervals.push(interval)?;
+            k += 1;
+        }
+        Ok(intervals)
     }
 
     /// The bytes of an interval of a segment.
@@ -272,6 +309,17 @@ impl Walk {
     }
 }
 
+/// The pattern of a module, with a mark for each byte.
+pub(crate) fn marked_pattern(alloc: Global, module: &Checked) -> Result<Pattern, AllocError>
+    ensures { IfOk result (IsPatternOf «module».now) }
+{
+    let mut walk = Walk::new(alloc);
+    for (_, piece) in pieces_of(module) {
+        walk.take(alloc, &piece)?;
+    }
+    Ok(walk.finish())
+}
+
 /// The pattern of a module: at each offset of each segment, the byte of the last data record that covers it, an LIDATA's blocks expanded,
 /// and whether a location of that record's fixups touches it.
 ///
@@ -281,9 +329,5 @@ impl Walk {
 pub fn pattern_of(alloc: Global, module: &Checked) -> Result<Pattern, AllocError>
     ensures { IfOk result (λ p. (segment x : ℕ) → byte_in p segment x ≡ pattern profile_limits (recs_of «module».now.bytes) segment x) }
 {
-    let mut walk = Walk::new(alloc);
-    for (_, piece) in pieces_of(module) {
-        walk.take(alloc, &piece)?;
-    }
-    Ok(walk.finish())
+    marked_pattern(alloc, module)
 }

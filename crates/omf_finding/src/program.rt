@@ -1,5 +1,8 @@
 //! Programs as they are loaded.
 
+ghost use Rattle.std.specs.Prelude.{◌≡◌};
+ghost use Rattle.omf_finding.specs.Inner.Shaping.{bytes_from};
+
 use std::alloc::AllocError;
 
 /// A program as it is loaded: real mode, where a frame's base is 16 times its selector.
@@ -22,22 +25,27 @@ pub struct Program {
 }
 
 impl Program {
-    /// The offset of an address in its bytes; `None` if it is outside.
-    pub(crate) fn offset_of(&self, address: u32) -> Option<usize> {
-        let offset = usize::try_from(address.checked_sub(self.base)?).ok()?;
-        if offset < self.bytes.len() {
-            Some(offset)
-        } else {
-            None
+    /// The bytes from an address on; none if it is outside.
+    pub(crate) fn bytes_from(&self, address: u64) -> &[u8]
+        ensures { result.now ≡ bytes_from self.now.bytes.items self.now.base address }
+    {
+        let base = u64::from(self.base);
+        if address < base {
+            return &[];
         }
+        let start = usize::try_from(address - base).unwrap_or(usize::MAX);
+        let bytes = self.bytes.as_slice();
+        &bytes[start.min(bytes.len())..]
     }
 
     /// The bytes from an address on; none if it is outside.
     pub(crate) fn bytes_at(&self, address: u32) -> &[u8] {
-        match self.offset_of(address) {
-            Some(offset) => self.bytes.as_slice().get(offset..).unwrap_or(&[]),
-            None => &[],
-        }
+        self.bytes_from(u64::from(address))
+    }
+
+    /// The byte at an address; `None` if it is outside.
+    pub(crate) fn byte(&self, address: u64) -> Option<u8> {
+        self.bytes_from(address).first().copied()
     }
 
     /// The little-endian number of 16 bits at an address.

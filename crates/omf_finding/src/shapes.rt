@@ -1,39 +1,48 @@
-//! The segments of modules with data, and the places of a program where their closed bytes are.
+//! The segments of modules, and the places of a program where their closed bytes are.
 
-use crate::patterning::Pattern;
+ghost use Rattle.std.specs.Prelude.{◌≡◌, ◌⊎◌, ◌+◌, ◌<◌, ◌≤◌, ◌^◌, ◌==◌, ℕ, All, length, not, Option, None, IfOk, IfSome};
+ghost use Rattle.std.specs.List.{AllZip};
+ghost use Rattle.omf_finding.specs.Inner.Walking.{byte_in};
+ghost use Rattle.omf_finding.specs.Inner.Shaping.{AreIntervals, ArePlaces, AreShapes, AreWindows, HasNone, HasShapes, HaveShapes, IsMarked, IsRareAt, IsRareIn, IsRareOf, IsShape, IsWhole, address_for, cell_agrees, cells_agree, closed_front, interval_agrees, is_at, key_at, offset_in, run_agrees, tried_with};
+ghost use Rattle.omf_finding.specs.declared.patterning.PatternByte.{PatternByte};
+
+use crate::patterning::{Interval, Pattern, marked_pattern};
 use crate::program::Program;
-use crate::windows::Windows;
+use crate::windows::{Windows, front};
+use omf_check::Checked;
 use std::alloc::{AllocError, Global};
 
 /// The number of windows with the same bytes that are tried at most.
 const MOST_TRIED: usize = 1024;
 
-/// A segment of a module that has data.
+/// The address after the last one of real mode.
+const END_OF_MEMORY: u32 = 1 << 20;
+
+/// A segment of a module, and the places of a program where its closed bytes are.
 #[derive(Drop)]
-pub(crate) struct Part {
-    /// The module, from 0.
-    pub(crate) module: u32,
+pub(crate) struct Shape {
     /// The segment, from 1.
     pub(crate) segment: u16,
     /// The number of its closed bytes.
     pub(crate) closed: usize,
-    /// The offset after its last byte.
-    pub(crate) end: u32,
-    /// The places where its closed bytes are, in ascending order.
+    /// The offset of its first byte of data.
+    first: u32,
+    /// The offset after its last byte of data; 0 if it has none.
+    end: u64,
+    /// Whether four of its closed bytes are in a row, so that it is searched for.
+    pub(crate) is_searched: bool,
+    /// The places where its data are inside the program and its closed bytes are the program's, in ascending order; none if it is not
+    /// searched for.
     pub(crate) places: Vec<u32>,
     /// Whether there may be others.
     pub(crate) more: bool,
-    /// Its closed bytes, if they were too few in a row to be searched for.
-    pub(crate) few: Vec<(u32, u8)>,
-    /// Its place, once it is known.
-    pub(crate) place: Option<u32>,
-    /// The selector of its frame, once it is known.
-    pub(crate) selector: Option<u16>,
+    /// Its closed bytes, each with its offset, if it is not searched for.
+    few: Vec<(u32, u8)>,
 }
 
 /// Four closed bytes in a row.
 #[derive(Clone, Copy, Debug, Drop)]
-struct Rare {
+pub(crate) struct Rare {
     /// About how many places of the program have them.
     count: u32,
     /// Their little-endian number.
@@ -42,134 +51,177 @@ struct Rare {
     offset: u32,
 }
 
-/// Closed bytes, as they are read one after another.
-#[derive(Drop)]
-struct Reading<'a> {
-    windows: &'a Windows,
-    /// The last four bytes.
-    last: u32,
-    /// The number of closed bytes in a row up to here.
-    in_row: u32,
-    /// The number of all closed bytes.
-    closed: usize,
-    /// The offset of the next byte.
-    offset: u32,
-    /// The rarest four closed bytes.
-    rarest: Option<Rare>,
+/// What a window shows of a segment.
+#[derive(Clone, Copy, Debug)]
+pub(crate) enum Tried {
+    /// It has other bytes: all windows with those that are searched for were tried.
+    End,
+    /// The segment is not there.
+    Other,
+    /// The segment is there, at this address.
+    Place(u32),
 }
 
 /// The rarer one.
-fn rarer(found: Option<Rare>, one: Rare) -> Rare {
+fn rarer(found: Option<Rare>, one: Option<Rare>) -> Option<Rare>
+    ensures either { (result ≡ found) ⊎ (result ≡ one) }
+    ensures none { result ≡ None → (found ≡ None) × (one ≡ None) }
+{
     match found {
-        Some(found) if found.count <= one.count => found,
-        _ => one,
+        Some(first) => match one {
+            Some(second) if second.count < first.count => one,
+            _ => found,
+        },
+        None => one,
     }
 }
 
-impl<'a> Reading<'a> {
-    fn new(windows: &'a Windows) -> Reading<'a> {
-        Reading {
-            windows,
-            last: 0,
-            in_row: 0,
-            closed: 0,
-            offset: 0,
-            rarest: None,
-        }
-    }
-
-    /// Takes the next byte.
-    fn take(&mut self, value: u8, is_open: bool) {
-        self.last = (self.last >> 8) | (u32::from(value) << 24);
-        self.offset = self.offset.wrapping_add(1);
-        if is_open {
-            self.in_row = 0;
-            return;
-        }
-        self.closed = self.closed.saturating_add(1);
-        self.in_row = self.in_row.saturating_add(1);
-        if self.in_row >= 4 {
-            let one = Rare {
-                count: self.windows.count(self.last),
-                key: self.last,
-                offset: self.offset.wrapping_sub(4),
-            };
-            self.rarest = Some(rarer(self.rarest, one));
-        }
-    }
-
-    /// Takes an interval of bytes.
-    fn take_run(&mut self, first: u32, values: &[u8], marks: &[u8]) {
-        self.in_row = 0;
-        self.offset = first;
-        for (value, mark) in values.iter().zip(marks) {
-            self.take(*value, *mark != 0);
-        }
-    }
+/// A mark of a closed byte.
+fn is_closed(mark: u8) -> bool
+    ensures { result ≡ not (mark == 1) }
+{
+    mark != 1
 }
 
-/// Bytes agree with those of a program, but for those that are marked as open; and the program has as many.
-fn run_agrees(values: &[u8], marks: &[u8], program: &[u8]) -> bool {
-    values.len() <= program.len()
-        && values
-            .iter()
-            .zip(marks)
-            .zip(program)
-            .all(|((value, mark), byte)| *mark != 0 || *value == *byte)
-}
-
-impl Pattern {
-    /// The closed bytes of a segment at this address are the program's, and its other bytes are in the program.
-    pub(crate) fn is_at(&self, segment: u16, program: &Program, address: u32) -> bool {
-        for k in 0..usize::MAX {
-            let Some((first, values, marks)) = self.interval(segment, k) else {
-                break;
-            };
-            let Some(start) = address.checked_add(first) else {
-                return false;
-            };
-            if !run_agrees(values, marks, program.bytes_at(start)) {
-                return false;
+/// The first four bytes, as a little-endian number, if all of them are closed.
+fn closed_front(values: &[u8], marks: &[u8]) -> Option<u32>
+    ensures { result ≡ closed_front values.now marks.now }
+{
+    match marks {
+        [a, b, c, d, ..] => {
+            if is_closed(*a) && is_closed(*b) && is_closed(*c) && is_closed(*d) {
+                front(values)
+            } else {
+                None
             }
         }
-        true
-    }
-
-    /// Reads a segment.
-    fn read<'a>(&self, windows: &'a Windows, segment: u16) -> Reading<'a> {
-        let mut reading = Reading::new(windows);
-        for k in 0..usize::MAX {
-            let Some((first, values, marks)) = self.interval(segment, k) else {
-                break;
-            };
-            reading.take_run(first, values, marks);
-        }
-        reading
-    }
-
-    /// The closed bytes of a segment, each with its offset.
-    fn closed_bytes(&self, alloc: Global, segment: u16) -> Result<Vec<(u32, u8)>, AllocError> {
-        let mut closed = Vec::new(alloc);
-        for k in 0..usize::MAX {
-            let Some((first, values, marks)) = self.interval(segment, k) else {
-                break;
-            };
-            add_closed(&mut closed, first, values, marks)?;
-        }
-        Ok(closed)
+        _ => None,
     }
 }
 
-/// Adds the closed bytes of an interval.
-fn add_closed(
-    closed: &mut Vec<(u32, u8)>,
-    first: u32,
-    values: &[u8],
-    marks: &[u8],
-) -> Result<(), AllocError> {
-    let mut offset = first;
-    for (value, mark) in values.iter().zip(marks) {
-        if *mark == 0 {
+/// The four closed bytes in a row at an index of an interval, if there are any.
+fn rare_at(windows: &Windows, interval: Interval<'_>, at: usize) -> Option<Rare>
+    requires same { length interval.marks.now ≡ length interval.values.now }
+    requires within { interval.first + length interval.values.now ≤ 2 ^ 32 }
+    requires low { at < length interval.values.now }
+    ensures some { IfSome result (λ r. IsRareAt interval.entry r at) }
+    ensures none { result ≡ None → key_at interval.entry at ≡ None }
+{
+    match closed_front(&interval.values[at..], &interval.marks[at..]) {
+        Some(key) => Some(Rare {
+            count: windows.count(key),
+            key,
+            offset: interval.first + at as u32,
+        }),
+        None => None,
+    }
+}
+
+/// The rarest four closed bytes in a row of an interval.
+fn rarest_in(windows: &Windows, interval: Interval<'_>) -> Option<Rare>
+    requires same { length interval.marks.now ≡ length interval.values.now }
+    requires within { interval.first + length interval.values.now ≤ 2 ^ 32 }
+    ensures some { IfSome result (IsRareIn interval.entry) }
+    ensures none { result ≡ None → HasNone interval.entry }
+{
+    let mut rarest = None;
+    for at in 0..interval.values.len() {
+        rarest = rarer(rarest, rare_at(windows, interval, at));
+    }
+    rarest
+}
+
+/// The rarest four closed bytes in a row of a segment.
+fn rarest_of(windows: &Windows, intervals: &[Interval<'_>]) -> Option<Rare>
+    requires { All IsWhole intervals.now }
+    ensures some { IfSome result (IsRareOf intervals.now) }
+    ensures none { result ≡ None → All HasNone intervals.now }
+{
+    let mut rarest = None;
+    for interval in intervals {
+        rarest = rarer(rarest, rarest_in(windows, *interval));
+    }
+    rarest
+}
+
+/// Whether a byte of a segment agrees with a byte of a program.
+fn cell_agrees(value: u8, mark: u8, byte: u8) -> bool
+    ensures { result ≡ cell_agrees value mark byte }
+{
+    mark == 1 || value == byte
+}
+
+/// Bytes agree with those beside them of a program, but for those that are marked as open, as far as there are both.
+fn cells_agree(values: &[u8], marks: &[u8], program: &[u8]) -> bool
+    ensures { result ≡ cells_agree values.now marks.now program.now }
+{
+    values
+        .iter()
+        .zip(marks)
+        .zip(program)
+        .all(|((value, mark), byte)| cell_agrees(*value, *mark, *byte))
+}
+
+/// The same, and the program has as many.
+fn run_agrees(values: &[u8], marks: &[u8], program: &[u8]) -> bool
+    ensures { result ≡ run_agrees values.now marks.now program.now }
+{
+    values.len() <= program.len() && cells_agree(values, marks, program)
+}
+
+/// An interval of a segment at this address agrees with the program.
+fn interval_agrees(program: &Program, address: u32, interval: Interval<'_>) -> bool
+    ensures { result ≡ interval_agrees program.now.bytes.items program.now.base address interval.entry }
+{
+    let start = u64::from(address) + u64::from(interval.first);
+    run_agrees(interval.values, interval.marks, program.bytes_from(start))
+}
+
+/// The data of a segment at this address are inside the program, and its closed bytes are the program's.
+pub(crate) fn is_at(program: &Program, intervals: &[Interval<'_>], address: u32) -> bool
+    ensures { result ≡ is_at program.now.bytes.items program.now.base intervals.now address }
+{
+    intervals
+        .iter()
+        .all(|interval| interval_agrees(program, address, *interval))
+}
+
+/// The number of closed bytes of an interval.
+fn closed_in(interval: Interval<'_>) -> usize {
+    let mut closed: usize = 0;
+    for mark in interval.marks {
+        if is_closed(*mark) {
+            closed = closed.saturating_add(1);
+        }
+    }
+    closed
+}
+
+/// The number of closed bytes.
+fn count_closed(intervals: &[Interval<'_>]) -> usize {
+    let mut closed: usize = 0;
+    for interval in intervals {
+        closed = closed.saturating_add(closed_in(*interval));
+    }
+    closed
+}
+
+/// The offset of the first byte of data, and the offset after the last; 0 after the last if there is none.
+fn extent(intervals: &[Interval<'_>]) -> (u32, u64) {
+    let mut start = u32::MAX;
+    let mut end = 0;
+    for interval in intervals {
+        start = start.min(interval.first);
+        end = end.max(u64::from(interval.first).saturating_add(interval.values.len() as u64));
+    }
+    (start, end)
+}
+
+/// Adds the closed bytes of an interval, each with its offset.
+fn add_closed(closed: &mut Vec<(u32, u8)>, interval: Interval<'_>) -> Result<(), AllocError> {
+    let mut offset = interval.first;
+    for (value, mark) in interval.values.iter().zip(interval.marks) {
+        if is_closed(*mark) {
             closed.push((offset, *value))?;
         }
         offset = offset.wrapping_add(1);
@@ -177,104 +229,200 @@ fn add_closed(
     Ok(())
 }
 
+/// The closed bytes, each with its offset.
+fn closed_bytes(alloc: Global, intervals: &[Interval<'_>]) -> Result<Vec<(u32, u8)>, AllocError> {
+    let mut closed = Vec::new(alloc);
+    for interval in intervals {
+        add_closed(&mut closed, *interval)?;
+    }
+    Ok(closed)
+}
+
 /// A program, with an index of its windows.
 #[derive(Drop)]
-pub(crate) struct Indexed<'a> {
-    pub(crate) program: &'a Program,
-    pub(crate) windows: Windows,
+struct Indexed<'a> {
+    program: &'a Program,
+    windows: Windows,
     /// The number of places that are listed of a segment at most.
-    pub(crate) most: usize,
+    most: usize,
+}
+
+/// The address of a segment whose byte at `offset` is `at` bytes after `base`; `None` if it would begin below 0, or the byte is past the last
+/// address.
+fn address_for(base: u32, at: u32, offset: u32) -> Option<u32>
+    ensures { result ≡ address_for base at offset }
+{
+    base.checked_add(at)?.checked_sub(offset)
 }
 
 impl<'a> Indexed<'a> {
-    /// The address at which a segment is, if its byte at an offset is at this offset of the program.
-    fn address_for(&self, at: u32, offset: u32) -> Option<u32> {
-        self.program.base.checked_add(at.checked_sub(offset)?)
+    /// What the window with a number shows of a segment with these four closed bytes.
+    fn tried(&self, intervals: &[Interval<'_>], rare: Rare, number: usize) -> Tried
+        ensures { result ≡ tried_with (is_at self.now.program.now.bytes.items self.now.program.now.base intervals.now) self.now.program.now.base rare.offset (offset_in self.now.windows.sorted.items number rare.key) }
+    {
+        match self.windows.offset(number, rare.key) {
+            Some(at) => match address_for(self.program.base, at, rare.offset) {
+                Some(address) if is_at(self.program, intervals, address) => Tried::Place(address),
+                _ => Tried::Other,
+            },
+            None => Tried::End,
+        }
     }
 
     /// The places of a segment with these four closed bytes, and whether there may be more.
     fn places_of(
         &self,
         alloc: Global,
-        pattern: &Pattern,
-        segment: u16,
+        intervals: &[Interval<'_>],
         rare: Rare,
-    ) -> Result<(Vec<u32>, bool), AllocError> {
+    ) -> Result<(Vec<u32>, bool), AllocError>
+        requires windows { AreWindows self.now.program.now.bytes.items self.now.windows.sorted.items }
+        requires rare { IsRareOf intervals.now rare }
+        ensures { IfOk result (λ r. (byte : ℕ → Option PatternByte) → AreIntervals byte intervals.now → ArePlaces byte self.now.program.now.bytes.items self.now.program.now.base r.0.items r.1) }
+    {
         let mut places = Vec::new(alloc);
         let first = self.windows.first(rare.key);
         for number in first..first.saturating_add(MOST_TRIED) {
-            let Some(at) = self.windows.offset(number, rare.key) else {
-                return Ok((places, false));
-            };
-            let Some(address) = self.address_for(at, rare.offset) else {
-                continue;
-            };
-            if pattern.is_at(segment, self.program, address) {
-                if places.len() >= self.most {
-                    break;
+            match self.tried(intervals, rare, number) {
+                Tried::End => return Ok((places, false)),
+                Tried::Other => {}
+                Tried::Place(address) => {
+                    if places.len() >= self.most {
+                        return Ok((places, true));
+                    }
+                    places.push(address)?;
                 }
-                places.push(address)?;
             }
         }
         Ok((places, true))
     }
 
     /// A segment of a module, with its places.
-    pub(crate) fn part(
+    fn shape(
+        &self,
+        alloc: Global,
+        segment: u16,
+        intervals: &[Interval<'_>],
+    ) -> Result<Shape, AllocError>
+        requires windows { AreWindows self.now.program.now.bytes.items self.now.windows.sorted.items }
+        requires whole { All IsWhole intervals.now }
+        ensures shape { IfOk result (λ s. (byte : ℕ → Option PatternByte) → AreIntervals byte intervals.now → IsShape byte self.now.program.now.bytes.items self.now.program.now.base s) }
+        ensures segment { IfOk result (λ s. s.segment ≡ segment) }
+    {
+        let (first, end) = extent(intervals);
+        let closed = count_closed(intervals);
+        match rarest_of(&self.windows, intervals) {
+            Some(rare) => {
+                let (places, more) = self.places_of(alloc, intervals, rare)?;
+                Ok(Shape {
+                    segment,
+                    closed,
+                    first,
+                    end,
+                    is_searched: true,
+                    places,
+                    more,
+                    few: Vec::new(alloc),
+                })
+            }
+            None => {
+                let few = closed_bytes(alloc, intervals)?;
+                Ok(Shape {
+                    segment,
+                    closed,
+                    first,
+                    end,
+                    is_searched: false,
+                    places: Vec::new(alloc),
+                    more: true,
+                    few,
+                })
+            }
+        }
+    }
+
+    /// The segments of a module with a pattern, of which it has this many.
+    fn pattern_shapes(
         &self,
         alloc: Global,
         pattern: &Pattern,
-        module: u32,
-        segment: u16,
-    ) -> Result<Part, AllocError> {
-        let reading = pattern.read(&self.windows, segment);
-        let mut part = Part {
-            module,
-            segment,
-            closed: reading.closed,
-            end: reading.offset,
-            places: Vec::new(alloc),
-            more: true,
-            few: Vec::new(alloc),
-            place: None,
-            selector: None,
-        };
-        match reading.rarest {
-            Some(rare) => (part.places, part.more) = self.places_of(alloc, pattern, segment, rare)?,
-            None => part.few = pattern.closed_bytes(alloc, segment)?,
+        count: u16,
+    ) -> Result<Vec<Shape>, AllocError>
+        requires windows { AreWindows self.now.program.now.bytes.items self.now.windows.sorted.items }
+        requires marked { IsMarked pattern.now }
+        ensures { IfOk result (λ v. AreShapes (byte_in pattern.now) self.now.program.now.bytes.items self.now.program.now.base count v.items) }
+    {
+        let mut shapes = Vec::new(alloc);
+        for index in 0..count {
+            let segment = index + 1;
+            let intervals = pattern.intervals(alloc, segment)?;
+            shapes.push(self.shape(alloc, segment, &intervals)?)?;
         }
-        Ok(part)
+        Ok(shapes)
+    }
+
+    /// The segments of a module.
+    fn module_shapes(&self, alloc: Global, module: &Checked) -> Result<Vec<Shape>, AllocError>
+        requires { AreWindows self.now.program.now.bytes.items self.now.windows.sorted.items }
+        ensures { IfOk result (λ v. HaveShapes self.now.program.now «module».now v.items) }
+    {
+        let pattern = marked_pattern(alloc, module)?;
+        self.pattern_shapes(alloc, &pattern, module.segments())
     }
 }
 
-impl Part {
+/// The segments of each module.
+pub(crate) fn shapes_of(
+    alloc: Global,
+    modules: &[Checked],
+    program: &Program,
+    most: usize,
+) -> Result<Vec<Vec<Shape>>, AllocError>
+    ensures { IfOk result (λ v. AllZip (HasShapes program.now) modules.now v.items) }
+{
+    let indexed = Indexed {
+        program,
+        windows: Windows::of(alloc, &program.bytes)?,
+        most,
+    };
+    let mut shapes = Vec::new(alloc);
+    for module in modules {
+        shapes.push(indexed.module_shapes(alloc, module)?)?;
+    }
+    Ok(shapes)
+}
+
+impl Shape {
     /// Whether it has data.
     pub(crate) fn has_data(&self) -> bool {
         self.end > 0
     }
 
-    /// Whether its closed bytes were searched for.
-    pub(crate) fn is_searched(&self) -> bool {
-        self.closed > 0 && self.few.is_empty()
+    /// Whether all its data would be inside the program.
+    fn is_inside(&self, program: &Program, address: u32) -> bool {
+        let address = u64::from(address);
+        let base = u64::from(program.base);
+        base <= address + u64::from(self.first)
+            && address.saturating_add(self.end) <= base.saturating_add(program.bytes.len() as u64)
     }
 
     /// Its few closed bytes are the program's at an address.
     fn few_agree(&self, program: &Program, address: u32) -> bool {
-        self.few.iter().all(|(offset, byte)| {
-            let at = address.wrapping_add(*offset);
-            program.bytes_at(at).first().copied() == Some(*byte)
-        })
+        self.few.iter().all(|(offset, byte)| program.byte(u64::from(address) + u64::from(*offset))
+            == Some(*byte))
     }
 
     /// Whether it may be at an address: of a segment whose places are all known, whether this is one of them.
     pub(crate) fn fits(&self, program: &Program, address: u32) -> bool {
-        if address < program.base || address >= 1 << 20 {
+        if address >= END_OF_MEMORY {
             return false;
         }
-        if self.is_searched() && !self.more {
+        if !self.has_data() {
+            return address >= program.base;
+        }
+        if self.is_searched && !self.more {
             return self.places.binary_search(&address).is_ok();
         }
-        let inside = program.bytes_at(address).len() >= self.end as usize;
-        (inside || self.end == 0) && self.few_agree(program, address)
+        self.is_inside(program, address) && self.few_agree(program, address)
     }
 }

@@ -1,0 +1,76 @@
+-- The shapes of a module's segments.
+use Rattle.std.proofs.Common.{◌≡◌, inl, inr, ℕ, ◌+◌, ◌<◌, ◌≤◌, Bool, true, false, List, [], ◌∷◌, ◌++◌, length, Option, refl, sym, subst, ◌∙◌, arith}
+use Rattle.std.specs.Prelude.{All, Contains, IfOk, Result, Ok, Err, get_or}
+use Rattle.std.proofs.lemmas.Bool.Decides.{leb_tells}
+use Rattle.std.proofs.lemmas.List.Elements.{Contains-append_left, Contains-push, Contains-push_cases, Contains-get_or}
+use Rattle.omf_finding.specs.Agrees.{Agrees, HasFour}
+use Rattle.omf_finding.specs.Inner.Shaping.{AreIntervals, ArePlaces, AreShapes, HasNone, IsShape, IsWhole}
+use Rattle.omf_finding.specs.declared.patterning.Interval.{Interval}
+use Rattle.omf_finding.specs.declared.patterning.PatternByte.{PatternByte}
+use Rattle.omf_finding.specs.declared.shapes.Shape.{Shape}
+use Rattle.omf_finding.proofs.AgreesLaws.{agrees-as, four-as}
+use Rattle.omf_finding.proofs.RareLaws.{none-sought}
+
+pub intervals-whole : (byte : ℕ → Option PatternByte) (is : List Interval) → AreIntervals byte is → All IsWhole is
+intervals-whole byte is are k d low = let one = are.each (get_or is k d) (Contains-get_or is k d low) in (one.same, one.within)
+
+module _ (byte : ℕ → Option PatternByte) (program : List ℕ) (base : ℕ) where
+  no-places : ArePlaces byte program base [] true
+  no-places = record { agree = λ a c. absurd (omega (arith, c.1)); all = λ e. absurd (let w : true ≡ false = e in cc) }
+
+  -- a segment that is searched for
+  pub shape-searched : (s : Shape) (places : List ℕ) (more : Bool) → s.is_searched ≡ true → s.places.items ≡ places → s.more ≡ more → ArePlaces byte program base places more → IsShape byte program base s
+  shape-searched s places more e p q h = record {
+    places = subst (λ (ps : List ℕ). ArePlaces byte program base ps s.more) (sym p) (subst (ArePlaces byte program base places) (sym q) h);
+    sought = λ four. e;
+    others = λ f. absurd (let w : true ≡ false = sym e ∙ f in cc);
+  }
+
+  -- one that is not
+  pub shape-few : (is : List Interval) → AreIntervals byte is → All HasNone is → (s : Shape) → s.places.items ≡ [] → s.more ≡ true → IsShape byte program base s
+  shape-few is are none s p q = record {
+    places = subst (λ (ps : List ℕ). ArePlaces byte program base ps s.more) (sym p) (subst (ArePlaces byte program base []) (sym q) no-places);
+    sought = λ four. absurd (none-sought byte is are none four);
+    others = λ f. q;
+  }
+
+module _ (f g : ℕ → Option PatternByte) (same : (x : ℕ) → f x ≡ g x) where
+  shape-as : (program : List ℕ) (base : ℕ) (s : Shape) → IsShape f program base s → IsShape g program base s
+  shape-as program base s h = record {
+    places = record {
+      agree = λ a c. agrees-as f g same program base a (h.places.agree a c);
+      all = λ e fits a ag. h.places.all e fits a (agrees-as g f (λ x. sym (same x)) program base a ag);
+    };
+    sought = λ four. h.sought (four-as g f (λ x. sym (same x)) four);
+    others = h.others;
+  }
+
+pub shapes-as : (f g : ℕ → ℕ → Option PatternByte) → ((segment x : ℕ) → f segment x ≡ g segment x) → (program : List ℕ) (base n : ℕ) (ss : List Shape) → AreShapes f program base n ss → AreShapes g program base n ss
+shapes-as f g same program base n ss h = record {
+  each = λ s c. shape-as (f s.segment) (g s.segment) (same s.segment) program base s (h.each s c);
+  every = h.every;
+}
+
+module _ (byte : ℕ → ℕ → Option PatternByte) (program : List ℕ) (base : ℕ) where
+  pub shapes-first : AreShapes byte program base 0 []
+  shapes-first = record { each = λ s c. absurd (omega (arith, c.1)); every = λ segment one most. absurd (omega (arith, one, most)) }
+
+  pub shapes-last : (n count : ℕ) (ss : List Shape) → count ≤ n → AreShapes byte program base n ss → AreShapes byte program base count ss
+  shapes-last n count ss low h = record { each = h.each; every = λ segment one most. h.every segment one (omega (arith, most, low)) }
+
+  pub shapes-next : (n : ℕ) (ss new : List Shape) (s : Shape) → IsShape (byte s.segment) program base s → s.segment ≡ n + 1 → new ≡ ss ++ s ∷ [] → AreShapes byte program base n ss → AreShapes byte program base (n + 1) new
+  shapes-next n ss new s one is e h = subst (AreShapes byte program base (n + 1)) (sym e) (record {
+    each = λ t c. elim (Contains-push_cases ss s t c) [
+      | inl d ↦ h.each t d
+      | inr q ↦ subst (λ (u : Shape). IsShape (byte u.segment) program base u) q one
+    ];
+    every = λ segment low most. elim (leb_tells segment n) [
+      | inl t ↦ let got = h.every segment low t.1 in (got.0, Contains-append_left ss (s ∷ []) got.0 got.1, got.2)
+      | inr t ↦ let same : s.segment ≡ segment = omega (arith, is, t.1, most) in (s, Contains-push ss s, same)
+    ];
+  })
+
+-- a result whose value has P has what follows
+pub if-ok : {A E : Type 0} (P Q : A → Type 0) → ((v : A) → P v → Q v) → (r : Result A E) → IfOk r P → IfOk r Q
+if-ok P Q f (Ok v) h = f v h
+if-ok P Q f (Err e) h = h

@@ -1,0 +1,20 @@
+use Rattle.std.proofs.Common.{refl, true, false}
+use Rattle.omf_finding.proofs.ShapeLaws.{shape-few}
+use Rattle.omf_finding.proofs.shapes.Indexed.shape.Goals as goal
+
+pub returns-in_ok-few-in-None-clause-shape : goal.returns-in_ok-few-in-None-clause-shape
+returns-in_ok-few-in-None-clause-shape c =
+    let program = c.args.self.now.program.now in
+    λ byte are.
+    shape-few byte program.bytes.items program.base c.args.intervals.now are (c.in-None.ensures.none refl)
+    (record {
+      segment = c.args.segment;
+      closed = c.count_closed-closed.result;
+      first = c.extent-first.result.0;
+      end = c.extent-first.result.1;
+      is_searched = false;
+      places = c.new-in-None.result;
+      more = true;
+      few = c.in_ok-few-in-None.few;
+    })
+    c.new-in-None.ensures.items refl

@@ -1,0 +1,195 @@
+-- How the places of a segment are computed. Only private functions use these definitions.
+use Rattle.std.specs.Prelude.{◌≡◌, ◌⊎◌, ◌<◌, ◌≤◌, ℕ, ◌+◌, ◌-◌, ◌*◌, ◌^◌, ◌==◌, ◌&&◌, ◌||◌, not, List, [], ◌∷◌, length, drop, Bool, true, false, nat_le, nat_lt, Option, Some, None, IsSome, IsNone, IfSome, option_map, slice_get, Contains, get_or, if◌then◌else◌}
+use Rattle.std.specs.List.{list_all, zip}
+use Rattle.std.specs.List.Sorted.{IsNonDecreasing}
+use Rattle.std.specs.Global.{Vec}
+use Rattle.std.specs.Option.{option_and_then}
+use Rattle.std.specs.Int.{from_le_bytes, w32}
+use Rattle.omf_check.specs.Module.{Module, recs_of}
+use Rattle.omf_check.specs.Tables.{segments}
+use Rattle.omf_image.specs.Limits.{profile_limits}
+use Rattle.omf_image.specs.Overlay.{byte_at, IsRunShown}
+use Rattle.omf_finding.specs.Agrees.{Agrees, HasFour}
+use Rattle.omf_finding.specs.Pattern.{pattern}
+use Rattle.omf_finding.specs.Finding.{IsAt, IsCandidate, IsInside, IsSought}
+use Rattle.omf_finding.specs.declared.findings.Candidate.{Candidate}
+use Rattle.omf_finding.specs.declared.program.Program.{Program}
+use Rattle.omf_finding.specs.Inner.Walking.{Marks, byte_in, byte_with}
+use Rattle.omf_finding.specs.declared.patterning.Interval.{Interval}
+use Rattle.omf_finding.specs.declared.patterning.PatternByte.{PatternByte}
+use Rattle.omf_finding.specs.declared.shapes.Rare.{Rare}
+use Rattle.omf_finding.specs.declared.shapes.Shape.{Shape}
+use Rattle.omf_finding.specs.declared.shapes.Tried.{Tried}
+use Rattle.omf_finding.specs.declared.shapes.Tried.TheVariants as tried
+
+-- ---- intervals
+
+-- There are marks exactly where there are bytes.
+pub record IsMarked (p : Marks) : Type 0 where
+  pub has : (segment x : ℕ) → IsSome (byte_at p.values segment x) → IsSome (byte_at p.marks segment x)
+  pub only : (segment x : ℕ) → IsSome (byte_at p.marks segment x) → IsSome (byte_at p.values segment x)
+
+-- An interval has as many marks as bytes, and is within a segment's 2^32 bytes.
+abbrev pub IsWhole : Interval → Type 0
+IsWhole i = (length i.marks.now ≡ length i.values.now) × (i.first + length i.values.now ≤ 2 ^ 32)
+
+-- An interval of a segment, after which there is no byte.
+pub record IsInterval (byte : ℕ → Option PatternByte) (i : Interval) : Type 0 where
+  pub some : 0 < length i.values.now
+  pub same : length i.marks.now ≡ length i.values.now
+  pub within : i.first + length i.values.now ≤ 2 ^ 32
+  pub each : (k : ℕ) → k < length i.values.now → byte (i.first + k) ≡ byte_with (slice_get i.values.now k) (slice_get i.marks.now k)
+  pub after : IsNone (byte (i.first + length i.values.now))
+
+-- The interval of the k-th run of a segment, from 0; none after the last.
+abbrev pub IsIntervalAt : Marks → ℕ → ℕ → Option Interval → Type 0
+IsIntervalAt p segment k None = IsRunShown (byte_at p.values segment) k None
+IsIntervalAt p segment k (Some i) = IsRunShown (byte_at p.values segment) k (Some (i.first, i.values.now)) × IsInterval (byte_in p segment) i
+
+-- A place is in an interval.
+abbrev pub IsWithin : Interval → ℕ → Type 0
+IsWithin i x = (i.first ≤ x) × (x < i.first + length i.values.now)
+
+-- Intervals have each byte of a segment.
+pub record AreIntervals (byte : ℕ → Option PatternByte) (is : List Interval) : Type 0 where
+  pub each : (i : Interval) → Contains is i → IsInterval byte i
+  pub every : (x : ℕ) → IsSome (byte x) → (i : Interval) × Contains is i × IsWithin i x
+
+-- ---- agreement
+
+-- The bytes from an address on.
+abbrev pub bytes_from : List ℕ → ℕ → ℕ → List ℕ
+bytes_from program base address = if nat_le base address then drop (address - base) program else []
+
+-- A byte with a mark agrees with a byte of a program.
+abbrev pub cell_agrees : ℕ → ℕ → ℕ → Bool
+cell_agrees value mark byte = (mark == 1) || (value == byte)
+
+abbrev pub cells_agree : List ℕ → List ℕ → List ℕ → Bool
+cells_agree values marks bytes = list_all (λ p. cell_agrees p.0.0 p.0.1 p.1) (zip (zip values marks) bytes)
+
+abbrev pub run_agrees : List ℕ → List ℕ → List ℕ → Bool
+run_agrees values marks bytes = nat_le (length values) (length bytes) && cells_agree values marks bytes
+
+abbrev pub interval_agrees : List ℕ → ℕ → ℕ → Interval → Bool
+interval_agrees program base address i = run_agrees i.values.now i.marks.now (bytes_from program base (address + i.first))
+
+abbrev pub is_at : List ℕ → ℕ → List Interval → ℕ → Bool
+is_at program base is address = list_all (interval_agrees program base address) is
+
+-- ---- four closed bytes in a row
+
+abbrev pub front : List ℕ → Option ℕ
+front (a ∷ b ∷ c ∷ d ∷ bytes) = Some (from_le_bytes w32 (a ∷ b ∷ c ∷ d ∷ []))
+front _ = None
+
+abbrev pub closed_front : List ℕ → List ℕ → Option ℕ
+closed_front values (a ∷ b ∷ c ∷ d ∷ marks) = if not (a == 1) && (not (b == 1) && (not (c == 1) && not (d == 1))) then front values else None
+closed_front values _ = None
+
+-- The number of the four closed bytes at an index of an interval.
+abbrev pub key_at : Interval → ℕ → Option ℕ
+key_at i at = closed_front (drop at i.values.now) (drop at i.marks.now)
+
+-- They are at this index of the interval.
+pub record IsRareAt (i : Interval) (r : Rare) (at : ℕ) : Type 0 where
+  pub low : at < length i.values.now
+  pub key : key_at i at ≡ Some r.key
+  pub offset : r.offset ≡ i.first + at
+
+abbrev pub IsRareIn : Interval → Rare → Type 0
+IsRareIn i r = (at : ℕ) × IsRareAt i r at
+
+-- None of the first n indices of an interval has any.
+abbrev pub HasNoneBelow : Interval → ℕ → Type 0
+HasNoneBelow i n = (at : ℕ) → at < n → key_at i at ≡ None
+
+abbrev pub HasNone : Interval → Type 0
+HasNone i = HasNoneBelow i (length i.values.now)
+
+abbrev pub IsRareOf : List Interval → Rare → Type 0
+IsRareOf is r = (i : Interval) × Contains is i × IsRareIn i r
+
+-- ---- windows
+
+-- The windows of the first n offsets of a program, each its number times 2^32, plus its offset.
+abbrev pub HasWindows : List ℕ → List ℕ → ℕ → Type 0
+HasWindows program windows n = (at key : ℕ) → at < n → at < 2 ^ 32 → front (drop at program) ≡ Some key → Contains windows (key * 2 ^ 32 + at)
+
+-- The window at an offset.
+abbrev pub window_at : List ℕ → ℕ → Option ℕ
+window_at program at = option_map (λ key. key * 2 ^ 32 + at) (front (drop at program))
+
+pub record AreWindows (program sorted : List ℕ) : Type 0 where
+  pub has : HasWindows program sorted (length program)
+  pub rises : IsNonDecreasing sorted
+
+-- The offset of a window with this number.
+abbrev pub offset_with : ℕ → ℕ → Option ℕ
+offset_with key window = if nat_le (key * 2 ^ 32) window && nat_lt (window - key * 2 ^ 32) (2 ^ 32) then Some (window - key * 2 ^ 32) else None
+
+abbrev pub offset_in : List ℕ → ℕ → ℕ → Option ℕ
+offset_in sorted number key = option_and_then (offset_with key) (slice_get sorted number)
+
+-- ---- places
+
+abbrev pub address_for : ℕ → ℕ → ℕ → Option ℕ
+address_for base at offset = if nat_lt (base + at) (2 ^ 32) && nat_le offset (base + at) then Some (base + at - offset) else None
+
+abbrev pub tried_at : (ℕ → Bool) → Option ℕ → Tried
+tried_at test (Some address) = if test address then tried.Place address else tried.Other
+tried_at test None = tried.Other
+
+abbrev pub tried_with : (ℕ → Bool) → ℕ → ℕ → Option ℕ → Tried
+tried_with test base offset (Some at) = tried_at test (address_for base at offset)
+tried_with test base offset None = tried.End
+
+-- The places that the windows up to a number show.
+abbrev pub HasPlaces : (ℕ → Tried) → ℕ → ℕ → List ℕ → Type 0
+HasPlaces try first number places = (k address : ℕ) → first ≤ k → k < number → try k ≡ tried.Place address → Contains places address
+
+-- Each place passes a test, and where there are no more, all that pass it are there.
+pub record ArePlaces (byte : ℕ → Option PatternByte) (program : List ℕ) (base : ℕ) (places : List ℕ) (more : Bool) : Type 0 where
+  pub agree : (address : ℕ) → Contains places address → Agrees byte program base address
+  pub all : more ≡ false → base + length program ≤ 2 ^ 32 → (address : ℕ) → Agrees byte program base address → Contains places address
+
+-- What is known of a segment with this pattern.
+pub record IsShape (byte : ℕ → Option PatternByte) (program : List ℕ) (base : ℕ) (s : Shape) : Type 0 where
+  pub places : ArePlaces byte program base s.places.items s.more
+  pub sought : HasFour byte → s.is_searched ≡ true
+  pub others : s.is_searched ≡ false → s.more ≡ true
+
+-- The shapes of the segments of a module: each of the first n segments has one.
+pub record AreShapes (byte : ℕ → ℕ → Option PatternByte) (program : List ℕ) (base n : ℕ) (ss : List Shape) : Type 0 where
+  pub each : (s : Shape) → Contains ss s → IsShape (byte s.segment) program base s
+  pub every : (segment : ℕ) → 1 ≤ segment → segment ≤ n → (s : Shape) × Contains ss s × (s.segment ≡ segment)
+
+-- The bytes of a segment of a module, as its pattern has them.
+abbrev pub bytes_of : Module → ℕ → ℕ → Option PatternByte
+bytes_of m segment = pattern profile_limits (recs_of m.bytes) segment
+
+abbrev pub IsShapeOf : Program → Module → Shape → Type 0
+IsShapeOf program m s = IsShape (bytes_of m s.segment) program.bytes.items program.base s
+
+-- The segments of a module have these shapes.
+abbrev pub HaveShapes : Program → Module → List Shape → Type 0
+HaveShapes program m ss = AreShapes (bytes_of m) program.bytes.items program.base (length (segments (recs_of m.bytes))) ss
+
+abbrev pub HasShapes : Program → Module → Vec Shape → Type 0
+HasShapes program m ss = HaveShapes program m ss.items
+
+-- ---- candidates
+
+-- A pattern with marks is that of a module.
+pub record IsPatternOf (m : Module) (p : Marks) : Type 0 where
+  pub bytes : (segment x : ℕ) → byte_in p segment x ≡ bytes_of m segment x
+  pub marked : IsMarked p
+
+-- A segment agrees with a program at each of these addresses.
+abbrev pub AgreeAt : (ℕ → Option PatternByte) → Program → List ℕ → Type 0
+AgreeAt byte program addresses = (address : ℕ) → Contains addresses address → Agrees byte program.bytes.items program.base address
+
+-- What is offered of a segment: a candidate, or none if it agrees nowhere or is not searched for.
+abbrev pub IsOffered : Program → Module → Shape → Option Candidate → Type 0
+IsOffered program m s None = IsInside program → (address : ℕ) → IsSought m s.segment → IsAt program m s.segment address → ⊥
+IsOffered program m s (Some c) = IsCandidate program m c × (c.segment ≡ s.segment)
