@@ -14,6 +14,7 @@ mod contents;
 mod devices;
 mod exe;
 mod externals;
+mod finding;
 mod framers;
 mod framing;
 mod headline;

@@ -1,7 +1,9 @@
 //! Modules that a linker writes itself. Their bytes are written by hand from the standard.
 
 use super::layouts::modules_of;
-use omf_layout::own::{CommunalReason, CommunalsFault, communals_module, stack_module};
+use omf_layout::own::{
+    CommunalReason, CommunalsFault, Home, communals_module, exe_home, stack_module,
+};
 use omf_samples::{END, HEADER, joined};
 use std::alloc::Global;
 
@@ -124,7 +126,10 @@ fn is_made(alloc: Global, made: &Made) -> bool {
     let Some(modules) = modules_of(alloc, *modules) else {
         return false;
     };
-    match (communals_module(alloc, &modules), between) {
+    match (
+        communals_module(alloc, &modules, &exe_home(&modules)),
+        between,
+    ) {
         (Ok(None), None) => true,
         (Ok(Some(bytes)), Some(between)) => match expected(alloc, *between) {
             Some(wanted) => bytes.as_slice() == wanted.as_slice(),
@@ -146,7 +151,7 @@ fn has_fault(alloc: Global, modules: Modules, name: &[u8], reason: CommunalReaso
     let Some(modules) = modules_of(alloc, modules) else {
         return false;
     };
-    match communals_module(alloc, &modules) {
+    match communals_module(alloc, &modules, &Home::Apart) {
         Err(
             CommunalsFault::Communal {
                 name: at,

@@ -30,7 +30,19 @@ const ROWS: &[&str] = &[HEADER, NAMES, SEGMENT, SEGMENT, EXTERNAL, END];
 
 const SEVERAL: LineFault = LineFault::Several;
 
-static CASES: [Case; 5] = [
+/// No line before it gives the frame.
+const UNSHARED: Given = Err(LocatorFault::Line {
+    line: 2,
+    why: LineFault::Unshared,
+});
+
+/// An external shares no frame.
+const NOT_UNDERSTOOD: Given = Err(LocatorFault::Line {
+    line: 3,
+    why: LineFault::NotUnderstood,
+});
+
+static CASES: [Case; 8] = [
     Case {
         text: "X \"X\" 30 0 0",
         given: Err(LocatorFault::Line {
@@ -63,6 +75,27 @@ static CASES: [Case; 5] = [
     },
     Case {
         text: "M #1\nS #2 20 real\nS #1 10 real\nX #1 30 0 0",
+        given: Ok((Some(0x10), Some(0x20), Some(0x30))),
+        linked: Ok((Some(0x10), Some(0x20), Some(0x30))),
+    },
+    Case {
+        text: "M #1\nS #1 20 shared\nS #2 20 real",
+        given: UNSHARED,
+        linked: Err(LinkFault::Line {
+            line: 2,
+            why: LineFault::Unshared,
+        }),
+    },
+    Case {
+        text: "M #1\nS #2 20 real\nX #1 30 shared",
+        given: NOT_UNDERSTOOD,
+        linked: Err(LinkFault::Line {
+            line: 3,
+            why: LineFault::NotUnderstood,
+        }),
+    },
+    Case {
+        text: "M #1\nS #2 20 1234 5\nS #1 10 shared\nX #1 30 0 0",
         given: Ok((Some(0x10), Some(0x20), Some(0x30))),
         linked: Ok((Some(0x10), Some(0x20), Some(0x30))),
     },
@@ -155,6 +188,29 @@ fn first_wrong(alloc: Global, may_fail: bool) -> Option<&'static str> {
         }
     }
     None
+}
+
+/// Whether a segment is in the frame of the first line for its name, which no other segment is in, or a growth is refused and it `may_fail`.
+fn shares_a_frame(alloc: Global, may_fail: bool) -> bool {
+    let Some(module) = module_of(alloc, ROWS) else {
+        return may_fail;
+    };
+    let text = b"M #1\nS #2 20 1234 5\nS #1 10 shared".as_slice();
+    match sparse_places(alloc, &[module], text) {
+        Ok(sparse) => match sparse.as_slice() {
+            [one] => match one.segment(1) {
+                Some(place) => place.frame.base == 0x1234 && place.frame.selector == 5,
+                None => false,
+            },
+            _ => false,
+        },
+        Err(_) => may_fail,
+    }
+}
+
+#[test]
+fn a_segment_shares_the_frame_of_its_name(rt: HostRuntime) {
+    assert_eq!(rt; shares_a_frame(rt.alloc(), false), true);
 }
 
 #[test]

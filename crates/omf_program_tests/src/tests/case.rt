@@ -1,7 +1,8 @@
 //! Names without case: the option `--ignore-case`.
 
+use super::exe::made_of;
 use omf_cmd::Gathered;
-use omf_linker::exe::ProgramModules;
+use omf_linker::exe::{ExeOptions, ProgramKind};
 use omf_linker::link::{FilesFault, InputFile, Task};
 use omf_linker::seen::{Allowed, Request, SeenText, files_folded, files_seen, input_folded};
 use omf_samples::{bytes_of, joined};
@@ -190,14 +191,10 @@ fn member_is_taken(alloc: Global) -> bool {
     let Some(files) = files_of(alloc, &[CALLS, LIBRARY]) else {
         return false;
     };
-    let Ok(modules) = ProgramModules::folded(alloc, &files) else {
-        return false;
-    };
-    let Ok(linked) = modules.linked(alloc) else {
-        return false;
-    };
-    match (linked.exe(alloc, &files), bytes_of(alloc, PROGRAM)) {
-        (Ok(file), Ok(wanted)) => file.bytes == wanted,
+    let mut options = ExeOptions::new(alloc, ProgramKind::Exe);
+    options.ignore_case = true;
+    match (made_of(alloc, files, &options), bytes_of(alloc, PROGRAM)) {
+        (Ok(made), Ok(wanted)) => made.bytes == wanted,
         _ => false,
     }
 }
@@ -207,13 +204,7 @@ fn member_is_left(alloc: Global) -> bool {
     let Some(files) = files_of(alloc, &[CALLS, LIBRARY]) else {
         return false;
     };
-    let Ok(modules) = ProgramModules::of(alloc, &files) else {
-        return false;
-    };
-    let Ok(linked) = modules.linked(alloc) else {
-        return false;
-    };
-    let Err(refusal) = linked.exe(alloc, &files) else {
+    let Err(refusal) = made_of(alloc, files, &ExeOptions::new(alloc, ProgramKind::Exe)) else {
         return false;
     };
     let mut sink = Gathered::new(alloc);

@@ -1,8 +1,8 @@
 //! Runs of `omf-link com` over files.
 
-use super::exe::file_of;
+use super::exe::{file_of, made_of};
 use omf_cmd::Gathered;
-use omf_linker::exe::com_of_files;
+use omf_linker::exe::{ExeOptions, ProgramKind};
 use omf_samples::bytes_of;
 use std::alloc::Global;
 
@@ -46,6 +46,22 @@ const CALLS: &str =
 const LIBRARY: &str =
     "F00D0000000000000000000000000000 80030001420096040000015400980700280100020101009008000001016700000000A0050001000090008A020000000080030001420096040000015400980700280100020101009008000001016600000000A00500010000C3008A0200000000F1";
 
+/// A main module: `mov dx, f` and `int 20H` at 100H of the public segment T, where f is a near communal of 2 bytes, and the segment S of 3 bytes.
+const SHARES: &str =
+    "80030001413B 960600000154015300 98070028050102010100 98070028030003010100 B00600016600620200 A00900010001BA0000CD2000 9C0500C401560100 A00700020000242424008A0700C1000101000100";
+
+/// The same with T and S in a group S.
+const GROUPED: &str =
+    "80030001413B 960600000154015300 98070028050102010100 98070028030003010100 9A060003FF01FF0200 B00600016600620200 A00900010001BA0000CD2000 9C0500C401560100 A00700020000242424008A0700C1000101000100";
+
+/// The same without a group, and T private.
+const PRIVATE: &str =
+    "80030001413B 960600000154015300 98070020050102010100 98070028030003010100 B00600016600620200 A00900010001BA0000CD2000 9C0500C401560100 A00700020000242424008A0700C1000101000100";
+
+/// A module with an empty part of T in a group S.
+const GROUP: &str =
+    "800300014200 960600000154015300 98070028000002010100 9A040003FF0100 8A02000000";
+
 /// A main module: `mov ax, SEGMENT` and `int 20H` at 100H of the segment T.
 const WORD: &str =
     "80030001413B 96040000015400 98070028050102010100 A00900010001B80000CD2000 9C0500C801540100 8A0700C1000101000100";
@@ -58,6 +74,10 @@ const LOW: &str =
 const AT_0: &str =
     "80030001413B 96040000015400 98070028020102010100 A00600010001CD2000 8A0700C1000101000000";
 
+/// The module of ONE, with an LEDATA without bytes 6 bytes after its last byte, in a segment T of 264 bytes, and another in an absolute segment at 40H:0.
+const NOTHING: &str =
+    "80030001413B 960600000154015300 98070028080102010100 980A0000400000040003010100 A00600010001CD2000 A0040001080100 A0040002000000 8A0700C1000101000100";
+
 /// The names of files and their bytes, and the file of their program; without one, the line.
 struct Case {
     files: &'static [(&'static str, &'static str)],
@@ -65,7 +85,13 @@ struct Case {
     line: &'static str,
 }
 
-static CASES: [Case; 13] = [
+static CASES: [Case; 18] = [
+    // Data without bytes lengthen no file, and may lie anywhere.
+    Case {
+        files: &[("nothing.obj", NOTHING)],
+        program: "CD20",
+        line: "",
+    },
     Case {
         files: &[("one.obj", ONE)],
         program: "CD20",
@@ -106,6 +132,29 @@ static CASES: [Case; 13] = [
         files: &[("near.obj", NEAR)],
         program: "",
         line: "near: file \"near.obj\" module 1 segment \"T\" offset 00000101: its target is in another frame\n",
+    },
+    // Without a group the communal is in T: at 106H, the first even offset after its 261 bytes. S is after it.
+    Case {
+        files: &[("shares.obj", SHARES)],
+        program: "BA0601CD20 000000 242424",
+        line: "",
+    },
+    // In the group of T it is after S, at 108H; also where another module has the group.
+    Case {
+        files: &[("grouped.obj", GROUPED)],
+        program: "BA0801CD20 242424",
+        line: "",
+    },
+    Case {
+        files: &[("shares.obj", SHARES), ("group.obj", GROUP)],
+        program: "BA0801CD20 242424",
+        line: "",
+    },
+    // Nothing joins a private segment: the communal counts from a frame of its own.
+    Case {
+        files: &[("private.obj", PRIVATE)],
+        program: "",
+        line: "file \"private.obj\" module 1 segment \"T\" offset 00000101: counts from another frame: a .COM file has one segment, put code and data in one group\n",
     },
     // Only the second member takes part: its byte is at 103H, right after the call.
     Case {
@@ -154,8 +203,9 @@ fn is_right(alloc: Global, case: &Case) -> bool {
             return false;
         }
     }
-    match com_of_files(alloc, &files) {
-        Ok(bytes) => is_program(alloc, case, &bytes),
+    let mut options = ExeOptions::new(alloc, ProgramKind::Com);
+    match made_of(alloc, files, &options) {
+        Ok(made) => is_program(alloc, case, &made.bytes),
         Err(refusal) => {
             let mut sink = Gathered::new(alloc);
             refusal.print(&mut sink);

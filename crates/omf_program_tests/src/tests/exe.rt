@@ -1,7 +1,7 @@
 //! Runs of `omf-link exe` over files.
 
 use omf_cmd::Gathered;
-use omf_linker::exe::{ExeOptions, ProgramModules, exe_of_files};
+use omf_linker::exe::{ExeOptions, MadeProgram, ProgramFiles, ProgramKind, Refusal};
 use omf_linker::link::InputFile;
 use omf_samples::bytes_of;
 use std::alloc::Global;
@@ -52,7 +52,23 @@ const SHARES: &str =
 /// A module with f as a far communal of twice 1 byte.
 const FAR: &str = "800300014200 B0070001660061020100 8A02000000";
 
-static CASES: [Case; 13] = [
+/// A module that is not main, whose start is in an absolute segment of 4 bytes at 40H:0.
+const OTHER_START: &str =
+    "800300014200 96040000015500 980A0000400000040002010100 8A070041000101000000";
+
+/// The main module of NO_STACK, whose segment T has 16 bytes. An LEDATA without bytes, at its end.
+const NOTHING_AT_THE_END: &str =
+    "80030001413B 960600000154015300 98070028100002010100 A00800010000B80000CB00 9C0500C801540100 A0040001100000 8A0700C1000101000000";
+
+/// A module that is not main, with an LEDATA without bytes, in an absolute segment of 4 bytes at 40H:0.
+const NOTHING_LIES_THERE: &str =
+    "800300014200 96040000015500 980A0000400000040002010100 A0040001000000 8A02000000";
+
+/// The same with one byte there.
+const ONE_LIES_THERE: &str =
+    "800300014200 96040000015500 980A0000400000040002010100 A00500010000AB00 8A02000000";
+
+static CASES: [Case; 17] = [
     // The word at 1 moves. Two paragraphs from the end of the image on, the stack ends at 1:10H.
     Case {
         files: &[("one.obj", ONE)],
@@ -72,6 +88,33 @@ static CASES: [Case; 13] = [
         program: "4D5A2600010001000200 0000FFFF0000000000000000 00001C000000 03000000 9A05000000CB",
         has_stack: false,
         line: "",
+    },
+    // Nothing reads the start of the second module, so it need not move. The program is that of the first alone.
+    Case {
+        files: &[("one.obj", NO_STACK), ("other.obj", OTHER_START)],
+        program: "4D5A2400010001000200 0000FFFF0000000000000000 00001C000000 01000000 B80000CB",
+        has_stack: false,
+        line: "",
+    },
+    // The image ends after the last byte, at 4; the segment ends at 16, which is one paragraph more.
+    Case {
+        files: &[("one.obj", NOTHING_AT_THE_END)],
+        program: "4D5A2400010001000200 0100FFFF0000000000000000 00001C000000 01000000 B80000CB",
+        has_stack: false,
+        line: "",
+    },
+    // No byte is in the absolute segment, so the program is that of the first module alone.
+    Case {
+        files: &[("one.obj", NO_STACK), ("other.obj", NOTHING_LIES_THERE)],
+        program: "4D5A2400010001000200 0000FFFF0000000000000000 00001C000000 01000000 B80000CB",
+        has_stack: false,
+        line: "",
+    },
+    Case {
+        files: &[("one.obj", NO_STACK), ("other.obj", ONE_LIES_THERE)],
+        program: "",
+        has_stack: false,
+        line: "file \"other.obj\" module 1 segment \"U\" offset 00000000: does not move with the program\n",
     },
     // Nobody needs the member that is refused.
     Case {
@@ -153,6 +196,15 @@ pub(super) fn file_of(alloc: Global, name: &str, bytes: &str) -> Option<InputFil
     }
 }
 
+/// What is made of files with these options.
+pub(super) fn made_of(
+    alloc: Global,
+    files: Vec<InputFile>,
+    options: &ExeOptions<'_>,
+) -> Result<MadeProgram, Refusal> {
+    ProgramFiles::of(alloc, files, options.ignore_case)?.make(alloc, options)
+}
+
 /// The files of a case; `None` where they find no memory.
 fn files_of(alloc: Global, case: &Case) -> Option<Vec<InputFile>> {
     let mut files = Vec::new(alloc);
@@ -166,9 +218,9 @@ fn files_of(alloc: Global, case: &Case) -> Option<Vec<InputFile>> {
 }
 
 /// Whether a program's file is as it is to be.
-fn is_program(alloc: Global, case: &Case, bytes: &[u8], has_stack: bool) -> bool {
+fn is_program(alloc: Global, case: &Case, made: &MadeProgram) -> bool {
     match bytes_of(alloc, case.program) {
-        Ok(wanted) => bytes == wanted.as_slice() && has_stack == case.has_stack,
+        Ok(wanted) => made.bytes == wanted && made.lacks_stack != case.has_stack,
         Err(_) => false,
     }
 }
@@ -178,8 +230,8 @@ fn is_right(alloc: Global, case: &Case) -> bool {
     let Some(files) = files_of(alloc, case) else {
         return false;
     };
-    match exe_of_files(alloc, &files) {
-        Ok(file) => is_program(alloc, case, &file.bytes, file.has_stack),
+    match made_of(alloc, files, &ExeOptions::new(alloc, ProgramKind::Exe)) {
+        Ok(made) => is_program(alloc, case, &made),
         Err(refusal) => {
             let mut sink = Gathered::new(alloc);
             refusal.print(&mut sink);
@@ -204,42 +256,32 @@ const MAP: &str = "module 1 file \"calls.obj\" module 1\n\
     external 1 1 00000005 \"f\"\n";
 
 /// Whether the map of files is a text.
-fn is_mapped(alloc: Global, files: &[InputFile], text: &str) -> bool {
-    let Ok(modules) = ProgramModules::of(alloc, files) else {
+fn is_mapped(alloc: Global, files: Vec<InputFile>, text: &str) -> bool {
+    let mut options = ExeOptions::new(alloc, ProgramKind::Exe);
+    options.map = Some("a.map");
+    let Ok(made) = made_of(alloc, files, &options) else {
         return false;
     };
-    let Ok(linked) = modules.linked(alloc) else {
-        return false;
-    };
-    match linked.map(alloc, files) {
-        Ok(map) => map.as_slice() == text.as_bytes(),
-        Err(_) => false,
+    match &made.map {
+        Some(map) => map.as_slice() == text.as_bytes(),
+        None => false,
     }
 }
 
 #[test]
 fn a_map_begins_with_the_modules(rt: HostRuntime) {
     match files_of(rt.alloc(), &CASES[2]) {
-        Some(files) => assert!(rt; is_mapped(rt.alloc(), &files, MAP)),
+        Some(files) => assert!(rt; is_mapped(rt.alloc(), files, MAP)),
         None => assert!(rt; false),
     }
 }
 
 /// Whether a stack of 16 bytes is added to the program of files, from 10H on: SS:SP of the header is 1:10H.
-fn has_added_stack(alloc: Global, files: &[InputFile]) -> bool {
-    let mut options = ExeOptions::new(alloc);
+fn has_added_stack(alloc: Global, files: Vec<InputFile>) -> bool {
+    let mut options = ExeOptions::new(alloc, ProgramKind::Exe);
     options.stack = Some(16);
-    let Ok(modules) = ProgramModules::of(alloc, files) else {
-        return false;
-    };
-    let Ok(all) = modules.with_added(alloc, &options) else {
-        return false;
-    };
-    let Ok(linked) = all.linked(alloc) else {
-        return false;
-    };
-    match linked.exe(alloc, files) {
-        Ok(file) => file.has_stack && file.bytes.get(14..18) == Some(&[1, 0, 16, 0]),
+    match made_of(alloc, files, &options) {
+        Ok(made) => !made.lacks_stack && made.bytes.get(14..18) == Some(&[1, 0, 16, 0]),
         Err(_) => false,
     }
 }
@@ -247,7 +289,7 @@ fn has_added_stack(alloc: Global, files: &[InputFile]) -> bool {
 #[test]
 fn a_stack_is_added(rt: HostRuntime) {
     match files_of(rt.alloc(), &CASES[2]) {
-        Some(files) => assert!(rt; has_added_stack(rt.alloc(), &files)),
+        Some(files) => assert!(rt; has_added_stack(rt.alloc(), files)),
         None => assert!(rt; false),
     }
 }

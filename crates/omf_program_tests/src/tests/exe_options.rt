@@ -2,7 +2,7 @@
 
 use omf_linker::asked::{Asked, sorted};
 use omf_linker::exe::{
-    Call, ExeOptions, Order, ProgramModules, call_of, library_files, missing_lines,
+    Call, ExeOptions, Order, ProgramFiles, ProgramKind, call_of, library_files, missing_lines,
 };
 use omf_linker::link::InputFile;
 use omf_samples::bytes_of;
@@ -37,7 +37,7 @@ const NONE: Read = Read {
 /// Arguments, separated by spaces, and the options that they give.
 type Case = (&'static str, Option<Read>);
 
-static CASES: [Case; 30] = [
+static CASES: [Case; 35] = [
     ("", Some(NONE)),
     (
         "--map a.map",
@@ -128,13 +128,36 @@ static CASES: [Case; 30] = [
             ..NONE
         }),
     ),
+    (
+        "--stack 10H",
+        Some(Read {
+            stack: Some(16),
+            ..NONE
+        }),
+    ),
+    (
+        "--stack 0xfffe",
+        Some(Read {
+            stack: Some(65534),
+            ..NONE
+        }),
+    ),
+    (
+        "--stack 4K",
+        Some(Read {
+            stack: Some(4096),
+            ..NONE
+        }),
+    ),
     // A value is missing, wrong, or there twice; an option is unknown.
     ("--map", None),
     ("--stack", None),
     ("--stack 0", None),
     ("--stack 65535", None),
     ("--stack +1", None),
-    ("--stack 10H", None),
+    ("--stack FF", None),
+    ("--stack 64K", None),
+    ("--stack 0x", None),
     ("--order", None),
     ("--order DOS", None),
     ("--order dos --order dos", None),
@@ -177,7 +200,7 @@ fn is_right(alloc: Global, case: &Case) -> bool {
     let Ok(arguments) = arguments_of(alloc, case.0) else {
         return false;
     };
-    match (ExeOptions::of(alloc, &arguments), &case.1) {
+    match (ExeOptions::of(alloc, ProgramKind::Exe, &arguments), &case.1) {
         (Ok(Some(options)), Some(read)) => are_read(&options, read),
         (Ok(None), None) => true,
         _ => false,
@@ -191,29 +214,44 @@ fn options_are_read_or_refused(rt: HostRuntime) {
     }
 }
 
-/// Whether sorted arguments make a program, have four options with their values, and name one file.
-fn is_call(asked: &Asked) -> bool {
+/// Whether sorted arguments make a program of a kind, have four options with their values, and name one file.
+fn is_call(asked: &Asked, kind: ProgramKind) -> bool {
     match call_of(asked) {
-        Call::Exe(output) => output == "a.exe" && asked.words.len() == 10 && asked.files.len() == 1,
-        Call::Com(_) | Call::Other | Call::Misused => false,
+        Call::Program(of, output) => {
+            of == kind && output == "a.out" && asked.words.len() == 10 && asked.files.len() == 1
+        }
+        Call::Other | Call::Misused => false,
     }
 }
 
-/// Whether options with values may be before and after the files.
-fn options_have_values(alloc: Global) -> bool {
-    let text = "omf-link exe --map a.map a.obj --stack 8 -o a.exe --allow twice --library-path b";
+/// Calls, and the kind of program that they make. Options with values are before and after the files.
+static CALLS: [(&str, ProgramKind); 2] = [
+    (
+        "omf-link exe --map a.map a.obj --stack 8 -o a.out --allow twice --library-path b",
+        ProgramKind::Exe,
+    ),
+    (
+        "omf-link com --map a.map a.obj --stack 8 -o a.out --allow twice --library-path b",
+        ProgramKind::Com,
+    ),
+];
+
+/// Whether a call makes a program of this kind.
+fn makes(alloc: Global, text: &str, kind: ProgramKind) -> bool {
     let Ok(arguments) = arguments_of(alloc, text) else {
         return false;
     };
     match sorted(alloc, &arguments, 2) {
-        Ok(Some(asked)) => is_call(&asked),
+        Ok(Some(asked)) => is_call(&asked, kind),
         Ok(None) | Err(AllocError) => false,
     }
 }
 
 #[test]
 fn values_of_options_are_no_files(rt: HostRuntime) {
-    assert!(rt; options_have_values(rt.alloc()));
+    for (at, (text, kind)) in CALLS.iter().enumerate() {
+        assert!(rt; makes(rt.alloc(), text, *kind), "{at}");
+    }
 }
 
 /// A module that asks for the libraries a, b and a.
@@ -231,8 +269,8 @@ fn asked_besides(alloc: Global, known: &[Vec<u8>]) -> Option<Vec<Vec<u8>>> {
     {
         return None;
     }
-    match ProgramModules::of(alloc, &files) {
-        Ok(modules) => modules.sought(alloc, known).ok(),
+    match ProgramFiles::of(alloc, files, false) {
+        Ok(program) => program.sought(alloc, known).ok(),
         Err(_) => None,
     }
 }

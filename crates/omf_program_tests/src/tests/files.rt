@@ -1,7 +1,8 @@
 //! Runs of `omf-link` over files.
 
-use omf_cmd::Gathered;
-use omf_linker::link::{InputFile, Task, run_files};
+use omf_cmd::{Fault, Gathered};
+use omf_linker::link::{FilesFault, InputFile, Task};
+use omf_linker::seen::{Allowed, Request, SeenText, files_seen};
 use omf_samples::bytes_of;
 use std::alloc::Global;
 
@@ -153,13 +154,32 @@ fn files_of(alloc: Global, case: &Case) -> Option<Vec<InputFile>> {
     Some(files)
 }
 
+/// What a case gives.
+fn seen(alloc: Global, case: &Case, files: Vec<InputFile>) -> Result<SeenText, FilesFault> {
+    let request = Request {
+        task: case.task,
+        text: case.text.as_bytes(),
+        allowed: Allowed::nothing(),
+    };
+    files_seen(alloc, request, files)
+}
+
 /// Whether a case ends and prints as it is to.
 fn is_right(alloc: Global, case: &Case) -> bool {
     let Some(files) = files_of(alloc, case) else {
         return false;
     };
     let mut sink = Gathered::new(alloc);
-    let status = run_files(alloc, case.task, files, case.text.as_bytes(), &mut sink);
+    let status = match seen(alloc, case, files) {
+        Ok(seen) => match seen.shown.print(&mut sink) {
+            Ok(()) => 0,
+            Err(_) => 3,
+        },
+        Err(fault) => {
+            fault.print(&mut sink);
+            fault.status()
+        }
+    };
     status == case.status && sink.text.as_slice() == case.printed.as_bytes()
 }
 

@@ -1,8 +1,8 @@
 //! Programs in DOS order.
 
-use super::exe::file_of;
+use super::exe::{file_of, made_of};
 use omf_cmd::Gathered;
-use omf_linker::exe::{ExeOptions, Order, ProgramModules, Refusal};
+use omf_linker::exe::{ExeOptions, MadeProgram, Order, ProgramKind, Refusal};
 use omf_linker::link::InputFile;
 use std::alloc::Global;
 
@@ -41,19 +41,24 @@ static CASES: [(&str, Option<Order>, &str); 5] = [
     (SILENT, None, UNDEFINED),
 ];
 
-/// The map of a program of files in this order.
-fn map_of(alloc: Global, files: &[InputFile], order: Option<Order>) -> Result<Vec<u8>, Refusal> {
-    let mut options = ExeOptions::new(alloc);
+/// A program of files in this order, with its map.
+fn in_order(
+    alloc: Global,
+    files: Vec<InputFile>,
+    order: Option<Order>,
+) -> Result<MadeProgram, Refusal> {
+    let mut options = ExeOptions::new(alloc, ProgramKind::Exe);
+    options.map = Some("a.map");
     options.order = order;
-    let modules = ProgramModules::of(alloc, files)?;
-    let modules = modules.with_added(alloc, &options)?;
-    modules.linked(alloc)?.map(alloc, files)
+    made_of(alloc, files, &options)
 }
 
 /// Whether a program of files in this order has this map, or this line.
-fn is_right(alloc: Global, files: &[InputFile], order: Option<Order>, text: &str) -> bool {
-    match map_of(alloc, files, order) {
-        Ok(map) => map.as_slice() == text.as_bytes(),
+fn is_right(alloc: Global, files: Vec<InputFile>, order: Option<Order>, text: &str) -> bool {
+    match in_order(alloc, files, order) {
+        Ok(made) => made
+            .map
+            .is_some_and(|map| map.as_slice() == text.as_bytes()),
         Err(refusal) => {
             let mut sink = Gathered::new(alloc);
             refusal.print(&mut sink);
@@ -75,7 +80,7 @@ fn files_of(alloc: Global, bytes: &str) -> Option<Vec<InputFile>> {
 fn programs_are_in_dos_order(rt: HostRuntime) {
     for (at, (bytes, order, text)) in CASES.iter().enumerate() {
         match files_of(rt.alloc(), *bytes) {
-            Some(files) => assert!(rt; is_right(rt.alloc(), &files, *order, *text), "{at}"),
+            Some(files) => assert!(rt; is_right(rt.alloc(), files, *order, *text), "{at}"),
             None => assert!(rt; false),
         }
     }

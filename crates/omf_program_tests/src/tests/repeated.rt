@@ -1,8 +1,8 @@
 //! Programs in which more than one public has a name: the option `--allow twice` of `omf-link exe` and `com`.
 
-use super::exe::file_of;
+use super::exe::{file_of, made_of};
 use omf_cmd::Gathered;
-use omf_linker::exe::{ExeOptions, ProgramModules, Refusal, com_of_files, exe_of_files};
+use omf_linker::exe::{ExeOptions, MadeProgram, ProgramKind, Refusal};
 use omf_linker::link::InputFile;
 use omf_samples::bytes_of;
 use std::alloc::Global;
@@ -50,7 +50,7 @@ const COM: &str =
 /// Files and the lines of the names that more than one public has. The program, if that is allowed; if there is none, the lines are its fault.
 struct Case {
     files: &'static [(&'static str, &'static str)],
-    is_com: bool,
+    kind: ProgramKind,
     ignores_case: bool,
     lines: &'static str,
     program: &'static str,
@@ -59,7 +59,7 @@ struct Case {
 /// An .EXE program, with the case of names.
 const EXE: Case = Case {
     files: &[],
-    is_com: false,
+    kind: ProgramKind::Exe,
     ignores_case: false,
     lines: "",
     program: "",
@@ -75,7 +75,7 @@ static CASES: [Case; 11] = [
     },
     Case {
         files: &[("a.obj", COM), ("b.obj", F)],
-        is_com: true,
+        kind: ProgramKind::Com,
         lines: "twice \"f\": file \"a.obj\" module 1, file \"b.obj\" module 1\n",
         program: "CD2090",
         ..EXE
@@ -89,7 +89,7 @@ static CASES: [Case; 11] = [
     },
     Case {
         files: &[("a.obj", COM), ("b.obj", G), ("c.obj", G_F)],
-        is_com: true,
+        kind: ProgramKind::Com,
         lines: "twice \"f\": file \"a.obj\" module 1, file \"c.obj\" module 1\ntwice \"g\": file \"b.obj\" module 1, file \"c.obj\" module 1\n",
         program: "CD209090",
         ..EXE
@@ -158,23 +158,13 @@ fn files_of(alloc: Global, case: &Case) -> Option<Vec<InputFile>> {
 fn linked(
     alloc: Global,
     case: &Case,
-    files: &[InputFile],
+    files: Vec<InputFile>,
     is_allowed: bool,
-) -> Result<(Vec<u8>, Option<String>), Refusal> {
-    let modules = if case.ignores_case {
-        ProgramModules::folded(alloc, files)?
-    } else {
-        ProgramModules::of(alloc, files)?
-    };
-    let all = modules.with_added(alloc, &ExeOptions::new(alloc))?;
-    let all = all.linked(alloc)?;
-    let bytes = if case.is_com {
-        all.com(alloc, files)?
-    } else {
-        all.exe(alloc, files)?.bytes
-    };
-    let lines = all.repeated(alloc, files, is_allowed)?;
-    Ok((bytes, lines))
+) -> Result<MadeProgram, Refusal> {
+    let mut options = ExeOptions::new(alloc, case.kind);
+    options.ignore_case = case.ignores_case;
+    options.allows_twice = is_allowed;
+    made_of(alloc, files, &options)
 }
 
 /// Whether a refusal has these lines, and is one of the files.
@@ -205,9 +195,9 @@ fn is_refused(alloc: Global, case: &Case) -> bool {
     let Some(files) = files_of(alloc, case) else {
         return false;
     };
-    match linked(alloc, case, &files, false) {
-        Ok((bytes, lines)) => {
-            case.lines.is_empty() && lines.is_none() && is_program(alloc, case, &bytes)
+    match linked(alloc, case, files, false) {
+        Ok(made) => {
+            case.lines.is_empty() && made.repeated.is_none() && is_program(alloc, case, &made.bytes)
         }
         Err(refusal) => !case.lines.is_empty() && is_refusal(alloc, &refusal, case.lines),
     }
@@ -218,9 +208,9 @@ fn is_allowed(alloc: Global, case: &Case) -> bool {
     let Some(files) = files_of(alloc, case) else {
         return false;
     };
-    match linked(alloc, case, &files, true) {
-        Ok((bytes, lines)) => {
-            are_lines(lines.as_ref(), case.lines) && is_program(alloc, case, &bytes)
+    match linked(alloc, case, files, true) {
+        Ok(made) => {
+            are_lines(made.repeated.as_ref(), case.lines) && is_program(alloc, case, &made.bytes)
         }
         Err(refusal) => case.program.is_empty() && is_refusal(alloc, &refusal, case.lines),
     }
@@ -237,28 +227,5 @@ fn names_with_several_publics_are_refused(rt: HostRuntime) {
 fn names_with_several_publics_are_allowed(rt: HostRuntime) {
     for (at, case) in CASES.iter().enumerate() {
         assert!(rt; is_allowed(rt.alloc(), case), "{at}");
-    }
-}
-
-/// Whether the program of the files of a case is refused with its lines, without any option.
-fn is_refused_alone(alloc: Global, case: &Case) -> bool {
-    let Some(files) = files_of(alloc, case) else {
-        return false;
-    };
-    let refused = if case.is_com {
-        com_of_files(alloc, &files).err()
-    } else {
-        exe_of_files(alloc, &files).err()
-    };
-    match refused {
-        Some(refusal) => is_refusal(alloc, &refusal, case.lines),
-        None => false,
-    }
-}
-
-#[test]
-fn names_with_several_publics_are_refused_without_options(rt: HostRuntime) {
-    for case in CASES.get(..6).unwrap_or(&[]) {
-        assert!(rt; is_refused_alone(rt.alloc(), case));
     }
 }

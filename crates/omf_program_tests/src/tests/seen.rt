@@ -45,6 +45,10 @@ const CALLER: &str =
 const CALLED: &str =
     "80030001423A 96040000015510 98070028020002010100 9008000001015800000000 A00600010000CCDD00 8A02000074";
 
+/// The same in a group "G" that also has an empty part of the segment "T".
+const CALLED_IN_GROUP: &str =
+    "800300014200 9608000001550154014700 98070028020002010100 98070028000003010100 9A060004FF01FF0200 9008000101015800000000 A00600010000CCDD00 8A02000000";
+
 /// A module with one segment "T" of two bytes, and in it the public "X".
 const PUBLIC: &str =
     "80030001413B 96040000015411 98070028020002010100 9008000001015800000000 A00600010000CCDD00 8A02000074";
@@ -80,7 +84,7 @@ struct Case {
     warnings: &'static str,
 }
 
-static CASES: [Case; 36] = [
+static CASES: [Case; 37] = [
     // A name that two modules define and none asks for.
     Case {
         modules: [PUBLIC, PUBLIC],
@@ -383,6 +387,14 @@ static CASES: [Case; 36] = [
     Case {
         modules: [CALLER, CALLED],
         text: "M #1\nS #1 10020 10000 1000\nM #2\nS #1 10000 10000 1000",
+        allowed: NOTHING,
+        faults: "",
+        warnings: "",
+    },
+    // What is below the frame of its segment is in the frame of a group that another module gives this.
+    Case {
+        modules: [CALLER, CALLED_IN_GROUP],
+        text: "M #1\nS #1 10020 10020 1002\nM #2\nS #1 10000 10000 1000\nS #2 10020 10020 1002\nG #1 10000 1000",
         allowed: NOTHING,
         faults: "",
         warnings: "",
