@@ -4,7 +4,8 @@
 CALL is the front of a call, as `omf`, `omf check` or `omf-link map`. COMMAND runs the cases whose call begins with
 these words: it is split as a shell does, and the words of the call that are left are its last arguments, or are where
 it has {args}. The input comes on standard input, or in a file, whose name is where COMMAND has {input}. Where several
-CALLs fit a case, the longest is taken.
+CALLs fit a case, the longest is taken. What is compared is the standard output; or, where that is empty and the status is
+not 0, the standard error without the program's name before each line. A usage error there is compared by its status alone.
 
 Each case that goes wrong is one line, by its line in the file, and a line with the rule above it. Then comes a summary.
 The status is 0 where all cases that were run are right, and at least one was run; 1 where one is wrong; 2 where the
@@ -17,6 +18,7 @@ import shlex
 import subprocess
 import sys
 import tempfile
+import time
 
 CASES = pathlib.Path(__file__).resolve().parent.parent / "crates" / "omf_cases" / "stdin"
 CANNOT, CRASHED = 77, 124
@@ -84,14 +86,20 @@ def run(case, command, seconds):
         path.write_bytes(case.input)
         words = [it.replace("{input}", str(path)) for it in command]
         given = b"" if words != command else case.input
-        pipes = {"stdout": subprocess.PIPE, "stderr": subprocess.DEVNULL}
         try:
-            ended = subprocess.run(words, input=given, timeout=seconds, **pipes)
+            ended = subprocess.run(words, input=given, timeout=seconds, capture_output=True)
         except subprocess.TimeoutExpired:
             return None
         except OSError as error:
             stop(f"{words[0]} does not start: {error.strerror}")
-    return ended.returncode, ended.stdout
+    return ended.returncode, ended.stdout or said(ended)
+
+
+def said(ended):
+    """The faults of a program that prints them on standard error, without its name, which is before each; None for how it is called."""
+    if ended.returncode in (0, CANNOT) or ended.returncode >= CRASHED:
+        return b""
+    return None if ended.returncode == 2 and ended.stderr else re.sub(rb"(?m)^[a-z][a-z-]*: ", b"", ended.stderr)
 
 
 def is_same(printed, wanted):
@@ -111,14 +119,24 @@ def difference(case, ended, compared):
     is_verdict = compared == "verdict" and 0 <= status < CRASHED
     if (status == 0) != (case.status == 0) if is_verdict else status != case.status:
         return f"status {status}, wanted {case.status}"
-    if compared == "all" and not is_same(printed, case.printed):
+    if compared == "all" and printed is not None and not is_same(printed, case.printed):
         return f"printed {printed[:120]!r}, wanted {case.printed[:120]!r}"
     return None
 
 
+def in_turn(cases, first, seconds):
+    """The cases; or those from a number on, after the last the first again, for that many seconds, but none twice."""
+    begun, at = time.monotonic(), 0
+    while at < len(cases) and (first is None or time.monotonic() - begun < seconds):
+        yield cases[((first or 1) - 1 + at) % len(cases)]
+        at += 1
+    if first is not None:
+        print(f"seeds {first} to {first + at - 1}")
+
+
 def run_all(cases, commands, given):
     counts = collections.Counter()
-    for case in cases:
+    for case in in_turn(cases, given.first, given.slice):
         command = command_for(case, commands, given.exact)
         ended = run(case, command, given.seconds) if command else (CANNOT, b"")
         found = difference(case, ended, given.compare)
@@ -129,7 +147,7 @@ def run_all(cases, commands, given):
         if kind == "wrong":
             print(f"line {case.line}: {case.name}: {found}\n    rule: {case.rule}")
     print(", ".join(f"{counts[it]} {it}" for it in ("right", "wrong", "cannot", "not run")))
-    return 1 if counts["wrong"] or not counts["right"] else 0
+    return 1 if counts["wrong"] or not (counts["right"] or given.first) else 0
 
 
 def write_all(cases, folder):
@@ -152,6 +170,8 @@ def main():
     add("--name", default="", help="only the cases whose name has this word")
     add("--cases", type=pathlib.Path, default=CASES, help="other cases")
     add("--seconds", type=float, default=10, help="how long a case may take")
+    add("--first", type=int, help="begin with the case of this number, for the time of --slice")
+    add("--slice", type=float, default=60, help="seconds of the cases from --first on (60)")
     add("--calls", action="store_true", help="print how many cases each call has, and run nothing")
     add("--write", metavar="FOLDER", help="write NUMBER.name, .args, .input, .status and .printed, and run nothing")
     given = parser.parse_args()

@@ -1,24 +1,29 @@
 #!/usr/bin/env python3
-"""Tries omf-find: find.py
+"""Tries omf-find: find.py [--first SEED --count N] [--seconds S] [--keep FOLDER]
 
 On programs that omf-link makes of the examples, whose addresses its map has: of given modules and of libraries, as .EXE, as .COM and as a raw
 image. Each segment that is found must be where the map has it; how many of those with code are found is counted. And on files that are no programs, or
-are packed, and with parts of files that are refused. OMF_FIND, OMF_LINK and OMF_LIB name the programs (omf-find, omf-link and omf-lib, if not
+are packed, and with parts of files that are refused. With a seed instead on programs of tests/executed.py, which NASM assembles. OMF_FIND, OMF_LINK and OMF_LIB name the programs (omf-find, omf-link and omf-lib, if not
 set). The last line has how much was tried."""
+import argparse
 import json
 import os
 import pathlib
 import re
+import shutil
 import struct
 import subprocess
 import sys
 import tempfile
+import time
 
 ROOT = pathlib.Path(__file__).resolve().parent.parent
 EXAMPLES = ROOT / "examples"
 FIND, LINK, LIB = (os.environ.get(name.replace("-", "_").upper()) or name for name in ("omf-find", "omf-link", "omf-lib"))
 # The task of omf-link and the modules of a program.
 PROGRAMS = [("exe", ["exe/main.obj", "exe/show.obj", "exe/report.obj"]), ("com", ["com/hello.obj", "com/say.obj"]), ("exe", ["order/main.obj", "order/show.obj"])]
+# A run with seeds ends after this number that differ.
+MOST_FAILED = 20
 tried, failed = 0, 0
 code_segments, code_found = 0, 0
 
@@ -88,6 +93,9 @@ def linked(folder):
         if task == "com":
             lines = lines_of(folder, "--base", "100", "--frame", "0", program, *files)
             compare([*names, "raw"], lines, places, code, lambda file, member: numbers[file, member])
+            # The first segment begins with the 256 bytes before the file.
+            if found.get((first + 1, 1)) != 0:
+                fails(names, "the first segment is not found")
         others = [EXAMPLES / it for _, them in PROGRAMS for it in them if them is not names and not it.endswith("main.obj")]
         wrong = [it for it in lines_of(folder, program, *others) if "segment" in it and it["class"].endswith("CODE")]
         if wrong:
@@ -165,20 +173,28 @@ def files(folder):
         tried += 1
         (folder / name).write_bytes(file)
         status, output, error = run(FIND, name, module, folder=folder)
-        wanted = (1, f'program "{name}": {why}\n', "") if why else (0, output, "")
+        wanted = (1, "", f'omf-find: program "{name}": {why}\n') if why else (0, output, "")
         if (status, output, error) != wanted or (not why and "nothing found" not in output):
             fails(name, status, output, error, wanted)
+        if why:
+            status, output, error = run(FIND, "--json", name, module, folder=folder)
+            if (status, json.loads(output), error) != (1, {"fault": "program", "name": name, "error": why}, ""):
+                fails(name, "--json", status, output, error)
     for packer, file in PACKED:
         tried += 1
         (folder / "x.exe").write_bytes(file)
         status, output, error = run(FIND, "x.exe", module, folder=folder)
-        wanted = f'program "x.exe" is packed by {packer}: unpack it first, or its modules are not found\n' if packer else ""
+        wanted = f'omf-find: program "x.exe" is packed by {packer}: unpack it first, or its modules are not found\n' if packer else ""
         if status or error != wanted or "nothing found" not in output:
             fails(packer, status, output, error)
+        status, output, error = run(FIND, "--json", "x.exe", module, folder=folder)
+        found = [it for it in map(json.loads, output.splitlines()) if "warning" in it]
+        if status or error or found != ([{"warning": "packed", "name": "x.exe", "packer": packer}] if packer else []):
+            fails(packer, "--json", status, output, error)
 
 
 def parts(folder):
-    """Parts of files that are refused are left out, and named; the rest is searched."""
+    """Parts of files that are refused are left out, and named, with --json in an object; the rest is searched."""
     global tried
     obj = (EXAMPLES / "com" / "say.obj").read_bytes()
     (folder / "x.com").write_bytes(b"\x90" * 16)
@@ -186,27 +202,83 @@ def parts(folder):
     (folder / "rest.obj").write_bytes(obj + b"\x1A" + b"text")
     (folder / "bad.obj").write_bytes(obj + obj[:-1] + b"\xFF" + obj)
     (folder / "cut.lib").write_bytes((EXAMPLES / "library" / "small.lib").read_bytes()[:100])
-    tries = [("two.obj", 0, 2, ""), ("rest.obj", 1, 1, f'left out: file "rest.obj" from {len(obj) + 1} on, neither a module nor padding\n'),
-             ("bad.obj", 1, 1, 'left out: file "bad.obj" member 1 "say.asm", refused 6 Checksum record '), ("cut.lib", 1, 1, 'left out: file "cut.lib" from ')]
+    tries = [("two.obj", 0, 2, ""), ("rest.obj", 1, 1, f'file "rest.obj" from {len(obj) + 1} on, neither a module nor padding'),
+             ("bad.obj", 1, 1, 'file "bad.obj" member 1 "say.asm", refused 6 Checksum record '), ("cut.lib", 1, 1, 'file "cut.lib" from ')]
     for name, status, count, line in tries:
         tried += 1
         done, output, error = run(FIND, "--json", "x.com", name, folder=folder)
-        counts = [json.loads(it)["modules"] for it in output.splitlines() if it.startswith('{"program"')]
-        if done != status or counts != [count] or not error.startswith(line) or (not line and error):
+        shown = [json.loads(it) for it in output.splitlines()]
+        counts = [it["modules"] for it in shown if "program" in it]
+        left_out = [it["error"] for it in shown if it.get("fault") == "left-out"]
+        if done != status or counts != [count] or error or len(left_out) != bool(line) or not all(it.startswith(line) for it in left_out):
+            fails(name, "--json", done, output, error)
+        done, output, error = run(FIND, "x.com", name, folder=folder)
+        if done != status or error != "".join(f"omf-find: left out: {it}\n" for it in left_out):
             fails(name, done, output, error)
     for words, status in ((["x.com"], 2), (["--frame", "0", "x.com", "two.obj"], 2), (["--symbols", "gdb", "x.com", "two.obj"], 2), (["no.exe", "two.obj"], 3), (["x.com", "no.obj"], 3)):
         tried += 1
         done, output, error = run(FIND, *words, folder=folder)
-        if done != status or (status == 3 and not output.startswith("read no.")):
+        if done != status or output or not error.startswith("omf-find: read no." if status == 3 else "omf-find: "):
             fails(words, done, output, error)
+    done, output, error = run(FIND, "--json", "no.exe", "two.obj", folder=folder)
+    if done != 3 or error or [(it["fault"], it["name"]) for it in map(json.loads, output.splitlines())] != [("read", "no.exe")]:
+        fails("--json", "no.exe", done, output, error)
 
 
-def main():
+def look_at_made(seed, folder):
+    """A generated program, of its modules in any order: each segment that is found is where the map has it."""
+    import executed
+    plan = executed.Plan(seed)
+    names = executed.built(plan, folder)
+    if plan.kind == "bin":
+        return
+    order = names[1:]
+    plan.random.shuffle(order)
+    order.insert(0 if plan.kind == "com" else plan.random.randrange(len(names)), names[0])
+    status, output, error = run(LINK, plan.kind, "-o", "made", "--map", "made.map", *order, folder=folder)
+    if status:
+        return
+    program = f"made.{plan.kind}"
+    (folder / "made").rename(folder / program)
+    places, code = mapped((folder / "made.map").read_text())
+    numbers = {file: int(number) for number, file in re.findall(r'^module (\d+) file "([^"]*)"', (folder / "made.map").read_text(), re.M)}
+    plan.random.shuffle(names)
+    compare(f"seed {seed}", lines_of(folder, "--least", "8", program, *names), places, code, lambda file, member: numbers[file])
+
+
+def look_at_all_made(asked):
+    seed, end = asked.first, time.monotonic() + (asked.seconds or 0)
+    while failed < MOST_FAILED and (time.monotonic() < end if asked.seconds else seed < asked.first + asked.count):
+        with tempfile.TemporaryDirectory() as work:
+            before = failed
+            look_at_made(seed, pathlib.Path(work))
+            if failed > before:
+                print(f"seed {seed}: {failed - before} of the lines above differ", flush=True)
+            if failed > before and asked.keep:
+                shutil.copytree(work, f"{asked.keep}/find-{seed}", dirs_exist_ok=True)
+        seed += 1
+    print(f"seeds {asked.first} to {seed - 1}")
+
+
+def look_at_written():
     with tempfile.TemporaryDirectory() as work:
         folder = pathlib.Path(work)
         files(folder)
         parts(folder)
         linked(folder)
+
+
+def main():
+    words = argparse.ArgumentParser()
+    words.add_argument("--first", type=int)
+    words.add_argument("--count", type=int, default=50)
+    words.add_argument("--seconds", type=float)
+    words.add_argument("--keep", help="a folder for the files of a program that differs")
+    asked = words.parse_args()
+    if asked.first is not None:
+        look_at_all_made(asked)
+    else:
+        look_at_written()
     print(f"{code_found} of {code_segments} segments of code found")
     print(f"{tried} runs, {failed} failed")
     return 1 if failed else 0

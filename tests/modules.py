@@ -1,5 +1,5 @@
 #!/usr/bin/env python3
-"""Tries the programs on every module of a folder: modules.py FOLDER [check|place|canon|reloc|respell ..] [-- OPTION..]
+"""Tries the programs on every module of a folder: modules.py FOLDER|--made FIRST SECONDS KEPT [check|place|canon|reloc|respell ..] [-- OPTION..]
 
 check    `omf check` and `omf list` accept and refuse the same modules, and the list has as many records. Each refusal is printed
 place    at the draft of `omf-place`, with the options after `--` (--real), `omf reloc` finds no line of the draft at fault; a fixup may
@@ -15,17 +15,27 @@ Without a word it does all five. The placement of canon and reloc has one frame 
 and 32-bit offsets always. The other spelling has checksum bytes of 0, indices of two bytes in data records and fixups, and each fixup in a
 FIXUPP of its own, with its frame and its target by threads, and a displacement. Bits that mean nothing are set.
 
+With --made they are modules made at random, half of them changed, one for each seed from FIRST on. One for which something does not hold is kept in the
+folder KEPT, without the records and bytes that it does not need for that.
+
 OMF and OMF_PLACE name the programs. A module for which something does not hold is printed, and then the status is 1; it is 2 where the
 folder has no module."""
 import os
+import contextlib
+import io
 import pathlib
+import random
 import re
 import subprocess
 import sys
+import time
 
+ROOT = pathlib.Path(__file__).resolve().parent.parent
 OMF, PLACE = os.environ.get("OMF", "omf"), os.environ.get("OMF_PLACE", "omf-place")
 BASE = 0x10000
 FRAME = f"{BASE:X} {BASE >> 4:X}"
+# With --made it ends after this number of modules of which something does not hold.
+MOST_BAD = 10
 ENDINGS = {".obj", ".o", ".omf", ".t"}
 
 
@@ -282,20 +292,78 @@ class Respell(Job):
 JOBS = {"check": Check, "place": Place, "canon": Canon, "reloc": Reloc, "respell": Respell}
 
 
-def main(words):
-    own, _, options = (words[: words.index("--")], None, words[words.index("--") + 1 :]) if "--" in words else (words, None, [])
-    folder, asked = own[:1], own[1:] or list(JOBS)
-    if not folder or not set(asked) <= set(JOBS):
-        print(__doc__.splitlines()[0], file=sys.stderr)
-        return 2
-    jobs, bad, seen = {name: JOBS[name](options) for name in asked}, 0, 0
-    for path in sorted(it for it in pathlib.Path(folder[0]).rglob("*") if it.suffix.lower() in ENDINGS and it.is_file()):
-        module = path.read_bytes()
-        listed = omf("list", module)
-        found = [f"{name}: {it}" for name, job in jobs.items() for it in job.look(path, module, listed)]
+def faults_of(jobs, path, module):
+    """What does not hold of a module, with the name of each job."""
+    listed = omf("list", module)
+    return [f"{name}: {it}" for name, job in jobs.items() for it in job.look(path, module, listed)]
+
+
+def cut(bytes_):
+    """A module without what follows its last record, which would be read as a placement."""
+    import libraries
+    return bytes_[: libraries.module_length(bytes_) or len(bytes_)]
+
+
+def made(seed):
+    """A module of this seed, with a module of the examples as another source of changed bytes."""
+    import changes
+    import executables
+    random_ = random.Random(seed)
+    found = executables.module(random_, random_.randrange(4), random_.randrange(2) == 0)
+    written = [path.read_bytes() for path in sorted(ROOT.glob("examples/*/*.obj"))]
+    return found if random_.randrange(2) else cut(changes.changed_module(random_, [found, random_.choice(written)]))
+
+
+def smallest_fault(jobs, seed, module, found):
+    """The smallest module for which the same job finds something that does not hold."""
+    import smaller
+    kinds = {it.split(":")[0] for it in found}
+
+    def differs(inputs):
+        with contextlib.redirect_stdout(io.StringIO()):
+            return bool(kinds & {it.split(":")[0] for it in faults_of(jobs, f"seed {seed}", cut(inputs[0]))})
+
+    return cut(smaller.smallest([module], differs, 30)[0])
+
+
+def look_at_made(jobs, first, seconds, kept):
+    """The numbers of modules: of which something does not hold, and of all."""
+    seed, bad, end = first, 0, time.monotonic() + seconds
+    sys.path.insert(0, str(ROOT / "tests" / "fuzz"))
+    while time.monotonic() < end and bad < MOST_BAD:
+        module = made(seed)
+        with contextlib.redirect_stdout(io.StringIO()):
+            found = faults_of(jobs, f"seed {seed}", module)
+        if found:
+            path = pathlib.Path(kept) / f"modules-{seed}.obj"
+            path.parent.mkdir(parents=True, exist_ok=True)
+            path.write_bytes(smallest_fault(jobs, seed, module, found))
+            print(f"seed {seed}: {found[0]}: {path} ({path.stat().st_size} bytes)", flush=True)
+        bad, seed = bad + (len(found) > 0), seed + 1
+    print(f"seeds {first} to {seed - 1}")
+    return bad, seed - first
+
+
+def look_at_folder(jobs, folder):
+    """The numbers of modules: of which something does not hold, and of all."""
+    bad, seen = 0, 0
+    for path in sorted(it for it in pathlib.Path(folder).rglob("*") if it.suffix.lower() in ENDINGS and it.is_file()):
+        found = faults_of(jobs, path, path.read_bytes())
         for failing in found:
             print(f"{path}: {failing}")
         bad, seen = bad + (len(found) > 0), seen + 1
+    return bad, seen
+
+
+def main(words):
+    own, options = (words[: words.index("--")], words[words.index("--") + 1 :]) if "--" in words else (words, [])
+    front = 4 if own[:1] == ["--made"] else 1
+    given, asked = own[:front], own[front:] or list(JOBS)
+    if len(given) < front or not set(asked) <= set(JOBS):
+        print(__doc__.splitlines()[0], file=sys.stderr)
+        return 2
+    jobs = {name: JOBS[name](options) for name in asked}
+    bad, seen = look_at_made(jobs, int(given[1]), float(given[2]), given[3]) if front == 4 else look_at_folder(jobs, given[0])
     for name, job in jobs.items():
         print(f"{name}: {job.counts()}")
     print(f"{seen} modules, {bad} of which something does not hold")

@@ -2,13 +2,15 @@
 """Runs what .ci/run leaves out, one stage after another: release.py [STAGE ..]
 
 Run it before a release, after `make build library page`. It builds none of these; a stage that does not find its program fails, with the command
-that builds it. Where a stage's tool is not installed the stage is left out. STAGE is the front of a name (example, fuzz): only these run.
+that builds it. Where a stage's tool is not installed the stage is left out. STAGE is the front of a name (example, fuzz): only these run, and one
+that is asked for by its whole name (page) fails where its tool is not installed.
 
 Each stage has a line: done, failed or left out; its name; seconds; what was tried, or why not. The end of the output of a stage that failed is
 below its line, and so is what a stage left out. All output is in build/release.log. The status is 1 where a stage failed, where one that ran tried
 nothing, and where none is done; 2 where a name is of no stage. --help lists the stages, with their commands.
 
-MINUTES      for each target of tests/fuzz (10; 0 leaves them out). The inputs that broke a promise are in build/release-fuzz
+MINUTES      for each target of tests/fuzz, and for the campaign (10; 0 leaves them out). The inputs that broke a promise are in build/release-fuzz
+             and build/campaign
 MODULES      folders of more modules, for the stages that take some; examples/ is always there
 PLANTED=1    runs tests/planted.sh too, which takes the prover for an hour or more
 OMF, OMF_PLACE, OMF_LINK, OMF_DUMP, OMF_LIB, OMF_FIND, LIBRARY, LIBOMF, PAGE    name other files than crates/*/out and build/ have"""
@@ -110,20 +112,24 @@ def stages():
     yield Stage("system calls", ["tests/devices/system_calls.py"], " ".join(PROGRAMS), "strace", 3600, r"(\d+) calls failed in turn")
     yield Stage("full disk", ["tests/devices/disk.py"], "OMF_LIB OMF_LINK", "", 1800, r"killed (?:at each of )?(\d+) ")
     yield Stage("outputs", ["tests/devices/outputs.py"], "OMF_LIB OMF_LINK", "", 600, r"(\d+) runs")
-    yield Stage("executed", ["tests/executed.py", "--count", "300"], "OMF_LINK OMF_LIB", "nasm python3-unicorn", 1800, r"^(\d+) programs")
+    yield Stage("sandbox", ["tests/devices/sandbox.py"], " ".join(PROGRAMS), "bwrap", 600, r"^(\d+) runs in a sandbox")
+    yield Stage("executed", ["tests/executed.py", "--count", "300", "--dosbox"], "OMF_LINK OMF_LIB", "nasm python3-unicorn", 1800, r"^(\d+) programs")
+    yield Stage("names", ["tests/names.py"], "OMF_DUMP", "nasm", 600, r"^(\d+) lists")
     yield Stage("find", ["tests/find.py"], "OMF_FIND OMF_LINK OMF_LIB", "", 600, r"^(\d+) runs")
     yield Stage("example find", ["examples/find/run.sh"], "OMF_FIND OMF_LINK OMF_LIB", "", 60, r"^each segment is where")
     yield from examples()
     pages = ["README.md", *sorted(str(it.relative_to(ROOT)) for it in (ROOT / "docs").glob("*.md"))]
     yield Stage("shown commands", ["tests/shown.sh", *pages], " ".join([*PROGRAMS, "LIBOMF"]), "", 1800, r"^(\d+) commands, \d+ failed, (\d+) left out")
     yield from fuzz()
+    seeded = ["dump", "library", "exe", "com", "placement", "linktext", "find", "executed", "names", "found", "modules", "conformance"]
+    yield Stage("campaign", ["tests/campaign.py", "--hours", f"{MINUTES / 60:.3f}", "--target", *seeded], " ".join(PROGRAMS), "", 120 * MINUTES + 3600, r"^(\d+) tries")
 
 
 def why_not(stage):
     """Why a stage is left out, or None."""
     if stage.name == "planted" and os.environ.get("PLANTED") != "1":
         return "it takes the prover: PLANTED=1 runs it"
-    if stage.name.startswith("fuzz") and MINUTES == 0:
+    if stage.name.startswith(("fuzz", "campaign")) and MINUTES == 0:
         return "MINUTES is 0"
     for tool in stage.tools.split():
         if not (has_fuzzer() if tool == "libFuzzer" else is_installed(tool)):
@@ -163,12 +169,12 @@ def count(stage, output):
     return sum(int(first or 1) - sum(map(int, rest)) for first, *rest in ((*it, 1)[: max(1, len(it))] for it in found))
 
 
-def outcome(stage, log):
-    """How a stage ended, in a word and a text, and the lines below."""
+def outcome(stage, log, is_asked):
+    """How a stage ended, in a word and a text, and the lines below. `is_asked`: by its whole name."""
     missing = [name for name in stage.files.split() if not FILES[name].exists()]
     left_out = why_not(stage)
     if left_out:
-        return "left out", left_out, []
+        return "failed" if is_asked else "left out", left_out, []
     if missing:
         return "failed", f"there is no {FILES[missing[0]]}: {BUILT[missing[0]][1]} builds it, or {missing[0]} names one", []
     status, output = run(stage, log)
@@ -202,7 +208,7 @@ def main(asked):
             log.write(f"== {stage.name}: {shlex.join(stage.command)}\n".encode())
             log.flush()
             begun = time.monotonic()
-            word, text, below = outcome(stage, log)
+            word, text, below = outcome(stage, log, stage.name in asked)
             counts[word] += 1
             lines = [f"{word:8}  {stage.name:22} {time.monotonic() - begun:6.0f} s  {text}", *(f"              {it}" for it in below)]
             print("\n".join(lines), flush=True)

@@ -39,6 +39,7 @@ lacks_tool() {
     grep -q 'parallel\|/tmp/exe-out\|/tmp/fields' <<< "$1" && ! command -v parallel > /dev/null && return
     grep -q 'omf-place' <<< "$1" && ! command -v omf-place > /dev/null && return
     grep -q 'omf-link\|examples/link/run\|examples/pair/run' <<< "$1" && ! command -v omf-link > /dev/null && return
+    grep -q 'sqlite3' <<< "$1" && ! command -v sqlite3 > /dev/null && return
     grep -q 'omf-dump' <<< "$1" && ! command -v omf-dump > /dev/null && return
     grep -q 'omf-lib' <<< "$1" && ! command -v omf-lib > /dev/null && return
     grep -q 'omf-find\|examples/find/run' <<< "$1" && ! command -v omf-find > /dev/null && return

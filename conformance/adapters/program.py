@@ -2,8 +2,10 @@
 """Has a linker answer a case of conformance/programs: program.py COMMAND WORD.., where a word {files} is the input's files and {exe} the program.
 
 The input is modules one after another, and a library or none after them: they are put into files a.obj, b.obj, .. and l.lib. What is printed is
-the program; where the linker makes none, what the linker prints."""
+the program; where the linker makes none, what the linker prints: its standard output; or, where that is empty, its standard error, without the
+linker's name before each line."""
 import pathlib
+import re
 import struct
 import subprocess
 import sys
@@ -33,9 +35,12 @@ def main():
         words = []
         for word in sys.argv[1:]:
             words += names if word == "{files}" else [word.replace("{exe}", "p.exe")]
-        done = subprocess.run(words, cwd=folder, stdout=subprocess.PIPE, stderr=subprocess.DEVNULL)
+        done = subprocess.run(words, cwd=folder, capture_output=True)
         made = pathlib.Path(folder) / "p.exe"
-        sys.stdout.buffer.write(made.read_bytes() if done.returncode == 0 and made.exists() else done.stdout)
+        if done.returncode == 0 and made.exists():
+            sys.stdout.buffer.write(made.read_bytes())
+        else:
+            sys.stdout.buffer.write(done.stdout or re.sub(rb"(?m)^[a-z][a-z-]*: ", b"", done.stderr))
     return done.returncode
 
 

@@ -34,7 +34,7 @@ def large_module(name, size, front=0):
 
 def run(words, folder, status):
     done = subprocess.run(words, cwd=folder, capture_output=True, timeout=60)
-    promised(done.returncode in status, f"{words[1:]}: status {done.returncode}, {done.stdout[:200]}")
+    promised(done.returncode in status, f"{words[1:]}: status {done.returncode}, {(done.stdout + done.stderr)[:200]}")
     return done
 
 
@@ -121,7 +121,7 @@ def with_asked_libraries(folder):
     for name in (b"../out.lib", b"../out", os.fsencode(outer / "out.lib"), b"inner/../../out.lib", *NAMES):
         (inner / "main.obj").write_bytes(front + record(0x88, b"\0\x9F" + name[:255]) + back)
         done = run([LINK, "exe", "-o", "p.exe", "main.obj"], inner, (1,))
-        promised(done.stdout.startswith(b'undefined "f"'), f"{name}: {done.stdout[:200]}")
+        promised(done.stdout == b"" and done.stderr.startswith(b'omf-link: undefined "f"'), f"{name}: {done.stderr[:200]}")
         promised(all(it == 10 or 32 <= it < 127 for it in done.stdout + done.stderr), "a control character")
         promised(os.listdir(inner) == ["main.obj"], f"{name}: {os.listdir(inner)}")
     (inner / "out.lib").write_bytes(found)

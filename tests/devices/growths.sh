@@ -97,23 +97,36 @@ refuse_each_of_test() {
     counts "$name $test" $((number - 1))
 }
 
-# is_memory: whether a run ended for lack of memory. omf-dump, omf-lib and omf-find may have written a beginning of their text before that; the other
-# programs write nothing but the fault, which names the input where omf-link could not read it.
+# names_memory: whether the last line on standard error names memory as the fault.
+names_memory() {
+    local line last=
+    while read -r line; do
+        [ "$line" = 'growth refused' ] || last=$line
+    done < "$here/err"
+    [[ $last == omf-*' memory' ]]
+}
+
+# is_memory: whether a run ended for lack of memory. omf prints that on its output, the others on standard error, or with --json as an object. omf-dump,
+# omf-lib and omf-find may have written a beginning of their text before that; the other programs have written nothing, or all.
 is_memory() {
     local text= size
     [ $status -eq 3 ] || return
     read -r -d '' text < "$here/out"
     [ "$text" = memory ] && return
-    [ "$text" = 'file "-" read: out of memory' ] && return
-    [ -n "$in_pieces" ] || return
-    case $text in
-    '{"fault":"memory"}' | 'read '*': out of memory' | '{"fault":"read","name":"-","error":"out of memory"}') return 0 ;;
-    esac
-    size=$(($(stat -c %s "$here/out") - 7))
-    [[ $text == *memory ]] && ((size > 0)) && cmp -s -n $size "$here/out" "$here/wanted"
+    size=$(stat -c %s "$here/out")
+    if ! names_memory; then
+        text=${text##*$'\n'}
+        case $text in
+        '{"fault":"memory"}' | '{"fault":"read","name":"'*'","error":"out of memory"}') size=$((size - ${#text} - 1)) ;;
+        *) return 1 ;;
+        esac
+    fi
+    ((size == 0)) && return
+    [ -n "$in_pieces" ] || cmp -s "$here/out" "$here/wanted" || return
+    cmp -s -n $size "$here/out" "$here/wanted"
 }
 
-# refuse_each_of_run STATUS INPUT PROGRAM ARGUMENT..: a run is as without a refusal, or it prints `memory` and ends with the status 3.
+# refuse_each_of_run STATUS INPUT PROGRAM ARGUMENT..: a run is as without a refusal, or it names memory as the fault and ends with the status 3.
 refuse_each_of_run() {
     local wanted=$1 input=$2 program=$3 name number status in_pieces
     shift 3
@@ -132,7 +145,7 @@ refuse_each_of_run() {
         is_memory && continue
         [ $status -eq "$wanted" ] && cmp -s "$here/out" "$here/wanted" && continue
         fails "$name, growth $number: status $status"
-        cat "$here/out"
+        cat "$here/out" "$here/err"
     done
     cmp -s "$here/out" "$here/wanted" || fails "$name: the run that meets no refusal"
     counts "$name" $((number - 1))
@@ -149,7 +162,7 @@ has_whole_members() {
     [ $count -le "$1" ]
 }
 
-# refuse_each_of_get INPUT: omf-lib takes out all members, as without a refusal, or it prints `memory` and ends with the status 3. What it wrote
+# refuse_each_of_get INPUT: omf-lib takes out all members, as without a refusal, or it names memory as the fault and ends with the status 3. What it wrote
 # until then are whole members.
 refuse_each_of_get() {
     local input=$1 number status count in_pieces=yes
@@ -169,7 +182,7 @@ refuse_each_of_get() {
         is_memory && continue
         [ $status -eq 0 ] && cmp -s "$here/out" "$here/wanted" && diff -r "$here/members" "$here/taken" > "$here/different" && continue
         fails "omf_lib get, growth $number: status $status"
-        cat "$here/out"
+        cat "$here/out" "$here/err"
     done
     diff -r "$here/members" "$here/taken" > "$here/different" || fails "omf_lib get: the run that meets no refusal"
     counts "omf_lib get of $(basename "$input")" $((number - 1))
@@ -183,8 +196,8 @@ are_whole() {
     done
 }
 
-# refuse_each_of_made PROGRAM ARGUMENT..: a run that writes files into the folder `made` writes them as without a refusal, or it prints a line of
-# memory and ends with the status 3; a file that is there then is whole.
+# refuse_each_of_made PROGRAM ARGUMENT..: a run that writes files into the folder `made` writes them as without a refusal, or it names
+# memory as the fault and ends with the status 3; a file that is there then is whole.
 refuse_each_of_made() {
     local program=$1 name number status
     shift
@@ -200,10 +213,10 @@ refuse_each_of_made() {
         rm -rf made
         mkdir made
         refusing $number "$program" "$@" || break
-        if [ $status -eq 3 ] && grep -qE '^(file ".*" )?memory$|^(read .*|file ".*" read): out of memory$' out && are_whole; then continue; fi
+        if [ $status -eq 3 ] && names_memory && are_whole; then continue; fi
         [ $status -eq 0 ] && cmp -s out wanted && diff -r whole made > different && continue
         fails "$name, growth $number: status $status, $(ls made)"
-        cat out
+        cat out err
     done
     diff -r whole made > different || fails "$name: the run that meets no refusal"
     counts "$name" $((number - 1))

@@ -49,10 +49,9 @@ class Folder:
         return subprocess.run(words, cwd=self.path, stdin=input, stdout=output, stderr=subprocess.PIPE, timeout=60, user=user)
 
     def fails(self, words, status, error=b"", **how):
-        """A run that ends so, with this on either output, and leaves all as it was."""
+        """A run that ends so, with this on the standard error and nothing on the output, and leaves all as it was."""
         before, done = self.state(), self.run(words, **how)
-        said = (done.stdout or b"") + done.stderr
-        promised(done.returncode == status and error in said, f"{words[1:]}: status {done.returncode}, {said[:200]}")
+        promised(done.returncode == status and not done.stdout and error in done.stderr, f"{words[1:]}: status {done.returncode}, {done.stderr[:200]}")
         promised(self.state() == before, f"{words[1:]}: files changed: {sorted(self.state().items() ^ before.items())[:2]}")
 
     def passes(self, words, made=(), **how):
@@ -110,6 +109,9 @@ def written_into(folder):
     promised(folder.passes([LINK, *EXE, "-o", "q.exe", "--map", "-"], ["q.exe"]) == (folder.path / "m").read_bytes(), "--map -: another map")
     promised(folder.passes([LINK, *BIN, "-o", "-"]) == folder.passes([LINK, *BIN]), "bin -o -: other bytes")
     promised(folder.passes([LIB, "make", "-o", "-", "say.obj"])[:1] == b"\xF0", "make -o -: no library")
+    folder.passes([LIB, "get", "small.lib", "-d", ".", "--numbered"], ["0.obj", "1.obj"])
+    whole = folder.passes([LIB, "make", "-o", "-", "say.obj", "small.lib"])
+    promised(whole == folder.passes([LIB, "make", "-o", "-", "say.obj", "0.obj", "1.obj"]), "make of a library: other bytes than of its members")
     promised(folder.passes([LIB, "canon", "-o", "-", "small.lib"])[:1] == b"\xF0", "canon -o -: no library")
     folder.passes([LINK, *EXE, "-o", "/dev/null", "--map", "/dev/null"])
     folder.fails([LINK, *EXE, "-o", "/dev/full"], 3, b"No space left")
@@ -168,7 +170,7 @@ def all_or_none(folder):
         for it in made:
             (folder.path / it).unlink()
     done = folder.run([LINK, *EXE, "-o", "b.exe", "--map", "/dev/full"])
-    promised(done.returncode == 3 and b'; "b.exe" is written\n' in done.stdout + done.stderr, f"--map /dev/full: {done.stdout[:200]}")
+    promised(done.returncode == 3 and done.stderr.endswith(b'omf-link: "b.exe" is written\n'), f"--map /dev/full: {done.stderr[:200]}")
     promised((folder.path / "b.exe").read_bytes() == (folder.path / "p.exe").read_bytes(), "b.exe: other bytes")
     print("two outputs: both, none, or the line names the one that is written")
 

@@ -12,8 +12,6 @@ from tree import ROOT, code_files, crates
 
 FOLDER = ROOT / "completions"
 ABOUT = "made by tests/docs.py options from the usage texts of the programs"
-# The values of these words of the usage.
-VALUES = {"KIND": "overlap align group frame near twice", "TOOL": "ghidra ida r2 nm"}
 ALWAYS = [("--help", "", "how to call it"), ("--version", "", "the version")]
 TRIES = {"omf-link exe --ord": "--order", "omf-link exe --order d": "dos", "omf-lib ch": "check", "omf-find --symbols gh": "ghidra", "omf re": "reloc"}
 
@@ -22,8 +20,10 @@ def texts():
     """The usage of each program, with what explains it: the longest that the sources have."""
     found = {}
     for name in crates():
+        if name.endswith("_tests"):
+            continue
         for path in code_files(name):
-            for text in re.findall(r'"(usage: omf.*?)"(?:,\s*details: "(.*?)",?\s*\})?', path.read_text(encoding="utf-8"), re.S):
+            for text in re.findall(r'"(usage: omf(?:-\w+)? .*?)"(?:,\s*details: "(.*?)",?\s*\})?', path.read_text(encoding="utf-8"), re.S):
                 whole = (text[0] + text[1]).replace("\\n", "\n").replace("\\\\", "\\")
                 program = whole.split()[1]
                 found[program] = max(found.get(program, ""), whole, key=len)
@@ -52,7 +52,7 @@ def table():
     """Each program with its tasks, and each task with its options. A program without tasks has one, the empty word."""
     programs = {}
     for program, text in sorted(texts().items()):
-        usage = re.sub(r"\n {7}(?=\[)", " ", text[len("usage: "):]).split("\n\n")[0]
+        usage = re.sub(r"\n +(?!omf|\s)", " ", text[len("usage: "):].split("\n\n")[0])
         tasks = {}
         for line in usage.split("\n"):
             head = re.match(rf"\s*{re.escape(program)} ((?:[a-z]+\|?)+)?", line)
@@ -64,7 +64,8 @@ def table():
 
 
 def values(word):
-    return VALUES.get(word, word.replace("|", " ") if "|" in word else "")
+    """The values that a word of the usage lists."""
+    return word.replace("|", " ") if "|" in word else ""
 
 
 def bash(programs):

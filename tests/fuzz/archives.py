@@ -131,10 +131,10 @@ class Library:
         left = iter(own)
         promised(all(any(found[it[0]] == whole for whole in left) for it in wrote), "a file that is no member, or not in their order")
         promised(not numbered or all(here == own[int(it[:-4])] for it, here in found.items()), "a file of another number")
-        refused = re.search(rb"^(refused|fault|write) ", text, re.M)
+        refused = re.search(rb"^(refused|\S+: fault|write) ", text, re.M)
         promised((status != 0) == bool(refused), f"get: status {status}, {text[:200]}")
         read = libraries.members(bytes_)
-        promised((read is not None and read[1]) or (not found and text.startswith(b"fault ")), "files of no library")
+        promised((read is not None and read[1]) or (not found and re.match(rb"\S+: fault ", text)), "files of no library")
         promised(status != 0 or asked or len(found) == len(own), "not all members")
         if read and self.random.randrange(4) == 0:
             canon_twice(self.lib, name, len(own), folder)

@@ -52,13 +52,14 @@ class Find:
         return [executables.module(self.random, number, number == 0) for number in range(count)]
 
     def lines(self, words, names, folder):
-        """The objects that a run prints. Faults are lines of their own, and the status is then 1."""
+        """The objects that a run prints. Faults are among them, and the status is then 1."""
         done = subprocess.run([self.find, "--json", *words, *names], stdout=subprocess.PIPE, stderr=subprocess.PIPE, cwd=folder, timeout=TIMEOUT)
         promised(done.returncode in (0, 1), f"omf-find: status {done.returncode}, {done.stderr[-200:]}")
         promised(all(it == 10 or 32 <= it < 127 for it in done.stdout + done.stderr), "omf-find: control characters")
-        faults = [it for it in done.stdout.splitlines() if it[:1] != b"{"]
-        promised(done.returncode == 1 if faults else True, f"omf-find: status 0 with {faults}")
-        return [json.loads(it) for it in done.stdout.splitlines() if it[:1] == b"{"]
+        found = [json.loads(it) for it in done.stdout.splitlines()]
+        faults = [it for it in found if "fault" in it]
+        promised(done.stderr == b"" and (done.returncode == 1) == bool(faults), f"omf-find: status {done.returncode} with {faults}, {done.stderr[-200:]}")
+        return found
 
     def look(self, inputs, folder):
         names = [f"in{number}.obj" for number in range(len(inputs))]

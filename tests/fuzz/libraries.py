@@ -153,11 +153,12 @@ def entries(bytes_):
 
 
 def run(program, *words):
-    """The lines of the output and the status, which is 0 or 1: any other is a failure here."""
+    """The lines of the output and of faults, without the program's name, and the status, which is 0 or 1: any other is a failure here."""
     done = subprocess.run([program, *words], capture_output=True, timeout=60)
-    if done.returncode not in (0, 1) or done.stderr:
+    if done.returncode not in (0, 1) or (done.stderr and not done.returncode):
         raise SystemExit(f"{words}: status {done.returncode}: {done.stderr[:200]}")
-    return done.stdout.decode("ascii").splitlines(), done.returncode
+    lines = (done.stdout + done.stderr).decode("ascii").splitlines()
+    return [it.removeprefix("omf-lib: ") for it in lines], done.returncode
 
 
 def try_file(program, file):

@@ -8,11 +8,13 @@ import executables
 import libraries
 from changes import changed_module
 from modules import TWICE, UNRESOLVED, as_library, externals_of, is_main, is_simple, members_needed, provider, repeated_lines, unresolved_lines, with_names
-from promises import ALLOW_ALL, TIMEOUT, program, promised, run
+from promises import ALLOW_ALL, TIMEOUT, program, promised, run, told_of
 
 
 # Names that no made and no real module has.
 UNASKED = (b"\xFFz", b"Unasked", b"Una")
+# A line that may follow `undefined`: a module asks for this library.
+NOT_FOUND = re.compile(rb'library "[^"\n]*" is not found\n')
 
 
 class Exe:
@@ -49,13 +51,14 @@ class Exe:
         """The status and the line of a link, or its lines of names; where the status is 0 there is a file, and else none."""
         (folder / file).unlink(missing_ok=True)
         done = subprocess.run([self.link, self.TASK, "-o", file, *names], stdout=subprocess.PIPE, stderr=subprocess.PIPE, cwd=folder, timeout=TIMEOUT)
-        is_said = done.stdout.count(b"\n") <= 1 or UNRESOLVED.fullmatch(done.stdout)
-        promised(done.returncode in (0, 1) and done.stderr.count(b"\n") <= 1 and is_said, f"{self.TASK}: status {done.returncode}, {done}")
-        promised(all(it == 10 or 32 <= it < 127 for it in done.stdout + done.stderr), f"{self.TASK}: control characters")
+        told = NOT_FOUND.sub(b"", told_of(done))
+        is_said = told.count(b"\n") <= 1 or UNRESOLVED.fullmatch(told)
+        promised(done.returncode in (0, 1) and done.stdout == b"" and is_said, f"{self.TASK}: status {done.returncode}, {done}")
+        promised(all(it == 10 or 32 <= it < 127 for it in done.stderr), f"{self.TASK}: control characters")
         promised((folder / file).exists() == (done.returncode == 0), f"{self.TASK}: status {done.returncode}, and the file")
-        promised((done.stdout == b"") == (done.returncode == 0), f"{self.TASK}: {done.stdout[:200]}")
+        promised(told or done.returncode == 0, f"{self.TASK}: status {done.returncode} without a line")
         promised(not any(it.endswith(".tmp") for it in os.listdir(folder)), "a .tmp file is left")
-        return done.returncode, done.stdout
+        return done.returncode, told if done.returncode else b""
 
     def look(self, inputs, folder):
         names = [f"in{number}.obj" for number in range(len(inputs))]
@@ -78,10 +81,11 @@ class Exe:
             self.look_at_case(inputs, folder)
 
     def is_allowed(self, lines, names, folder):
-        """Whether --allow twice makes a program: the lines are then on standard error. Where an external asks for one of the names it is refused as before."""
+        """Whether --allow twice makes a program: the lines are then warnings. Where an external asks for one of the names it is refused as before."""
         done = subprocess.run([self.link, self.TASK, "-o", "p.exe", "--allow", "twice", *names], stdout=subprocess.PIPE, stderr=subprocess.PIPE, cwd=folder, timeout=TIMEOUT)
-        is_made = done.returncode == 0 and done.stdout == b"" and done.stderr.startswith(lines) and done.stderr[len(lines):].count(b"\n") <= 1
-        promised(is_made or (done.returncode, done.stdout, done.stderr) == (1, lines, b""), f"--allow twice: status {done.returncode}, {done}")
+        told = NOT_FOUND.sub(b"", told_of(done))
+        is_made = done.returncode == 0 and told.startswith(lines) and told[len(lines):].count(b"\n") <= 1
+        promised(done.stdout == b"" and (is_made or (done.returncode, told) == (1, lines)), f"--allow twice: status {done.returncode}, {done}")
         promised((folder / "p.exe").exists() == is_made, "--allow twice: the file")
         return is_made
 
@@ -135,7 +139,7 @@ class Exe:
         """The file at some paragraphs, and the memory of the modules there."""
         status, text = run([self.link, "draft", "--base", "0", "--real", *names], folder=folder)
         promised(status == 0, f"draft: {text[:200]}")
-        for paragraph in (0, self.random.randrange(1, 0x8000)):
+        for paragraph in (0, *(self.random.randrange(1, 0x8000) for _ in range(2))):
             image, start, _ = self.LOADED(file, paragraph)
             (folder / "text").write_bytes(executables.moved(text, paragraph))
             if self.random.randrange(2) and all(map(is_simple, inputs)):

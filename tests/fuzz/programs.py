@@ -2,6 +2,7 @@
 """Runs the programs on changed files and texts, and compares what they print with one another and with a second reading of the standard.
 
 usage: tests/fuzz/programs.py SECONDS [dump|library|exe|com|placement|linktext|find ..] [--seeds FOLDER] [--number N] [--keep FOLDER] [--every N]
+                              [--smaller SECONDS] [--again FILE ..]
 
 dump       changed modules: omf-dump refuses exactly what `omf check` refuses, at the same place and for the same reason, and shows the records
            that `omf list` lists; each line of JSON is read by Python; text and JSON have the same records; a name gives no control characters
@@ -19,7 +20,9 @@ find       programs that omf-link makes of made modules: each segment that omf-f
            modules are read or refused, and each line is JSON
 
 The seeds are examples/, the data of the crates, libraries made of these modules, and the files of FOLDER that have less than 5 KB. --number begins
-the random numbers, so that a run can be repeated. An input that breaks a promise is kept in the folder of --keep, or in that which is printed.
+the random numbers, so that a run can be repeated. An input that breaks a promise is kept in the folder of --keep, or in that which is printed, with
+the number and the round in its name. Beside it is the smallest input that was found in --smaller seconds (20) to break it at the same line of the
+reader: files, records, lines and bytes are left out. --again looks at these files in place of made ones.
 With --every only each Nth module is given to `omf check` too, which is most of the time where the program has run-time checks.
 OMF, OMF_DUMP, OMF_FIND, OMF_LIB, OMF_LINK and OMF_PLACE name programs; else those of crates/*/out are taken, and else they are built without their proofs.
 The status is 0 where every promise held. It stops at the tenth that did not hold."""
@@ -31,13 +34,15 @@ import resource
 import sys
 import tempfile
 import time
+import traceback
 
 from archives import Library
 from dumps import Dump
 from finding import Find
 from links import Com, Exe
 from linktexts import LinkText
-from promises import ROOT, Broken
+from promises import ROOT
+from smaller import smallest
 from texts import Placement
 
 MOST_BROKEN = 10
@@ -53,41 +58,77 @@ def load_seeds(more):
     return sorted(taken - {b""})
 
 
-def alone(one, inputs, folder):
-    """The first input that breaks a promise by itself, and what it breaks."""
-    for bytes_ in inputs:
-        for _ in range(4):
+def place_of(error):
+    """Where a promise was seen not to hold: the kind of the error, and the line of the reader that looked."""
+    frames = [it for it in traceback.extract_tb(error.__traceback__) if not it.filename.endswith("promises.py")]
+    return type(error).__name__, frames[-1].filename, frames[-1].lineno
+
+
+class Guilty:
+    """The inputs that break a promise, and what was random when they did."""
+
+    def __init__(self, one, inputs, error, state, folder):
+        self.one, self.inputs, self.error, self.folder = one, inputs, error, folder
+        self.states = [state, *(random.Random(it).getstate() for it in range(3))]
+
+    def look(self, inputs):
+        """The first error at these inputs, or None."""
+        for state in self.states:
+            self.one.random.setstate(state)
             try:
-                one.look([bytes_], folder)
-            except Broken as broken:
-                return [bytes_], broken
+                self.one.look(inputs, self.folder)
             except Exception as error:
-                return [bytes_], error
-    return inputs, None
+                return error
+        return None
+
+    def differs(self, inputs):
+        error = self.look(inputs)
+        return error is not None and place_of(error) == place_of(self.error)
+
+    def alone(self):
+        """Of a batch the first input that breaks a promise by itself."""
+        for bytes_ in self.inputs if len(self.inputs) > 1 else ():
+            error = self.look([bytes_])
+            if error:
+                self.inputs, self.error = [bytes_], error
+                return
 
 
-def fuzz(name, seconds, seeds, number, kept, every):
+def keep(guilty, path, smaller):
+    """Keeps the inputs and the smallest ones. Returns what is printed of them."""
+    path.parent.mkdir(parents=True, exist_ok=True)
+    if (guilty.folder / "text").exists():
+        pathlib.Path(f"{path}-text").write_bytes((guilty.folder / "text").read_bytes())
+    found = smallest(guilty.inputs, guilty.differs, smaller) if smaller > 0 and guilty.differs(guilty.inputs) else []
+    for kind, inputs in (("", guilty.inputs), ("-small", found)):
+        for index, bytes_ in enumerate(inputs):
+            pathlib.Path(f"{path}{kind}-{index}").write_bytes(bytes_)
+    small = f"; the smallest {len(found)} of {sum(map(len, found))} bytes: {path}-small-0" if found else ""
+    return f"{path}-0 ({len(guilty.inputs)} inputs of {sum(map(len, guilty.inputs))} bytes{small})"
+
+
+def fuzz(name, seeds, asked, kept):
     """Looks at changed inputs for that time. Returns how many broke a promise."""
-    one = TARGETS[name](seeds, random.Random(number), every)
-    begun, broken, count, rounds = time.monotonic(), 0, 0, 0
+    one = TARGETS[name](seeds, random.Random(asked.number), asked.every)
+    given = [pathlib.Path(it).read_bytes() for it in asked.again]
+    begun, spent, broken, count, rounds = time.monotonic(), 0, 0, 0, 0
     before = resource.getrusage(resource.RUSAGE_CHILDREN)
     with tempfile.TemporaryDirectory() as folder:
         folder = pathlib.Path(folder)
-        while time.monotonic() - begun < seconds and broken < MOST_BROKEN:
-            inputs = one.inputs()
+        while time.monotonic() - begun - spent < asked.seconds and broken < MOST_BROKEN:
+            inputs = given or one.inputs()
             inputs = inputs[:1] if one.IS_BATCH and rounds % 8 == 0 else inputs
-            count, rounds = count + len(inputs), rounds + 1
+            count, rounds, state = count + len(inputs), rounds + 1, one.random.getstate()
             try:
                 one.look(inputs, folder)
             except Exception as error:
-                broken += 1
-                guilty, alone_error = alone(one, inputs, folder) if one.IS_BATCH else (inputs, None)
-                kept.mkdir(parents=True, exist_ok=True)
-                if (folder / "text").exists():
-                    (kept / f"{name}-{number}-{rounds}-text").write_bytes((folder / "text").read_bytes())
-                for index, bytes_ in enumerate(guilty):
-                    (kept / f"{name}-{number}-{rounds}-{index}").write_bytes(bytes_)
-                print(f"{name}: not so: {alone_error or error!r}: {kept / f'{name}-{number}-{rounds}-0'} ({len(guilty)} inputs)", flush=True)
+                broken, after, since = broken + 1, one.random.getstate(), time.monotonic()
+                guilty = Guilty(one, inputs, error, state, folder)
+                guilty.alone()
+                where = keep(guilty, kept / f"{name}-{asked.number}-{rounds}", asked.smaller)
+                print(f"{name}: not so: seed {asked.number} round {rounds}: {str(guilty.error) or repr(guilty.error)}: {where}", flush=True)
+                one.random.setstate(after)
+                spent += time.monotonic() - since
     after = resource.getrusage(resource.RUSAGE_CHILDREN)
     used = after.ru_utime + after.ru_stime - before.ru_utime - before.ru_stime
     print(f"{name}: {count} inputs, {one.accepted} accepted, {one.compared} compared with another program, {broken} broken promises, {used:.0f} s", flush=True)
@@ -102,13 +143,15 @@ def main():
     parser.add_argument("--number", type=int, default=1)
     parser.add_argument("--keep")
     parser.add_argument("--every", type=int, default=1)
+    parser.add_argument("--smaller", type=float, default=20)
+    parser.add_argument("--again", nargs="*", default=[])
     asked = parser.parse_args()
     targets = asked.targets or list(TARGETS)
     if set(targets) - set(TARGETS):
         parser.error(f"the targets are {', '.join(TARGETS)}")
     kept = pathlib.Path(asked.keep) if asked.keep else pathlib.Path(tempfile.gettempdir()) / f"programs-{os.getpid()}"
     seeds = load_seeds(asked.seeds)
-    sys.exit(1 if sum(fuzz(it, asked.seconds, seeds, asked.number, kept, asked.every) for it in targets) else 0)
+    sys.exit(1 if sum(fuzz(it, seeds, asked, kept) for it in targets) else 0)
 
 
 if __name__ == "__main__":

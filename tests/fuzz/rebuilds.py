@@ -26,7 +26,7 @@ def make_again(lib, members, folder):
     if status == 0:
         promised(is_whole(lib, "made.lib", folder) == members, "make: other members")
     else:
-        promised(re.match(rb"(twice|refused|fault|no room|\S+ refused|file|m\d+\.obj)\b", text), f"make: {text[:200]}")
+        promised(re.match(rb"(twice|refused|m\d+\.obj: refused)\b", text), f"make: {text[:200]}")
     promised(not any(it.endswith(".tmp") for it in os.listdir(folder)), "a .tmp file is left")
 
 

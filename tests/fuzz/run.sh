@@ -12,6 +12,7 @@
 # LIBRARY names a library that is built already, as `make library` leaves it in crates/omf_c/out/libomf_c.a, or an object with its calls: it runs as it
 # is, so that without counters libFuzzer goes by what its answers lead to in the targets alone. PROGRAM is bitcode of omf-dump, for shown.
 # SEEDS is a folder of more modules to begin with (*.omf, *.obj, *.o), which are taken as they are.
+# SEED is the seed of libFuzzer's random numbers. An input at which a promise does not hold is made smaller for SMALLER seconds (30).
 # TIMEOUT is the seconds of the clock that one input may take (20); where other work goes first it must be longer.
 # The status is 0 where every promise held.
 set -euo pipefail
@@ -121,6 +122,15 @@ fi
 
 "$root/tests/fuzz/seeds.py" "$work/seeds-of" ${SEEDS:+"$SEEDS"}
 
+# make_smaller TARGET: the newest input that failed, made smaller, in WORK/TARGET-small.
+make_smaller() {
+    local found
+    found=$(find "$work" -maxdepth 1 -name "$1-crash-*" -printf '%T@ %p\n' | sort -n | tail -1 | cut -d' ' -f2-)
+    [ -n "$found" ] || return 0
+    "$work/fuzz-$1" -minimize_crash=1 -max_total_time="${SMALLER:-30}" -exact_artifact_path="$work/$1-small" "$found" > "$work/$1-small.log" 2>&1 || true
+    [ ! -f "$work/$1-small" ] || echo "$1: seed ${SEED:-of the clock}: $found, smaller $work/$1-small ($(stat -c %s "$work/$1-small") bytes)"
+}
+
 for one in "${calls[@]}"; do
     with=("$code") wrapped=malloc,--wrap=realloc folders=("$work/$one" "$work/seeds")
     case $one in
@@ -141,8 +151,9 @@ for one in "${calls[@]}"; do
         "$root/tests/fuzz/$one.c" "$root/tests/fuzz/mutate.c" "${with[@]}" "$kit/c/libos_c.a" "$kit/c/liblibc_c.a" -o "$work/fuzz-$one"
     mkdir -p "$work/$one"
     if ! "$root/tests/fuzz/processor.py" "$seconds" "$work/fuzz-$one" -max_len=4096 -timeout="${TIMEOUT:-20}" -artifact_prefix="$work/$one-" \
-        -print_final_stats=1 "${folders[@]}" > "$work/$one.log" 2>&1; then
+        -print_final_stats=1 ${SEED:+"-seed=$SEED"} "${folders[@]}" > "$work/$one.log" 2>&1; then
         failed=1
+        make_smaller "$one"
     fi
     grep -E 'not so|ERROR|SUMMARY|stat::number_of_executed_units|stat::processor_seconds' "$work/$one.log" | sed "s/^/$one: /" || true
     grep -oE 'cov: [0-9]+ ft: [0-9]+' "$work/$one.log" | tail -1 | sed "s/^/$one: /" || true

@@ -151,13 +151,16 @@ class Tab:
 
     def requests(self):
         """The addresses that the page asked for, by its events and by the browser's log of its network, other than files and what it has itself."""
-        urls = [it["params"]["request"]["url"] for it in self.events if it.get("method") == "Network.requestWillBeSent"]
-        return [url for url in urls + self.logged() if not url.startswith(("file:", "blob:", "data:", "about:", "chrome:", "devtools:"))]
+        return self.outside(it["params"]["request"]["url"] for it in self.events if it.get("method") == "Network.requestWillBeSent") + self.logged()
 
     def logged(self):
         """The addresses in the browser's log that a page asked for; those that the browser asks for by itself have no origin."""
         text = self.log.read_text(errors="replace") if self.log.exists() else '"initiator":"no log","url":"no log"'
-        return re.findall(r'"initiator":"(?!not an origin)[^"]*".*?"url":"([^"]*)"', text)
+        return self.outside(re.findall(r'"initiator":"(?!not an origin)[^"]*".*?"url":"([^"]*)"', text))
+
+    @staticmethod
+    def outside(urls):
+        return [url for url in urls if not url.startswith(("file:", "blob:", "data:", "about:", "chrome:", "devtools:"))]
 
     def faults(self):
         """What the page reported as wrong."""
@@ -166,6 +169,14 @@ class Tab:
         return [str(it.get("exception", {}).get("description", it)) for it in thrown] + logged
 
     def close(self):
+        """Ends the browser, which writes all of its log."""
+        if self.process.returncode is not None:
+            return
+        with contextlib.suppress(RuntimeError, OSError):
+            self.session = None
+            self.call("Browser.close")
+        with contextlib.suppress(subprocess.TimeoutExpired):
+            self.process.wait(10)
         self.process.terminate()
         with contextlib.suppress(subprocess.TimeoutExpired):
             self.process.wait(10)

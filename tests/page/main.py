@@ -66,6 +66,8 @@ def main(page, *folders):
         tries.see("requests to a network", tab.requests(), [])
         tries.see("faults of the page", tab.faults(), [])
         acts.policy(tab, tries)
+        tab.close()
+        tries.see("requests in the browser's log at its end", tab.logged(), [])
     print(f"{tries.done} tries, {len(tries.failed)} failed")
     return 1 if tries.failed else 0
 

@@ -2,17 +2,25 @@
 import contextlib
 import hashlib
 import json
+import re
 
-from shared import STATE, native, open_file, printed, text_of
+from shared import ROOT, STATE, git, native, open_file, printed, text_of
 
-WRONG = ("undefined", "NaN", "null", "[object")
-# All that the page shows: its text, titles and values. The texts of the documents (docs/REASONS.md, docs/LIBRARIES.md) are left out.
+MEMBERS = 20   # of a library, that are opened: the first ones, and as many that are refused
+# Words of a script that went wrong, each with the name that it is a part of.
+WORDS = ("undefined", "NaN", "null", "[object")
+WRONG = re.compile(rf"[\w.$@?]*(?:{'|'.join(map(re.escape, WORDS))})[\w.$@?]*", re.ASCII)
+# All that the page shows: its title, its text, titles and values. The bytes of the file as letters are left out.
 SHOWN = """(() => {
-  const parts = [...document.querySelectorAll("body *")].filter(it => !it.closest("script, style, optgroup") && it.closest("[hidden]") === null);
+  const whole = "#advice p, #said-a p, #said-b p, #library-findings li";
   const own = it => [...it.childNodes].filter(node => node.nodeType === 3).map(node => node.data).join(" ");
-  const isQuoted = it => it.closest("#advice, #said-a p:not(:first-child), #said-b p:not(:first-child), #library-findings li");
-  return parts.filter(it => !isQuoted(it)).map(it => [own(it), it.title, it.getAttribute("aria-label"), it.value].filter(Boolean).join(" ")).join("\\n");
+  const isShown = it => !it.closest("script, style, .letters") && it.closest("[hidden]") === null && !it.parentElement.closest(whole);
+  const parts = [...document.querySelectorAll("body *")].filter(isShown);
+  return [document.title, ...parts.map(it => [it.matches(whole) ? it.textContent : own(it), it.title, it.label, it.getAttribute("aria-label"), it.value].filter(Boolean).join(" "))].join("\\n");
 })()"""
+# Texts of docs/REASONS.md and docs/LIBRARIES.md, as the page shows them.
+QUOTED = """[...Object.values(page.reasons), ...Object.values(page.library.faults)].flatMap(it => [it.means, it.cause, it.todo]).filter(Boolean)
+  .map(text => text.replace(/`|\\*\\*/g, ""))"""
 # Each item of a record ends where the next begins, and the last where its contents end.
 TILED = """(() => {
   const { look, tree } = page;
@@ -25,9 +33,9 @@ TILED = """(() => {
   }
   return wrong;
 })()"""
-# What the tree shows of all records and items, as it would draw them.
+# What the tree shows of all records and items, and the list of members, as they would be drawn.
 TREE = """(() => {
-  const { look, tree } = page, lines = [];
+  const { look, tree, library } = page, lines = library.shown.slice(0, 300).map((_, i) => library.row(i).map(it => it.textContent ?? it).join(""));
   for (let record = 0; record + 1 < look.dump.starts.length && record < 300; record++) {
     lines.push(tree.lineOf(record));
     const [from, to] = look.placeOf(record);
@@ -43,26 +51,39 @@ MARKED = """(() => {
 })()"""
 
 
+def wrong_words(text, own):
+    """The words of a script that went wrong in a text, other than names of the file, whole or cut (`nullfi..`)."""
+    names = set(WRONG.findall(own))
+    found = [it.rstrip(".") for it in WRONG.findall(re.sub(r"\\x[0-9A-F]{2}", " ", text))]
+    return [it for it in found if it not in names and (it in WORDS or not any(it in name for name in names))]
+
+
 def no_wrong_words(tab, tries, name, data):
-    """No text has a word of a script that went wrong, other than one that the file or its name has."""
+    own = f"{data.decode('latin-1')}\n{name}"
     for what, script in (("page", SHOWN), ("tree", TREE)):
         text = tab.value(script)
-        tries.see(f"{name}: words of the {what}", [word for word in WRONG if word in text and word.encode() not in data and word not in name], [])
+        for quoted in filter(WRONG.search, tab.value(QUOTED)):
+            text = text.replace(quoted, "")
+        tries.see(f"{name}: words of the {what}", wrong_words(text, own), [])
 
 
-def saved(tab, tries, name, data):
-    """What is saved is what the programs print."""
+def taken(tab, data):
+    """What can be taken out, by its kind: what the programs print."""
     place = tab.value("document.getElementById('place-a').value").encode()
     wanted = {"dump": printed("omf_dump", [], data), "json": printed("omf_dump", ["--json"], data)}
     if tab.value("page.look.verdict.ok"):
         module = data[:tab.value("page.look.verdict.size")]
-        wanted["canon"] = printed("omf", ["canon"], module)
-        wanted["placement"] = place
+        wanted |= {"canon": printed("omf", ["canon"], module), "placement": place}
         if tab.value("!document.getElementById('take-image').hidden"):
             wanted["image"] = printed("omf", ["reloc"], module + place)
-    for kind, bytes_of in wanted.items():
+    return wanted
+
+
+def saved(tab, tries, name, data):
+    """What is saved is what the programs print."""
+    for kind, wanted in taken(tab, data).items():
         got = tab.saved(f"[data-act=save-{kind}]")
-        tries.see(f"{name}: saved {kind}", [len(got), hashlib.sha256(got).hexdigest()], [len(bytes_of), hashlib.sha256(bytes_of).hexdigest()])
+        tries.see(f"{name}: saved {kind}", [len(got), hashlib.sha256(got).hexdigest()], [len(wanted), hashlib.sha256(wanted).hexdigest()])
 
 
 def accepted(tab, tries, name, data, line):
@@ -96,39 +117,69 @@ def refused(tab, tries, name, data, line):
     if not data:
         return
     tries.see(f"{name}: the record at fault is chosen", tab.value("page.tree.rowAt(page.tree.at).record"), record)
-    unjudged = [[it["start"], it["type"], it["length"]] for it in lines if it.get("unjudged")]
-    seen = tab.value("(() => { const seen = []; for (let i = 0; i < page.look.dump.starts.length - 1; i++) { const it = page.tree.dumpOf(i), [from, to] = page.look.placeOf(i); "
-                     "if (it.unjudged) seen.push([from, page.look.bytes[from], to - from - 4]); } return seen; })()")
-    tries.see(f"{name}: records after the fault", seen, unjudged)
+    tries.see(f"{name}: records of the tree", tab.value("page.look.dump.starts.length - 1"), len(lines))
+    after = [it.split() for it in printed("omf_dump", [], data).decode().splitlines() if it.endswith(" unjudged")]
+    rows = tab.value("[...page.look.records.keys()].slice(0, -1).filter(it => page.look.isUnjudged(it)).map(it => page.tree.make(page.tree.indexOf(it)).textContent)")
+    tries.see(f"{name}: records after the fault", [re.sub(r"\b([0-9A-F]{4})H\b", r"\1", it).lstrip("▸▾").split() for it in rows], after)
+
+
+def shown_name(name):
+    return '"' + re.sub(rb'[^ -~]|["\\]', lambda found: b"\\x%02X" % found[0][0], name).decode() + '"'
 
 
 def library(tab, tries, name, data):
-    """A library: its head, its verdict, its members."""
-    listed, check = printed("omf_lib", ["list", "-"], data).decode(), printed("omf_lib", ["check", "-"], data).decode()
+    """A library: its head, its verdict, its members, a search."""
+    listed, check = printed("omf_lib", ["list", "-"], data).decode(), printed("omf_lib", ["check", "-"], data).decode().splitlines()
     members = [it for it in listed.splitlines() if it.startswith("M ")]
-    cut = "MemberCut" in check
-    tries.see(f"{name}: members", tab.value("page.library.members.length"), len(members) + cut)
-    tries.see(f"{name}: refused members", tab.value("page.library.members.filter(it => it.refused).length"), sum(" refused " in it for it in members) + cut)
-    head = tab.value(text_of("library-head"))
+    cut = any(" MemberCut " in it for it in check)
     many = len(members) + cut
-    tries.see(f"{name}: head", head.startswith(f"{name} is a library {f'of {many:,} member' if many else 'without a member'}"), True)
-    ok = tab.value("document.querySelectorAll('#library-findings .good').length")
-    tries.see(f"{name}: verdict", ok, 1 if check.startswith("OK") else 0)
+    refused_words = [it.partition('" refused ')[2] or None for it in members]
+    tries.see(f"{name}: members", tab.value("page.library.members.length"), many)
+    marks = "page.library.shown.map((_, i) => page.library.row(i).find(it => it.className === 'bad')?.textContent ?? null)"
+    tries.see(f"{name}: refused members", tab.value(marks)[:len(members)], [it and f"refused {it}" for it in refused_words])
+    tries.see(f"{name}: head", tab.value(text_of("library-head")).startswith(f"{name} is a library {f'of {many:,} member' if many else 'without a member'}"), True)
+    lines = [it for it in check if it.startswith(("fault ", "note "))]
+    faults = sum(it.startswith("fault ") for it in lines)
+    verdict = f"omf-lib check finds no fault: {check[0][3:]}." if check[0].startswith("OK ") else f"omf-lib check finds {faults:,} fault{'' if faults == 1 else 's'}:"
+    tries.see(f"{name}: verdict", tab.value("[document.querySelector('#library-findings p').textContent, document.querySelectorAll('#library-findings p.bad').length]"), [verdict, int(faults > 0)])
+    tries.see(f"{name}: lines of the check", tab.value("[...document.querySelectorAll('#library-findings li > b')].map(it => it.textContent)"), lines[:50])
+    publics = [it.split(" ", 2) for it in listed.splitlines() if it.startswith("P ") and "\\" not in it]
+    for _, number, public in publics[-1:]:
+        typed = "(words => { const it = document.getElementById('members-search'); it.value = words; it.dispatchEvent(new Event('input')); return page.library.shown; })"
+        tries.see(f"{name}: a search for {public}", int(number) in tab.value(f"{typed}({public[1:-1].upper()!r})"), True)
+        tries.see(f"{name}: all members again", len(tab.value(f"{typed}('')")), many)
+
+
+def each_member(tab, tries, name, data):
+    """Opens the members of a library: the first ones, the refused ones, the last one."""
+    spans = tab.value("page.library.members.map(it => [it.start, it.size, bytesOf(it.name).join(), Boolean(it.refused)])")
+    bad = [i for i, it in enumerate(spans) if it[3]]
+    for number in sorted({*range(min(MEMBERS, len(spans))), *bad[:MEMBERS], len(spans) - 1}):
+        start, size, codes, _ = spans[number]
+        tab.value(f"{STATE} = 'waiting'; page.library.choose({number}); 0")
+        tab.until(f"['done', 'failed'].includes({STATE})")
+        title = f"{shown_name(bytes(map(int, codes.split(',') if codes else [])))} in {name}"
+        module(tab, tries, title, data[start:start + size])
+        if number in (0, *bad[:1]):
+            saved(tab, tries, title, data[start:start + size])
+
+
+def module(tab, tries, name, data):
+    """A module: its words, its sentence, its tree."""
+    tries.see(f"{name}: the page is done", tab.value(STATE), "done")
+    no_wrong_words(tab, tries, name, data)
+    line = printed("omf", ["check"], data).decode().split()
+    (accepted if line[0] == "OK" else refused)(tab, tries, name, data, line)
 
 
 def look_at(tab, tries, name, data):
     """What is open: its sentences, its tree, what is saved."""
-    tries.see(f"{name}: the page is done", tab.value(STATE), "done")
     tries.see(f"{name}: the name of the open file", tab.value(text_of("file-name")), name)
-    no_wrong_words(tab, tries, name, data)
-    is_library = data[:1] == b"\xF0" and printed("omf_lib", ["list", "-"], data).startswith(b"LIBRARY")
-    if is_library:
+    if data[:1] == b"\xF0" and printed("omf_lib", ["list", "-"], data).startswith(b"LIBRARY"):
         library(tab, tries, name, data)
         if tab.value("page.library.members.length"):
-            start, size = tab.value("[page.library.members[0].start, page.library.members[0].size]")
-            return saved(tab, tries, f"{name}, first member", data[start:start + size])
-    line = printed("omf", ["check"], data).decode().split()
-    (accepted if line[0] == "OK" else refused)(tab, tries, name, data, line)
+            return each_member(tab, tries, name, data)
+    module(tab, tries, name, data)
     return saved(tab, tries, name, data)
 
 
@@ -147,7 +198,15 @@ def examples(tab, tries):
 
 
 def first_sight(tab, tries):
+    """An example is open, and the last line names the commit that the page was made of."""
     tries.see("an example is open", tab.value(text_of("verdict")).startswith("boot/boot.omf is a well-formed module"), True)
+    tries.see("its name", tab.value(text_of("file-name")), "boot/boot.omf")
+    tries.see("no input with words of the browser", tab.value("[...document.querySelectorAll('input[type=file]')].filter(it => !it.hidden).length"), 0)
+    tries.see("no red at first", tab.value("document.querySelectorAll('main .bad:not(.tip)').length"), 0)
+    last = tab.value("document.body.innerText.trim().split('\\n').pop()")
+    made = re.match(r"Version (\S+), made of (?:commit ([0-9a-f]{12})(?:, with changes)?|sources without a commit)\. ", last)
+    tries.see("the last line", made and made[1], (ROOT / "VERSION").read_text().strip())
+    tries.see("the last line's commit", bool(made) and git("cat-file", "-t", made[2]) if made and made[2] else "commit", "commit")
 
 
 def file(tab, tries, path):

@@ -26,8 +26,8 @@ class Tries:
 
 @functools.lru_cache(maxsize=64)
 def native(program, words, data):
-    """The status of a native program, and what it prints. The last answers are kept."""
-    ran = subprocess.run([NATIVE[program], *words], input=data, stdout=subprocess.PIPE, stderr=subprocess.DEVNULL, timeout=600, check=False)
+    """The status of a native program, and what it prints on both streams. The last answers are kept."""
+    ran = subprocess.run([NATIVE[program], *words], input=data, stdout=subprocess.PIPE, stderr=subprocess.STDOUT, timeout=600, check=False)
     return ran.returncode, ran.stdout
 
 
@@ -39,10 +39,14 @@ def modules(folders):
     return [file for folder in folders for file in sorted(pathlib.Path(folder).rglob("*")) if file.is_file() and file.suffix.lower() in ENDINGS]
 
 
-def open_file(tab, *files):
+def git(*words):
+    return subprocess.run(["git", "-C", ROOT, *words], capture_output=True, text=True, check=False).stdout.strip()
+
+
+def open_file(tab, *files, seconds=120):
     tab.value(f"{STATE} = 'waiting'")
     tab.choose("#file", *files)
-    tab.until(f"['done', 'failed'].includes({STATE})", 120)
+    tab.until(f"['done', 'failed'].includes({STATE})", seconds)
 
 
 def record(kind, contents):
