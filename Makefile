@@ -17,7 +17,7 @@
 #                       lib/libomf.a, lib/libomf.so,
 #                       include/omf.h, lib/pkgconfig/omf.pc; the Python package is installed by `pip install ./python`, which needs no network
 # make dist             packs the proved programs, their man pages, the library, the page, and the last line of the log GATE of `.ci/run`
-#                       into build/omf-VERSION-x86_64-linux.tar.gz, the same bytes for the same files (dist/pack.sh)
+#                       into build/omf-VERSION-x86_64-linux.tar.xz, the same bytes for the same files (dist/pack.sh)
 # make vendor DEST=DIR  copies the crates CRATES (omf_check) and those below them, with their lines of crates.txt, into the repository DIR
 # make shown            runs the commands that the pages show with the installed programs, and compares what they print; OMF, OMF_PLACE,
 #                       OMF_LINK, OMF_DUMP, OMF_LIB, OMF_FIND and LIBOMF name others (tests/shown.sh)

@@ -23,7 +23,7 @@ _omf_dump() {
     esac
     [[ $current == -* ]] || return
     case '' in
-        '') words="--json --data --refuse-vendor-comments --verdict --help --version";;
+        '') words="--json --data --refuse-vendor-comments --verdict --names --csv --defined --undefined --help --version";;
     esac
     COMPREPLY=($(compgen -W "$words" -- "$current"))
 }
@@ -76,13 +76,13 @@ _omf_link() {
         'exe --stack') return;;
         'exe --order') COMPREPLY=($(compgen -W "dos input" -- "$current")); return;;
         'exe --library-path') return;;
-        'exe --allow') COMPREPLY=($(compgen -W "overlap align group frame near twice" -- "$current")); return;;
+        'exe --allow') COMPREPLY=($(compgen -W "group near twice" -- "$current")); return;;
         'com -o') return;;
         'com --map') return;;
         'com --stack') return;;
         'com --order') COMPREPLY=($(compgen -W "dos input" -- "$current")); return;;
         'com --library-path') return;;
-        'com --allow') COMPREPLY=($(compgen -W "overlap align group frame near twice" -- "$current")); return;;
+        'com --allow') COMPREPLY=($(compgen -W "group near twice" -- "$current")); return;;
         'image --allow') COMPREPLY=($(compgen -W "overlap align group frame near twice" -- "$current")); return;;
         'image -t') return;;
         'image -o') return;;

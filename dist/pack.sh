@@ -1,5 +1,5 @@
 #!/usr/bin/env bash
-# Packs what `make build library page` left into build/omf-VERSION-x86_64-linux.tar.gz: pack.sh PROGRAM..
+# Packs what `make build library page` left into build/omf-VERSION-x86_64-linux.tar.xz: pack.sh PROGRAM..
 #
 # A PROGRAM is NAME=FILE: its name in bin/, and the proved program. GATE names a log of `.ci/run`, whose last line is packed; without it the
 # file GATE states that none was named. The same files give the same bytes: names are sorted, times are 0, and the owner is 0.
@@ -42,5 +42,5 @@ END
 find "$to" -exec chmod go-w,a+rX {} +
 (cd "$to" && find . -type f ! -name SHA256SUMS | LC_ALL=C sort | xargs -d '\n' sha256sum > SHA256SUMS)
 chmod 644 "$to/SHA256SUMS"
-tar --sort=name --mtime=@0 --owner=0 --group=0 --numeric-owner --format=ustar -C "$work" -cf - "$name" | gzip -n -9 > "build/$name.tar.gz"
-(cd build && sha256sum "$name.tar.gz" | tee "$name.tar.gz.sha256")
+tar --sort=name --mtime=@0 --owner=0 --group=0 --numeric-owner --format=ustar -C "$work" -cf - "$name" | xz -9e -T1 > "build/$name.tar.xz"
+(cd build && sha256sum "$name.tar.xz" | tee "$name.tar.xz.sha256")

@@ -26,7 +26,7 @@ MODULES = (
 LIBRARIES = ("library/small.lib",)
 NOT_REACHED = (("first.omf", "target"), ("reasons/location.omf", "location"), ("reasons/distance.omf", "distance"), ("reasons/absolute.omf", "absolute"),
                ("first.omf", "line"), ("first.omf", "missing"), ("first.omf", "extra"))
-POLICY = ("default-src 'none'; script-src {script} 'wasm-unsafe-eval' blob:; worker-src blob:; style-src {style}; img-src data:; form-action 'none'; "
+POLICY = ("default-src 'none'; script-src {script} 'wasm-unsafe-eval'; worker-src blob:; style-src {style}; img-src data:; form-action 'none'; "
           "base-uri 'none'")
 
 

@@ -22,12 +22,13 @@ class Compare {
 
   async file(file) {
     if (!file || !this.page.look) return;
-    const { turn } = this.page, bytes = new Uint8Array(await file.arrayBuffer()), box = $("compared");
+    const { turn } = this.page, box = $("compared"), bad = (...words) => element("p", { class: "bad" }, ...words);
     $("second-name").textContent = file.name;
     box.replaceChildren("Comparing ..");
-    const { verdict, key, difference, line } = await this.page.engine.ask("compare", { bytes });
+    const answer = await file.arrayBuffer().then(bytes => this.page.engine.ask("compare", { bytes: new Uint8Array(bytes) })).catch(() => null);
     if (turn !== this.page.turn) return;
-    const bad = (...words) => element("p", { class: "bad" }, ...words);
+    if (!answer) return box.replaceChildren(bad(`${file.name} cannot be read.`));
+    const { verdict, key, difference, line } = answer;
     if (!verdict.ok) return box.replaceChildren(bad(`${file.name} has no key: ${verdict.line}.`));
     if (!key) return box.replaceChildren(bad(`${file.name} has no key: ${line || "the first file has none"}.`));
     if (!difference) return box.replaceChildren(element("p", { class: "good" }, `${file.name} has the same key: the two modules differ at most in their encoding.`));
@@ -39,7 +40,7 @@ class Compare {
   side(name, it, other) {
     if (!it) return element("div", {}, element("b", {}, name), element("p", {}, "has no such record"));
     const byte = (value, i) => [other && value === other.bytes[i] ? hex(value, 2) : element("mark", {}, hex(value, 2)), i % 16 === 15 ? "\n" : " "];
-    return element("div", {}, element("b", {}, name), element("p", {}, `${it.record.record}  ${recordSummary(it.record, it.bytes[0] & 1)}`),
+    return element("div", {}, element("b", {}, name), element("p", {}, `${it.record.record || TYPES[it.bytes[0]] || ""}  ${recordSummary(it.record, it.bytes[0] & 1)}`),
       element("pre", {}, ...[...it.bytes.subarray(0, 256)].flatMap(byte)));
   }
 }

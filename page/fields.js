@@ -158,7 +158,7 @@ function recordTree(bytes, from, to, dump, dataAt) {
 // One line for a record: its fields as in omf-dump's text, without their data.
 function recordSummary(dump, wide) {
   if ("refused" in dump) return `refused ${dump.refused} ${dump.reason}`;
-  if (dump.unjudged) return `length ${hex(dump.length, 4)}H  not judged`;
+  if (dump.unjudged) return `length ${hex(dump.length, 4)}H  unjudged`;
   const words = [];
   for (const [key, value] of Object.entries(dump)) {
     if (FRAME.has(key) || key === "type" || key === "data" || key === "left-out" || value === false) continue;

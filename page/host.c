@@ -98,7 +98,7 @@ i64 rattle_arg(size_t i, u8 *room, size_t size) {
 i64 rattle_env(const u8 *name, u8 *room, size_t size) { return -1; }
 i64 rattle_env_at(size_t i, u8 *room, size_t size) { return -1; }
 
-/* Standard input, standard output, and no other files. */
+/* Standard input, standard output with the lines of the standard error among it, and no other files. */
 enum { EBADF = 9, ENOENT = 2, ENOSPC = 28, ESPIPE = 29 };
 static int error;
 int rattle_errno(void) { return error; }
@@ -122,8 +122,7 @@ u8 *page_output(void) { return output; }
 size_t page_output_size(void) { return output_size; }
 void page_output_most(size_t most) { output_most = most; }
 i64 write(int file, const u8 *bytes, size_t count) {
-    if (file == 2) return (i64)count;
-    if (file != 1) { error = EBADF; return -1; }
+    if (file != 1 && file != 2) { error = EBADF; return -1; }
     if (count > output_most - output_size) { error = ENOSPC; return -1; }
     if (output_size + count > output_room) {
         size_t room = (output_size + count) * 2;
@@ -143,6 +142,7 @@ int close(int file) { error = EBADF; return -1; }
 int link(const char *name, const char *other) { error = ENOENT; return -1; }
 int rename(const char *name, const char *other) { error = ENOENT; return -1; }
 int unlink(const char *name) { error = ENOENT; return -1; }
+i64 readlink(const char *name, char *room, size_t size) { error = ENOENT; return -1; }
 int statx(int folder, const char *name, int flags, unsigned mask, void *state) { error = ENOENT; return -1; }
 int __xpg_strerror_r(int number, char *room, size_t size) {
     if (size) *room = 0;

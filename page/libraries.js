@@ -44,6 +44,7 @@ class LibraryView {
   clear() {
     this.members = this.shown = [];
     this.at = 0;
+    this.isGood = false;
     this.choices.set(0);
     $("library").hidden = true;
   }
@@ -64,8 +65,9 @@ class LibraryView {
 
   showFindings(check) {
     const found = findingsOf(check), faults = found.filter(it => !it.isNote), ok = /^OK (.*)$/m.exec(check);
+    this.isGood = Boolean(ok);
     const head = ok ? element("p", { class: "good" }, `omf-lib check finds no fault: ${ok[1]}.`)
-      : element("p", { class: "bad" }, `omf-lib check finds ${count(faults.length, "fault")}:`);
+      : element("p", { class: "bad" }, faults.length ? `omf-lib check finds ${count(faults.length, "fault")}:` : `omf-lib check has no answer: ${check}.`);
     const items = found.slice(0, LibraryView.FINDINGS).map(it => this.finding(it));
     if (found.length > items.length) items.push(element("li", {}, `and ${count(found.length - items.length, "line")} more`));
     $("library-findings").replaceChildren(head, ...items.length ? [element("ul", {}, ...items)] : []);
@@ -73,7 +75,7 @@ class LibraryView {
 
   // A line of the check, and what it means. For a member that is refused, its own advice is below.
   finding({ line, isNote, number, member }) {
-    const { name, means, todo } = this.faults[number], sentence = text => text[0].toUpperCase() + text.slice(1) + ". ";
+    const { name, means, todo } = this.faults[number] || {}, sentence = text => text ? text[0].toUpperCase() + text.slice(1) + ". " : "";
     const item = element("li", {}, element("b", { class: isNote ? "" : "bad" }, line), ". ", sentence(means), name === "Member" ? "" : sentence(todo));
     if (member !== undefined && this.members[+member]) item.append(element("button", { type: "button", onclick: () => this.choose(+member) }, "Open the member"));
     return item;

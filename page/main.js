@@ -26,13 +26,18 @@ class Page {
   // An example is open at first: the one that the address names, or FIRST_EXAMPLE.
   begin() {
     if (this.isTaken) return;
-    const named = name => this.examples.findIndex(example => example.name === name), asked = named(decodeURIComponent(location.hash.slice(1)));
-    this.example(asked >= 0 ? asked : named(FIRST_EXAMPLE));
+    const asked = this.examples.findIndex(example => location.hash === "#" + encodeURI(example.name));
+    this.example(asked >= 0 ? asked : this.examples.findIndex(example => example.name === FIRST_EXAMPLE));
   }
 
   failed(fault) {
+    this.stop(fault, "This browser cannot run the programs: they need WebAssembly with a 64-bit memory (Chrome or Edge 133, Firefox 134, or later).");
+  }
+
+  // Says that something is not shown, and the browser's words for why.
+  stop(fault, ...words) {
     document.documentElement.dataset.state = "failed";
-    this.say("bad", "This browser cannot run the programs: they need WebAssembly with a 64-bit memory (Chrome or Edge 133, Firefox 134, or later).");
+    this.say("bad", ...words);
     $("advice").replaceChildren(element("p", { class: "small" }, String(fault.message)));
   }
 
@@ -76,10 +81,18 @@ class Page {
     this.isTaken = true;
     $("examples-list").value = "";
     $("file-kind").hidden = true;
-    if (file.size <= MOST_BYTES) return this.open(file.name, new Uint8Array(await file.arrayBuffer()));
-    this.close(file.name);
-    this.say("bad", `${file.name} has ${count(file.size, "byte")}; this page takes files of up to 64 MB.`);
-    document.documentElement.dataset.state = "done";
+    const isOld = this.close(file.name);
+    if (file.size > MOST_BYTES) {
+      this.say("bad", `${file.name} has ${count(file.size, "byte")}; this page takes files of up to 64 MB.`);
+      document.documentElement.dataset.state = "done";
+      return;
+    }
+    try {
+      const bytes = new Uint8Array(await file.arrayBuffer());
+      if (!isOld()) await this.open(file.name, bytes);
+    } catch (fault) {   // a folder, or a file that is gone
+      if (!isOld()) this.stop(fault, element("b", {}, file.name), " cannot be read.");
+    }
   }
 
   example(i) {
@@ -106,17 +119,14 @@ class Page {
     document.documentElement.dataset.state = "busy";
     this.say("", `Reading ${name} ..`);
     if (bytes[0] !== 0xF0) return this.openModule(name, file, bytes, placement);
-    try {
-      await this.engine.ready;
+    return this.attempt(name, isOld, async () => {
       const library = await this.engine.ask("library", { bytes });
       if (isOld()) return;
       if (!library.list.startsWith("LIBRARY")) return this.openModule(name, file, bytes);
       this.opened = { name, file, bytes };
       this.library.set(name, bytes, library);
       return this.library.members.length ? this.library.choose(0) : this.openModule(name, file, bytes);
-    } catch (fault) {
-      if (!isOld()) this.failed(fault);
-    }
+    });
   }
 
   member({ name, start, size }) {
@@ -131,8 +141,7 @@ class Page {
     document.documentElement.dataset.state = "busy";
     this.say("", `Reading ${name} ..`);
     this.empty();
-    try {
-      await this.engine.ready;
+    return this.attempt(name, isOld, async () => {
       const { verdict, records } = await this.engine.ask("judge", { bytes });
       if (isOld()) return;
       this.look = new Look(name, file, bytes, verdict, records);
@@ -142,8 +151,21 @@ class Page {
       this.showDump(dump);
       if (verdict.ok) await this.place(placement, isOld);
       if (!isOld()) document.documentElement.dataset.state = "done";
+    });
+  }
+
+  // Does what needs the programs, and says so where it fails.
+  async attempt(name, isOld, act) {
+    try {
+      await this.engine.ready;
     } catch (fault) {
       if (!isOld()) this.failed(fault);
+      return;
+    }
+    try {
+      if (!isOld()) await act();
+    } catch (fault) {
+      if (!isOld()) this.stop(fault, element("b", {}, name), " cannot be shown: a fault of this page.");
     }
   }
 
@@ -177,7 +199,8 @@ class Page {
     this.tree.set(look);
     if (verdict.ok || !verdict.reason) return;
     const last = dump.starts.length - 2;
-    this.say("bad", ...refusedWords(look, last < 0 ? {} : this.tree.dumpOf(Math.min(verdict.record, last))));
+    const isEmpty = this.library.isGood && !this.library.members.length;   // a good library without a member is no fault
+    this.say(isEmpty ? "" : "bad", ...refusedWords(look, last < 0 ? {} : this.tree.dumpOf(Math.min(verdict.record, last))));
     this.toFault();
   }
 
@@ -190,7 +213,7 @@ class Page {
   // What is copied or saved.
   async bytesFor(kind) {
     if (kind === "placement") return new TextEncoder().encode($("place-a").value);
-    if (kind === "image") return this.placing.images.a.text;
+    if (kind === "image") return (await this.engine.ask("text", { program: "omf", words: ["reloc"], more: $("place-a").value })).bytes;
     if (kind === "canon") return (await this.engine.ask("canon")).bytes;
     return (await this.engine.ask("text", { program: "omf_dump", words: kind === "json" ? ["--json"] : [] })).bytes;
   }

@@ -10,16 +10,21 @@ const shape = (name, attributes, ...children) => {
 };
 const titled = text => shape("title", {}, text);
 
+// An entry of a placement, or null where its words are none, as while it is typed.
+function entryOf(letter, words) {
+  const isReal = words[words.length - 1] === "real", texts = isReal ? words.slice(0, -1) : words, many = (letter === "G" ? 2 : 3) - (isReal ? 2 : 0);
+  if (texts.length !== many || !texts.every(text => /^[0-9A-F]{1,8}$/i.test(text))) return null;
+  const [one, two, three] = texts.map(text => parseInt(text, 16));
+  if (letter === "G") return isReal ? { isReal } : { base: one, selector: two };
+  return isReal ? { address: one, base: one - one % 16, selector: one >>> 4 } : { address: one, base: two, selector: three };
+}
+
 // The entries of a placement text, as far as the picture needs them. Whether the text is right, `omf reloc` decides.
 function entriesOf(text) {
   const entries = { S: [], G: [], E: [] };
   for (const line of text.split("\n")) {
-    const [letter, address, base, selector] = line.split(";")[0].trim().split(" ");
-    if (!entries[letter]) continue;
-    const number = word => parseInt(word, 16);
-    if (letter === "G") entries.G.push(address === "real" ? { isReal: true } : { base: number(address), selector: number(base) });
-    else if (base === "real") entries[letter].push({ address: number(address), base: number(address) >> 4 << 4, selector: number(address) >> 4 });
-    else entries[letter].push({ address: number(address), base: number(base), selector: number(selector) });
+    const [letter, ...words] = line.split(";")[0].trim().split(" ");
+    if (/^[SGE]$/.test(letter)) entries[letter].push(entryOf(letter, words));
   }
   return entries;
 }

@@ -73,7 +73,7 @@ class Placing {
   }
 
   notDrafted(why) {
-    $("said-a").replaceChildren(element("p", { class: "warn" }, `There is no draft: ${why}`));
+    $("said-a").replaceChildren(element("p", { class: "warn" }, `There is no draft: ${why.replace(/^omf-place: /, "").trim()}`));
     this.page.picture.draw(this.page.look.seen, $("place-a").value, null);
   }
 

@@ -2,12 +2,13 @@
 # A program's LLVM bitcode, as rattle hands it to clang for x86-64 -> WebAssembly with a 64-bit memory: wasm.sh PROGRAM.bc PROGRAM.wasm
 #
 # The module's target is rewritten, clang compiles it again, and host.c takes the place of the C library. The kit does not vouch for this way.
-# A call of a function that host.c lacks is a warning here, and traps when it is made.
+# A call of a function that host.c lacks is a warning here, and traps when it is made. A program that is newer than all of these is kept.
 set -euo pipefail
 here=$(cd "$(dirname "$0")" && pwd)
 clang=$(dirname "$(rt doc)")/toolchain/bin/clang
 bitcode=$1
 program=$2
+if [ "$program" -nt "$bitcode" ] && [ "$program" -nt "$here/host.c" ] && [ "$program" -nt "$here/wasm.sh" ]; then exit; fi
 work=$(mktemp -d)
 trap 'rm -rf "$work"' EXIT
 ln -s "$clang" "$work/wasm-ld"

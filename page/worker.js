@@ -193,7 +193,10 @@ const jobs = {
   },
   verdict({ bytes }) { return verdictOf(bytes); },
   library({ bytes }) { return { list: said(run("omf_lib", ["list", "-"], [bytes])), check: said(run("omf_lib", ["check", "-"], [bytes])) }; },
-  text({ program, words }) { return { bytes: run(program, words, [current.bytes]).output }; },
+  text({ program, words, more }) {
+    const module = more === undefined ? [current.bytes] : [current.bytes.subarray(0, current.size), new TextEncoder().encode(more)];
+    return { bytes: run(program, words, module).output };
+  },
   canon() { return { bytes: current.canonical.slice() }; },
   draft({ tries }) { return draft(tries); },
   key() {
