@@ -5,11 +5,16 @@ import struct
 
 from promises import promised
 
+# The numbers with a sign.
+DELTAS = ("external-delta", "line-delta")
+
 
 def look_at_value(value, most):
-    """Characters are bytes, numbers are not negative, and data are whole bytes, at most as many as were asked for."""
+    """Characters are bytes, no number but DELTAS is negative, and data are whole bytes, at most as many as were asked for."""
     if isinstance(value, dict):
         for key, one in value.items():
+            if key in DELTAS:
+                continue
             if key in ("data", "bytes") and isinstance(one, str):
                 promised(re.fullmatch("(?:[0-9A-F]{2})*", one), f"{key} {one}")
             look_at_value(one, most)
@@ -23,6 +28,11 @@ def look_at_value(value, most):
         promised(all(ord(it) < 256 for it in value), "a character that is no byte")
     else:
         promised(isinstance(value, bool) or (isinstance(value, int) and value >= 0), f"value {value}")
+
+
+def deltas_of(body):
+    """What an INCDEF adds to the counts of externals and of lines: two 16-bit numbers with a sign, as far as they are there."""
+    return {name: struct.unpack_from("<h", body, at)[0] for name, at in zip(DELTAS, (3, 5)) if at + 2 <= len(body)}
 
 
 def no_doubles(pairs):
@@ -42,6 +52,8 @@ def look_at_records(lines, bytes_, most):
         is_judged = is_judged and "refused" not in one
         size = 3 + struct.unpack_from("<H", bytes_, at + 1)[0] if len(bytes_) - at >= 3 else len(bytes_) - at
         promised("type" not in one or one["type"] == bytes_[at], f"record {number}: type")
+        deltas = deltas_of(bytes_[at + 3:at + size - 1]) if one.get("subtype") == "INCDEF" else {}
+        promised({it: one[it] for it in DELTAS if it in one} == deltas, f"record {number}: deltas {deltas}")
         promised(all(3 <= it["within"] < size for it in one.get("items", ())), f"record {number}: within")
         if "refused" in one and "byte" in one:
             promised(one["byte"] == bytes_[at + one["within"]], "the byte at fault")
