@@ -18,7 +18,7 @@ pub use frame::{Frame, Placed};
 pub use group::{lower, lowest_member, real_group};
 pub use placement::Placement;
 pub use several::{
-    DeriveFault, Given, Linkage, WeakPair, derive, derive_linked, weak_pairs, with_weak,
-    with_weak_linked,
+    Base, Definer, DeriveFault, Given, Linkage, Source, WeakPair, derive, derive_linked,
+    weak_pairs, with_weak, with_weak_linked,
 };
 pub use text::{Draft, parse_placement};

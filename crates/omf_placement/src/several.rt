@@ -15,4 +15,5 @@ pub use fault::DeriveFault;
 pub use given::Given;
 pub use linkage::{Linkage, derive, derive_linked, with_weak_linked};
 pub use pairs::{WeakPair, weak_pairs};
+pub use sources::{Base, Definer, Source};
 pub use weak::with_weak;

@@ -7,7 +7,7 @@ use Rattle.omf_records.specs.Values.{At, Rec, Contents, Publics, PublicItem}
 use Rattle.omf_frame.specs.Types.{is_local}
 use Rattle.omf_image.specs.Limits.{profile_limits}
 use Rattle.omf_check.specs.Sound.{ModuleHolds}
-use Rattle.omf_check.specs.Tables.{externals}
+use Rattle.omf_check.specs.Tables.{entry, externals}
 use Rattle.omf_placement.specs.declared.frame.Placed.{Placed}
 use Rattle.omf_placement.specs.declared.several.publics.Found.{Found}
 use Rattle.omf_placement.specs.declared.several.publics.Found.TheVariants as found
@@ -90,6 +90,10 @@ definers among m = map (λ e. definer (filter_map (of_source e.0) (among e.1))) 
 
 abbrev pub linkage : List (List Rec) → List (List (Option Definer))
 linkage ms = map (λ m. definers (seen_sources ms m.0 m.1) m.1) (enumerate_from 0 ms)
+
+-- What an external of a module refers to, by the module's number, from 0, and the external's index, from 1.
+abbrev pub definer_at : List (List (Option Definer)) → ℕ → ℕ → Option Definer
+definer_at links j i = option_and_then (λ ds. option_and_then (λ d. d) (entry ds i)) (slice_get links j)
 
 -- What is known of modules: the publics that their externals refer to, whether two publics may have one name, and whether externals may be weak.
 pub record Known : Type 0 where

@@ -13,7 +13,7 @@ ghost use Rattle.omf_placement.specs.Inner.Derived.{derived, external_places, gi
 ghost use Rattle.omf_placement.specs.Inner.GivenTable.{IsGivenTable};
 ghost use Rattle.omf_placement.specs.Derivation.{IsDerived, IsPlaceOf};
 ghost use Rattle.omf_placement.specs.Inner.Deriving.{IsFound, IsTried, with_own};
-ghost use Rattle.omf_placement.specs.Inner.Linkage.{AreFound, IsLinkage, IsSourceTable, NamedSource, definer, definers, found_by, of_source, sources};
+ghost use Rattle.omf_placement.specs.Inner.Linkage.{AreFound, IsLinkage, IsSourceTable, NamedSource, definer, definer_at, definers, found_by, of_source, sources};
 ghost use Rattle.omf_placement.specs.Inner.PublicTable.{summed};
 ghost use Rattle.omf_placement.specs.Weak.{with_weak};
 
@@ -25,7 +25,7 @@ use crate::several::publics::place_found;
 use crate::several::search::first_fault;
 use crate::several::sources::{Definer, SourceTable, found_by};
 use crate::several::weak::{has_pairs, with_weak};
-use omf_check::Checked;
+use omf_check::{Checked, entry_of};
 use std::alloc::{AllocError, Global};
 use std::marker::Model;
 
@@ -129,6 +129,15 @@ impl Linkage {
             repeats: all.repeats(),
             is_weak,
         })
+    }
+
+    /// What the external with an index (from 1) of the module with a number (from 0) refers to; `None` if no public has its name, and if
+    /// there is no such external.
+    pub fn definer(&self, module: usize, external: u16) -> Option<Definer>
+        ensures { result ≡ definer_at self.now.links «module» external }
+    {
+        let links = self.of_module.get(module)?;
+        entry_of(&links.of_external, usize::from(external))?
     }
 
     /// Whether two publics of PUBDEFs may have one name: false only if none have.
