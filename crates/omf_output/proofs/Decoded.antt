@@ -9,9 +9,9 @@ use Rattle.omf_output.specs.Rom.IntelHex.{checksum, record_line, end_line}
 use Rattle.omf_output.specs.Rom.Runs.{placed}
 use Rattle.omf_output.specs.declared.rom.srec.SAddress.{SAddress}
 use Rattle.omf_output.specs.declared.rom.srec.SAddress.TheVariants.{Bits16, Bits24, Bits32}
-use Rattle.omf_output.specs.Rom.Motorola.{complement, data_digit, end_digit, limit as s_limit, record_bytes}
+use Rattle.omf_output.specs.Rom.Motorola.{complement, data_digit, end_digit, header_digit, limit as s_limit, record_bytes}
 use Rattle.omf_output.specs.Rom.Reading.{MeansHex, MeansS}
-use Rattle.omf_output.specs.Rom.Reading.MeansS.{s_bytes_at, s_ends}
+use Rattle.omf_output.specs.Rom.Reading.MeansS.{s_bytes_at, s_ends, s_header}
 use Rattle.omf_output.specs.Rom.Reading.MeansHex.{bytes_at, segment_base, linear_base, hex_ends}
 
 -- ---- digits
@@ -159,31 +159,43 @@ record_placed Bits16 address bytes sum fits = same_placed _ address _ bytes sum 
 record_placed Bits24 address bytes sum fits = same_placed _ address _ bytes sum (λ some. omega arith) (omega arith)
 record_placed Bits32 address bytes sum fits = same_placed _ address _ bytes sum (λ some. omega arith) (omega arith)
 
--- a text, line by line, up to a record that is no data record
+-- what a record adds to what the later ones give: its bytes, or nothing, or no later record counts
+s_step : SAddress → ℕ → List (ℕ × ℕ) → List (ℕ × ℕ) → List (ℕ × ℕ)
+s_step width digit own later = cond (eqb digit (data_digit width)) (own ++ later) (cond (eqb digit header_digit) later [])
+
+-- a text, line by line, up to a record that is neither a header nor data
 s_read : SAddress → ℕ → List ℕ → List (ℕ × ℕ)
 s_read width zero text = []
 s_read width (suc n) [] = []
 s_read width (suc n) (mark ∷ []) = []
-s_read width (suc n) (mark ∷ digit ∷ text) = cond (eqb digit (data_digit width)) (placed_by width (unspelled (front text)) ++ s_read width n (behind text)) []
+s_read width (suc n) (mark ∷ digit ∷ text) = s_step width digit (placed_by width (unspelled (front text))) (s_read width n (behind text))
 
 s_line_read : (width : SAddress) (n digit : ℕ) (bytes text : List ℕ)
-    → s_read width (suc n) (line (83 ∷ digit ∷ []) bytes ++ text) ≡ cond (eqb digit (data_digit width)) (placed_by width bytes ++ s_read width n text) []
+    → s_read width (suc n) (line (83 ∷ digit ∷ []) bytes ++ text) ≡ s_step width digit (placed_by width bytes) (s_read width n text)
 unfolding s_read
 s_line_read width n digit bytes text =
     let whole : (83 ∷ digit ∷ spelled bytes ++ 10 ∷ []) ++ text ≡ 83 ∷ digit ∷ (spelled bytes ++ 10 ∷ text) = ap (λ (t : List ℕ). 83 ∷ digit ∷ t) (append_assoc (spelled bytes) (10 ∷ []) text) in
     ap (s_read width (suc n)) whole
-    ∙ ap₂ (λ (t u : List ℕ). cond (eqb digit (data_digit width)) (placed_by width (unspelled t) ++ s_read width n u) []) (front_of bytes text) (behind_of bytes text)
-    ∙ ap (λ (t : List ℕ). cond (eqb digit (data_digit width)) (placed_by width t ++ s_read width n text) []) (unspelled_of bytes)
+    ∙ ap₂ (λ (t u : List ℕ). s_step width digit (placed_by width (unspelled t)) (s_read width n u)) (front_of bytes text) (behind_of bytes text)
+    ∙ ap (λ (t : List ℕ). s_step width digit (placed_by width t) (s_read width n text)) (unspelled_of bytes)
 
-data_taken : (width : SAddress) (m : List (ℕ × ℕ)) → cond (eqb (data_digit width) (data_digit width)) m [] ≡ m
-data_taken Bits16 m = refl
-data_taken Bits24 m = refl
-data_taken Bits32 m = refl
+data_taken : (width : SAddress) (own later : List (ℕ × ℕ)) → s_step width (data_digit width) own later ≡ own ++ later
+unfolding s_step
+data_taken Bits16 own later = refl
+data_taken Bits24 own later = refl
+data_taken Bits32 own later = refl
 
-end_left : (width : SAddress) (m : List (ℕ × ℕ)) → cond (eqb (end_digit width) (data_digit width)) m [] ≡ []
-end_left Bits16 m = refl
-end_left Bits24 m = refl
-end_left Bits32 m = refl
+header_passed : (width : SAddress) (own later : List (ℕ × ℕ)) → s_step width header_digit own later ≡ later
+unfolding s_step
+header_passed Bits16 own later = refl
+header_passed Bits24 own later = refl
+header_passed Bits32 own later = refl
+
+end_left : (width : SAddress) (own later : List (ℕ × ℕ)) → s_step width (end_digit width) own later ≡ []
+unfolding s_step
+end_left Bits16 own later = refl
+end_left Bits24 own later = refl
+end_left Bits32 own later = refl
 
 abbrev summed : SAddress → ℕ → List ℕ → List ℕ
 summed width address bytes = record_bytes width address bytes ++ complement (record_bytes width address bytes) ∷ []
@@ -195,11 +207,18 @@ s_means_read width start _ _ (s_bytes_at address bytes text m are few fits means
     let both = length-append own text in
     let left : length text < n = omega (arith, both) in
     s_line_read width n (data_digit width) (summed width address bytes) text
-    ∙ data_taken width (placed_by width (summed width address bytes) ++ s_read width n text)
+    ∙ data_taken width (placed_by width (summed width address bytes)) (s_read width n text)
     ∙ ap₂ (λ (s t : List (ℕ × ℕ)). s ++ t) (record_placed width address bytes (complement (record_bytes width address bytes)) fits) (s_means_read width start text m means n left)
+s_means_read width start _ _ (s_header bytes text m are few means) (suc n) small =
+    let own : List ℕ = line (83 ∷ header_digit ∷ []) (summed Bits16 0 bytes) in
+    let both = length-append own text in
+    let left : length text < n = omega (arith, both) in
+    s_line_read width n header_digit (summed Bits16 0 bytes) text
+    ∙ header_passed width (placed_by width (summed Bits16 0 bytes)) (s_read width n text)
+    ∙ s_means_read width start text m means n left
 s_means_read width start _ _ s_ends (suc n) small =
     let own : List ℕ = line (83 ∷ end_digit width ∷ []) (summed width start []) in
-    ap (s_read width (suc n)) (sym (append-nil own)) ∙ s_line_read width n (end_digit width) (summed width start []) [] ∙ end_left width (placed_by width (summed width start []) ++ s_read width n [])
+    ap (s_read width (suc n)) (sym (append-nil own)) ∙ s_line_read width n (end_digit width) (summed width start []) [] ∙ end_left width (placed_by width (summed width start [])) (s_read width n [])
 
 -- S-records have one meaning
 pub s_unique : (width : SAddress) (start end : ℕ) (text : List ℕ) (m k : List (ℕ × ℕ)) → MeansS width start text m → MeansS width end text k → m ≡ k

@@ -1,5 +1,5 @@
 -- The texts, read back.
-use Rattle.std.proofs.Common.{◌≡◌, ℕ, ◌+◌, ◌*◌, ◌/◌, ◌%◌, ◌<◌, ◌≤◌, List, [], ◌∷◌, ◌++◌, length, Bool, true, false, cond, eqb, refl, sym, subst, arith, append_assoc}
+use Rattle.std.proofs.Common.{◌≡◌, ℕ, ◌+◌, ◌*◌, ◌/◌, ◌%◌, ◌<◌, ◌≤◌, List, [], ◌∷◌, ◌++◌, length, Bool, true, false, cond, eqb, refl, sym, subst, arith, append_assoc, codes, rules}
 use Rattle.std.proofs.lemmas.Bool.{eqb-true}
 use Rattle.omf_output.specs.declared.rom.hex.HexBase.{HexBase}
 use Rattle.omf_output.specs.declared.rom.hex.HexBase.TheVariants.{Linear, Segment}
@@ -12,7 +12,7 @@ use Rattle.omf_frame.specs.Bytes.{AreBytes}
 use Rattle.omf_output.specs.Rom.Runs.{placed, memory, AreBelow, HaveBytes}
 use Rattle.omf_output.specs.Rom.Reading.{MeansHex, MeansS}
 use Rattle.omf_output.specs.Rom.Reading.MeansHex.{bytes_at, segment_base, linear_base, hex_ends}
-use Rattle.omf_output.specs.Rom.Reading.MeansS.{s_bytes_at, s_ends}
+use Rattle.omf_output.specs.Rom.Reading.MeansS.{s_bytes_at, s_ends, s_header}
 use Rattle.omf_output.proofs.Pieces.{IsPiece, Every, said, all_said, all_sound}
 
 -- ---- Intel HEX
@@ -76,4 +76,7 @@ s_lines_said width start (p ∷ ps) all =
     subst (λ (t : List ℕ). MeansS width start t (said (p ∷ ps))) (sym (append_assoc (s_line (data_digit width) width p.0 p.1) (s_lines width ps) (s_line (end_digit width) width start []))) one
 
 pub s_said : (width : SAddress) (start : ℕ) (runs : List Run) → AreBelow (s_limit width) runs → HaveBytes runs → MeansS width start (s_text width start runs) (memory runs)
-s_said width start runs below are = subst (MeansS width start (s_text width start runs)) (all_said runs) (s_lines_said width start (pieces_of runs) (all_sound (s_limit width) runs below are))
+s_said width start runs below are =
+    let lines : List ℕ = s_lines width (pieces_of runs) ++ s_line (end_digit width) width start [] in
+    subst (MeansS width start (s_text width start runs)) (all_said runs)
+    (s_header (codes "HDR") lines (said (pieces_of runs)) (search rules) (omega arith) (s_lines_said width start (pieces_of runs) (all_sound (s_limit width) runs below are)))

@@ -1,11 +1,12 @@
 -- The bytes of a file, as they are appended.
-use Rattle.std.proofs.Common.{◌≡◌, ℕ, ◌+◌, ◌*◌, ◌-◌, ◌<◌, ◌≤◌, List, [], ◌∷◌, ◌++◌, Bool, true, false, cond, length, take, refl, sym, ◌∙◌, ap, ap₂, arith, length-append}
+use Rattle.std.proofs.Common.{Result, Ok, Err, ◌≡◌, ℕ, ◌+◌, ◌*◌, ◌-◌, ◌<◌, ◌≤◌, List, [], ◌∷◌, ◌++◌, Bool, true, false, cond, length, take, refl, sym, ◌∙◌, ap, ap₂, arith, length-append}
 use Rattle.std.specs.Prelude.{All, Option, Some, None, find, flat_map, nat_lt, option_map, replicate, ◌^◌}
 use Rattle.std.proofs.lemmas.Bool.{ltb-false}
 use Rattle.std.proofs.lemmas.List.Elements.{All-nil, All-cons}
 use Rattle.std.proofs.lemmas.Grind.{flat_map-append}
 use Rattle.std.proofs.lemmas.List.{append_assoc, take_all}
 use Rattle.byteorder.specs.Endian.{little_bytes}
+use Rattle.omf_frame.specs.Bytes.{AddsText}
 use Rattle.omf_output.specs.Exe.Exe.{CanBeWritten, Program, as_bytes, entry_of, exe, header, paragraphs}
 use Rattle.omf_output.specs.Exe.FileFaults.{file_fault}
 use Rattle.omf_output.specs.declared.exe.file.FileFault.{FileFault}
@@ -73,3 +74,8 @@ writable p code stack e = many (nat_lt 65535 (length p.words)) refl e
     many : (b : Bool) → nat_lt 65535 (length p.words) ≡ b → cond b (Some fault.TooMany) (cond (nat_lt (2 ^ 20) (length p.image)) (Some fault.TooLong) (outside p)) ≡ None → CanBeWritten p
     many true f e = absurd cc
     many false f e = long (ltb-false 65535 (length p.words) f) (nat_lt (2 ^ 20) (length p.image)) refl e
+
+-- A second part was written after the first.
+pub both_written : {A E : Type 0} (r : Result A E) (old mid new a b : List ℕ) → mid ≡ old ++ a → AddsText r mid new b → AddsText r old new (a ++ b)
+both_written (Ok x) old mid new a b first second = second ∙ ap (λ (t : List ℕ). t ++ b) first ∙ append_assoc old a b
+both_written (Err e) old mid new a b first second = second

@@ -1,5 +1,5 @@
 -- Motorola S-records: a type, a count of the bytes that follow it, an address, data and a checksum.
-use Rattle.std.specs.Prelude.{ℕ, ◌+◌, ◌-◌, ◌/◌, ◌%◌, ◌^◌, List, [], ◌∷◌, ◌++◌, length, sum, flat_map}
+use Rattle.std.specs.Prelude.{ℕ, ◌+◌, ◌-◌, ◌/◌, ◌%◌, ◌^◌, List, [], ◌∷◌, ◌++◌, length, sum, flat_map, codes}
 use Rattle.omf_output.specs.declared.rom.srec.SAddress.{SAddress}
 use Rattle.omf_output.specs.declared.rom.srec.SAddress.TheVariants.{Bits16, Bits24, Bits32}
 use Rattle.omf_output.specs.declared.rom.run.Run.{Run}
@@ -34,6 +34,10 @@ data_digit Bits16 = 49
 data_digit Bits24 = 50
 data_digit Bits32 = 51
 
+-- that of the header record, S0
+abbrev pub header_digit : ℕ
+header_digit = 48
+
 -- that of the record which ends them and has the start address: S9, S8, S7
 abbrev pub end_digit : SAddress → ℕ
 end_digit Bits16 = 57
@@ -53,6 +57,13 @@ record_line digit width address bytes =
 abbrev pub s_lines : SAddress → List (ℕ × List ℕ) → List ℕ
 s_lines width ps = flat_map (λ p. record_line (data_digit width) width p.0 p.1) ps
 
--- The text of runs: data records, and the record with the start address.
+-- the header record: the address 0 in 16 bits, and the text HDR
+abbrev pub header_line : List ℕ
+header_line = record_line header_digit Bits16 0 (codes "HDR")
+
+-- The text of runs: the header record, data records, and the record with the start address.
+abbrev pub runs_text : SAddress → ℕ → List Run → List ℕ
+runs_text width start runs = s_lines width (pieces_of runs) ++ record_line (end_digit width) width start []
+
 abbrev pub s_text : SAddress → ℕ → List Run → List ℕ
-s_text width start runs = s_lines width (pieces_of runs) ++ record_line (end_digit width) width start []
+s_text width start runs = header_line ++ runs_text width start runs

@@ -18,7 +18,6 @@ pub fn hex_is_read_back()
 {}
 
 /// The text that `write_s_records` writes of runs, read back, gives each byte of the runs at its address, and no other.
-#[tactic(auto, using(crate::proofs::ReadBack::s_said))]
 pub fn s_records_are_read_back()
     ensures { (width : SAddress) (start : ℕ) (runs : List Run) → AreBelow (s_limit width) runs → HaveBytes runs → MeansS width start (s_text width start runs) (memory runs) }
 {}

@@ -6,7 +6,7 @@ ghost use Rattle.omf_output.specs.declared.rom.hex.HexBase.TheVariants as base;
 ghost use Rattle.omf_output.specs.declared.rom.srec.SAddress.TheVariants as address;
 ghost use Rattle.omf_output.specs.Rom.Cut.{pieces};
 ghost use Rattle.omf_output.specs.Rom.IntelHex.{data_line, base_line, end_line, hex_lines};
-ghost use Rattle.omf_output.specs.Rom.Motorola.{record_line, data_digit, end_digit};
+ghost use Rattle.omf_output.specs.Rom.Motorola.{record_line, data_digit, end_digit, header_line};
 
 /// Records in Intel HEX.
 pub fn hex_records()
@@ -16,8 +16,9 @@ pub fn hex_records()
     ensures last { end_line ≡ codes ":00000001FF" ++ 10 ∷ [] }
 {}
 
-/// S-records of each width, data and the last.
+/// S-records: the header, data of each width, and the last.
 pub fn s_records()
+    ensures header { header_line ≡ codes "S00600004844521B" ++ 10 ∷ [] }
     ensures short { record_line (data_digit address.Bits16) address.Bits16 0x7AF0 (hex (codes "0A 0A 0D 00 00 00 00 00 00 00 00 00 00 00 00 00")) ≡ codes "S1137AF00A0A0D0000000000000000000000000061" ++ 10 ∷ [] }
     ensures short_last { record_line (end_digit address.Bits16) address.Bits16 0 [] ≡ codes "S9030000FC" ++ 10 ∷ [] }
     ensures middle { record_line (data_digit address.Bits24) address.Bits24 0x0F0000 (0xFA ∷ []) ≡ codes "S2050F0000FAF1" ++ 10 ∷ [] }

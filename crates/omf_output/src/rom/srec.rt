@@ -3,7 +3,7 @@
 ghost use Rattle.std.specs.Prelude.{◌≡◌, ◌+◌, ◌/◌, ◌%◌, ◌<◌, ◌≤◌, ◌++◌, ◌∷◌, [], List, ℕ, length, OnOk};
 ghost use Rattle.omf_frame.specs.Bytes.{AddsText};
 ghost use Rattle.omf_output.specs.Rom.Cut.{pieces};
-ghost use Rattle.omf_output.specs.Rom.Motorola.{complement, data_digit, end_digit, limit, record_line, s_lines, s_text};
+ghost use Rattle.omf_output.specs.Rom.Motorola.{complement, data_digit, end_digit, header_line, limit, record_line, runs_text, s_lines, s_text};
 ghost use Rattle.omf_output.specs.Rom.Runs.{AreBelow};
 ghost use Rattle.omf_output.specs.Rom.Spelled.{line};
 
@@ -15,7 +15,7 @@ use std::alloc::AllocError;
 /// How many bits the addresses of a file have.
 #[derive(Clone, Copy, Debug, PartialEq, Eq)]
 pub enum SAddress {
-    /// Records S1 and S9.
+    /// Records S1 and S9. The header record S0 is the same for all three.
     Bits16,
     /// Records S2 and S8.
     Bits24,
@@ -127,7 +127,31 @@ fn push_run(out: &mut Vec<u8>, width: SAddress, run: &Run<'_>) -> Result<(), All
     Ok(())
 }
 
+/// Appends the header record: S0 with the text `HDR`.
+fn push_header(out: &mut Vec<u8>) -> Result<(), AllocError>
+    ensures { AddsText result out.old.items out.new.items header_line }
+{
+    push_record(out, b'0', SAddress::Bits16, 0, b"HDR")
+}
+
 /// Appends runs as S-records, and a record with the start address.
+fn push_runs(
+    out: &mut Vec<u8>,
+    width: SAddress,
+    start: u32,
+    runs: &[Run<'_>],
+) -> Result<(), AllocError>
+    requires below { AreBelow (limit width) runs.now }
+    requires starts { start < limit width }
+    ensures { AddsText result out.old.items out.new.items (runs_text width start runs.now) }
+{
+    for run in runs {
+        push_run(out, width, run)?;
+    }
+    push_record(out, width.end_digit(), width, start, &[])
+}
+
+/// Appends a header record (S0), runs as S-records, and a record with the start address.
 ///
 /// # Errors
 ///
@@ -142,8 +166,6 @@ pub fn write_s_records(
     requires starts { start < limit width }
     ensures { AddsText result out.old.items out.new.items (s_text width start runs.now) }
 {
-    for run in runs {
-        push_run(out, width, run)?;
-    }
-    push_record(out, width.end_digit(), width, start, &[])
+    push_header(out)?;
+    push_runs(out, width, start, runs)
 }

@@ -1,7 +1,7 @@
 use Rattle.std.proofs.Common.{◌≡◌, ◌++◌, drop}
 use Rattle.omf_output.specs.Rom.Cut.{pieces_of}
 use Rattle.omf_output.specs.Rom.Motorola.{s_lines}
-use Rattle.omf_output.proofs.rom.srec.write_s_records.Given as goal
+use Rattle.omf_output.proofs.rom.srec.push_runs.Given as goal
 
 -- the pieces of the runs that are left are still to be written
 abbrev pub invariant-loop-run : goal.invariant-loop-run
