@@ -1,5 +1,5 @@
 -- The modules of a program, one after another; and as many placements and movers as modules.
-use Rattle.std.proofs.Common.{◌≡◌, ℕ, zero, suc, ◌+◌, ◌<◌, ◌≤◌, ◌∙◌, List, [], ◌∷◌, ◌++◌, length, drop, get_or, refl, sym, ap, arith, append-nil, append_assoc, true, false, inl, inr}
+use Rattle.std.proofs.Common.{◌≡◌, ℕ, zero, suc, ◌+◌, ◌<◌, ◌≤◌, ◌∙◌, List, [], ◌∷◌, ◌++◌, length, drop, get_or, refl, sym, ap, arith, append-nil, append_assoc, inl, inr}
 use Rattle.std.proofs.Math.Seq.{drop-nil}
 use Rattle.std.specs.Prelude.{◌⊎◌, zip, Some, Ok, Err, IsOk}
 use Rattle.std.specs.List.{AllZip}
@@ -15,12 +15,9 @@ use Rattle.omf_placement.specs.Derivation.{IsPlaceOf, KeepsPlace}
 use Rattle.omf_placement.specs.Derive.{PlacedModule, placed_modules}
 use Rattle.omf_placement.specs.Inner.Derived.{derived}
 use Rattle.omf_placement.specs.Placement.{Places}
-use Rattle.omf_placement.specs.Weak.{with_weak}
 use Rattle.omf_placement.proofs.DeriveLaws.{derived-fit}
-use Rattle.omf_output.specs.Exe.Derived.{AreMovers, all_based, based, lows, movers_in}
 use Rattle.omf_output.specs.Exe.Members.{Member}
 use Rattle.omf_output.specs.Exe.Moved.{Movers}
-use Rattle.omf_output.proofs.DerivingLaws.{derived-many}
 use Rattle.omf_placement.proofs.ListLaws.{next-at}
 use Rattle.omf_linker.specs.Drafting.Fit.{FitsSoFar}
 use Rattle.omf_linker.specs.Exe.Program.{AreLaid, IsExternalFault, at_0, members_from, weak_of}
@@ -87,15 +84,8 @@ pub placements-many : (ms : List Module) (pls out : List Places) (given : List G
 placements-many ms pls out given e d =
     kept-many (placed_modules ms pls) out (derived-fit (placed_modules ms pls) given out d) ∙ zip-many (typed_modules ms) pls (e ∙ sym (typed-many ms)) ∙ typed-many ms
 
-pub movers-many : (ms : List Module) (placed : List PlacedModule) (given : List Given) (mvs : List Movers) → AreMovers (typed_modules ms) placed given mvs → length mvs ≡ length ms
-movers-many ms placed given mvs a =
-    let low = derived-many (based false (lows placed)) ms (with_weak (all_based false (typed_modules ms) placed) given) a.low a.at_0 in
-    let high = derived-many (based true (lows placed)) ms (with_weak (all_based true (typed_modules ms) placed) given) a.high a.higher in
-    ap length a.each ∙ length-map (zip (typed_modules ms) (zip a.low a.high)) (movers_in (lows placed))
-    ∙ zip-many (typed_modules ms) (zip a.low a.high) (zip-many a.low a.high (high ∙ sym low) ∙ low ∙ sym (typed-many ms)) ∙ typed-many ms
-
 -- The fault of a derivation at places where the modules are laid.
 pub placing-fault : (ms : List Module) (pls : List Places) (gs : List Given) (f : DeriveFault) → AreLaid ms pls → gs ≡ weak_of ms pls
     → ((f ≡ fault.Memory) × IsOk (derived (placed_modules ms pls) gs)) ⊎ (derived (placed_modules ms pls) gs ≡ Err f) → IsExternalFault ms f
-placing-fault ms pls gs f l g (inl h) = record { places = pls; laid = l; fault = inr (inl h.0) }
-placing-fault ms pls gs f l g (inr e) = record { places = pls; laid = l; fault = inl (ap (λ (xs : List Given). derived (placed_modules ms pls) xs) (sym g) ∙ e) }
+placing-fault ms pls gs f l g (inl h) = record { places = pls; laid = l; fault = inl h.0 }
+placing-fault ms pls gs f l g (inr e) = record { places = pls; laid = l; fault = inr (ap (λ (xs : List Given). derived (placed_modules ms pls) xs) (sym g) ∙ e) }

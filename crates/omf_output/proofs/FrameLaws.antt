@@ -101,11 +101,11 @@ pub fill-empty : (m n : Map) (all : List GroupFrame) → m.entries ≡ [] → Ha
 fill-empty m n all e g = g [] (λ q. ap (lookup (is_at (key_cmp q))) e)
 
 -- The result of a lookup.
-pub looked-none : (o : Option (Bor ℕ)) → is_some o ≡ false → option_copied o ≡ None
+pub looked-none : {A : Type 0} (o : Option (Bor A)) → is_some o ≡ false → option_copied o ≡ None
 looked-none None e = refl
 looked-none (Some x) e = absurd (true≢false e)
 
-pub looked-some : (o : Option (Bor ℕ)) → is_some o ≡ true → (p : ℕ) × (option_copied o ≡ Some p)
+pub looked-some : {A : Type 0} (o : Option (Bor A)) → is_some o ≡ true → (p : A) × (option_copied o ≡ Some p)
 looked-some None e = absurd (false≢true e)
 looked-some (Some x) e = (x.now, refl)
 

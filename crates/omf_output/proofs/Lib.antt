@@ -42,4 +42,6 @@ pub mod ApartLaws
 pub mod LowLaws
 mod FrameLaws
 pub mod DerivingLaws
+pub mod DefaultLaws
+pub mod ReferredLaws
 pub mod ComLaws

@@ -6,3 +6,4 @@ pub mod GroupFrames
 pub mod Rooms
 pub mod Plans
 pub mod Walked
+pub mod Referred

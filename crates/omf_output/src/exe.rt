@@ -14,6 +14,7 @@ mod member;
 mod movement;
 mod movers;
 mod moving;
+mod referred;
 mod room;
 pub mod rows;
 mod starting;

@@ -2,6 +2,7 @@
 use Rattle.std.specs.Prelude.{◌≡◌, ◌⊎◌, ⊤, ℕ, ◌+◌, ◌≤◌, List, [], ◌∷◌, Bool, Option, Some, None, Ok, Err, is_some, length}
 use Rattle.omf_check.specs.Module.{Module, typed_modules}
 use Rattle.omf_placement.specs.declared.several.fault.DeriveFault.{DeriveFault}
+use Rattle.omf_placement.specs.declared.several.fault.DeriveFault.TheVariants as no_external
 use Rattle.omf_placement.specs.declared.several.given.Given.{Given}
 use Rattle.omf_placement.specs.Derive.{placed_modules}
 -- computed: derived_is_taken of omf_placement.
@@ -15,7 +16,7 @@ use Rattle.omf_layout.specs.Several.Placing.{arranged_places}
 use Rattle.omf_output.specs.declared.exe.com_fault.ComFault.{ComFault}
 use Rattle.omf_output.specs.declared.exe.fault.ExeFault.{ExeFault}
 use Rattle.omf_output.specs.Exe.Com.{IsComFault, after_prefix, com_bytes, com_fault, com_loaded, stack_bytes}
-use Rattle.omf_output.specs.Exe.Derived.{AreMovers, IsMoversFault}
+use Rattle.omf_output.specs.Exe.Derived.{AreMovers}
 use Rattle.omf_output.specs.Exe.Exe.{exe}
 use Rattle.omf_output.specs.Exe.Linked.{IsExeFault, exe_fault, linked, linked_at}
 use Rattle.omf_output.specs.Exe.Loading.{loaded}
@@ -24,6 +25,7 @@ use Rattle.omf_output.specs.Exe.Moved.{Movers}
 use Rattle.omf_linker.specs.Map.Addresses.{addressed}
 use Rattle.omf_linker.specs.Map.MapText.{map_text}
 use Rattle.omf_linker.specs.declared.exe.fault.ComProgramFault.{ComProgramFault}
+use Rattle.omf_linker.specs.declared.exe.input.Origin.{Origin}
 use Rattle.omf_linker.specs.declared.exe.fault.ComProgramFault.TheVariants as no_com
 use Rattle.omf_linker.specs.declared.exe.fault.PlacingFault.{PlacingFault}
 use Rattle.omf_linker.specs.declared.exe.fault.PlacingFault.TheVariants as no_place
@@ -36,9 +38,10 @@ use Rattle.omf_linker.specs.declared.seen.wide.FarMember.{FarMember}
 use Rattle.omf_linker.specs.declared.exe.fault.ProgramFault.{ProgramFault}
 use Rattle.omf_linker.specs.declared.exe.fault.ProgramFault.TheVariants as fault
 
--- The modules of a program.
+-- The modules of a program, and the origin of each; one that the linker added has none.
 pub record ProgramModules : Type 0 where
   pub modules : List Module
+  pub from : List (Option Origin)
 
 -- Real mode, from address 0 on.
 abbrev pub at_0 : Options
@@ -67,7 +70,7 @@ pub record AreMade (ms : List Module) (members : List Member) : Type 0 where
   pub movers : List Movers
   pub laid : AreLaid ms places
   pub derived : derived (placed_modules ms places) (weak_of ms places) ≡ Ok placements
-  pub moving : AreMovers (typed_modules ms) (placed_modules ms places) [] movers
+  pub moving : AreMovers (typed_modules ms) (placed_modules ms places) movers
   pub numbered : members ≡ members_from 0 ms placements movers
 
 -- The bytes of the program, and whether it has a stack. What DOS loads at paragraph k, for every k, is what these modules are at their placements moved
@@ -112,7 +115,7 @@ pub record IsMapOf (ms : List Module) (text : List ℕ) : Type 0 where
 pub record IsExternalFault (ms : List Module) (f : DeriveFault) : Type 0 where
   pub places : List Places
   pub laid : AreLaid ms places
-  pub fault : (derived (placed_modules ms places) (weak_of ms places) ≡ Err f) ⊎ IsMoversFault (typed_modules ms) (placed_modules ms places) [] f
+  pub fault : (f ≡ no_external.Memory) ⊎ (derived (placed_modules ms places) (weak_of ms places) ≡ Err f)
 
 pub record IsMemberFault (ms : List Module) (f : ExeFault) : Type 0 where
   pub members : List Member

@@ -55,12 +55,12 @@ fn settle(
     requires linked { IsLinkage (typed_modules modules.now) linkage.now }
     requires laid { AreLaid modules.now places.items }
     ensures derived { IfOk result (λ s. derived (placed_modules modules.now places.items) (weak_of modules.now places.items) ≡ Ok s.placements.items) }
-    ensures moving { IfOk result (λ s. AreMovers (typed_modules modules.now) (placed_modules modules.now places.items) [] s.movers.items) }
+    ensures moving { IfOk result (λ s. AreMovers (typed_modules modules.now) (placed_modules modules.now places.items) s.movers.items) }
     ensures fault { IfErr result (IsExternalFault modules.now) }
 {
     let given = with_weak_linked(alloc, linkage, modules, &places, &[])?;
     let placements = derive_linked(alloc, linkage, modules, places, &given)?;
-    let movers = movers_of(alloc, linkage, modules, &placements, &[])?;
+    let movers = movers_of(alloc, linkage, modules, &placements)?;
     Ok(Settled { placements, movers })
 }
 

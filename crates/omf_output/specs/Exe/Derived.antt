@@ -1,24 +1,20 @@
 -- What moves of modules that are laid out together and whose externals are derived (this profile's rule).
-use Rattle.std.specs.Prelude.{◌≡◌, ◌⊎◌, ℕ, List, [], map, flat_map, filter_map, length, not, zip, Bool, true, false, Option, Some, None, option_and_then, option_map, unwrap_or, Ok, Err, bytes_eq, ◌==◌, ◌&&◌, ◌++◌, Result, if◌then◌else◌}
-use Rattle.std.specs.List.{range_with_len}
+use Rattle.std.specs.Prelude.{◌≡◌, ℕ, List, [], ◌∷◌, map, flat_map, filter_map, zip, Bool, true, false, Option, Some, None, option_and_then, option_map, slice_get, unwrap_or, bytes_eq, ◌==◌, ◌++◌, if◌then◌else◌}
+use Rattle.std.specs.List.{enumerate_from}
 use Rattle.std.specs.BTreeMap.{BTreeMap, get_by}
 use denote.Ref.{Bor}
 use Rattle.omf_names.specs.Names.{name_cmp}
-use Rattle.omf_records.specs.Values.{GroupItem, Rec}
+use Rattle.omf_frame.specs.Types.{is_local}
+use Rattle.omf_records.specs.Values.{Contents, GroupItem, Publics, Rec}
 use Rattle.omf_check.specs.Tables.{entry, groups, names}
-use Rattle.omf_placement.specs.declared.frame.Frame.{Frame}
 use Rattle.omf_placement.specs.declared.frame.Placed.{Placed}
-use Rattle.omf_placement.specs.declared.several.fault.DeriveFault.{DeriveFault}
-use Rattle.omf_placement.specs.declared.several.fault.DeriveFault.TheVariants as fault
-use Rattle.omf_placement.specs.declared.several.given.Given.{Given}
-use Rattle.omf_placement.specs.Derive.{PlacedModule}
--- computed: derived_is_taken of omf_placement.
-use Rattle.omf_placement.specs.Inner.Derived.{derived}
-use Rattle.omf_placement.specs.Placement.{Places, lowest, members_placed}
-use Rattle.omf_placement.specs.Weak.{with_weak}
+use Rattle.omf_placement.specs.declared.several.pairs.WeakPair.{WeakPair}
+use Rattle.omf_placement.specs.Derive.{PlacedModule, named_externals}
+use Rattle.omf_placement.specs.Placement.{lowest, members_placed}
+use Rattle.omf_placement.specs.Weak.{weak_pairs}
 use Rattle.omf_output.specs.declared.exe.movers.Moving.{Moving}
 use Rattle.omf_output.specs.Exe.Based.{segments_moving}
-use Rattle.omf_output.specs.Exe.Moved.{Movers, both}
+use Rattle.omf_output.specs.Exe.Moved.{Movers, both, moves}
 
 -- ---- groups: the groups of one name, over all modules, are one, and move exactly if the member with the lowest frame does
 
@@ -70,73 +66,87 @@ IsLowTable m ls = (name : List ℕ) → get_by (λ k. name_cmp name k.now) m ≡
 abbrev pub HasMore : BTreeMap (Bor (List ℕ)) Placed → BTreeMap (Bor (List ℕ)) Placed → List Named → Type 0
 HasMore m n more = (ls : List Named) → IsLowTable m ls → IsLowTable n (ls ++ more)
 
--- ---- externals: an external moves as the base of the public that it has its place of
+-- ---- externals: an external moves as the base of the only public that it refers to
 
--- A place at address 0, and 16 bytes higher.
-abbrev pub frame_if : Bool → Frame
-frame_if b = if b then record { base = 16; selector = 1 } else record { base = 0; selector = 0 }
+-- A module, and what moves of its segments and groups.
+abbrev pub BasedModule : Type 0
+BasedModule = List Rec × Movers
 
-abbrev pub place_if : Bool → Placed
-place_if b = record { address = if b then 16 else 0; frame = frame_if b }
-
-abbrev pub place_at : Bool → Bool → Placed
-place_at up b = place_if (up && b)
-
-abbrev pub frame_at : Bool → Bool → Frame
-frame_at up b = frame_if (up && b)
-
--- What moves of a module, without its externals.
 abbrev pub bases_in : List Named → List Rec → Movers
 bases_in ls m = record { segments = segments_moving m; groups = names_moving ls m; externals = [] }
 
--- The places of a module whose segments and groups are all at address 0; and the same where those that move are 16 bytes higher.
-abbrev pub based_by : Bool → Movers → Places
-based_by up mv = record { segments = map (place_at up) mv.segments; groups = map (frame_at up) mv.groups; externals = [] }
+abbrev pub with_bases : List Named → List (List Rec) → List BasedModule
+with_bases ls ms = map (λ m. (m, bases_in ls m)) ms
 
-abbrev pub based : Bool → List Named → List Rec → Places
-based up ls m = based_by up (bases_in ls m)
+-- A public: its name, and how it moves.
+pub record MovingPublic : Type 0 where
+  pub name : List ℕ
+  pub moving : Moving
 
--- How a place moves, by its two places where the bases are at 0 and where those that move are higher: its address and its frame move if they differ.
-abbrev pub moving_between : Placed → Placed → Moving
-moving_between p q = record { address = not (p.address == q.address); frame = not (p.frame.base == q.frame.base) }
+-- How the publics of a PUBDEF move, by the indices of its group and its segment: the address as the segment; the frame as the group, or without one as the
+-- segment. Without a segment the address is over a base frame, and stays (TIS OMF 1.1, "PUBDEF").
+abbrev pub base_moving : Movers → ℕ → ℕ → Moving
+base_moving mv group segment = record { address = moves mv.segments segment; frame = if group == 0 then moves mv.segments segment else moves mv.groups group }
 
-abbrev pub if_placed : Option Placed → Option Placed → Moving
-if_placed None q = both false
-if_placed (Some p) None = both false
-if_placed (Some p) (Some q) = moving_between p q
+abbrev pub public_moving : List ℕ → Moving → MovingPublic
+public_moving name moving = record { name = name; moving = moving }
 
-abbrev pub external_moving : Places → Places → ℕ → Moving
-external_moving low high i = if_placed (entry low.externals i) (entry high.externals i)
+abbrev pub moving_publics : Movers → Contents → List MovingPublic
+moving_publics mv (Publics p) = map (λ q. public_moving q.item.name (base_moving mv p.group.item p.segment.item)) p.items
+moving_publics mv _ = []
 
-abbrev pub externals_moving : Places × Places → List Moving
-externals_moving x = map (external_moving x.0 x.1) (range_with_len 1 (length x.0.externals))
+-- The local publics of a record, or its other publics; those of a module; and those that an external of a module can refer to, which are those that
+-- `seen_publics` has with their places.
+abbrev pub moving_in_record : Bool → Movers → ℕ → Contents → List MovingPublic
+moving_in_record true mv kind c = if is_local kind then moving_publics mv c else []
+moving_in_record false mv kind c = if is_local kind then [] else moving_publics mv c
+
+abbrev pub moving_in_module : Bool → BasedModule → List MovingPublic
+moving_in_module local m = flat_map (λ r. moving_in_record local m.1 r.kind r.contents) m.0
+
+abbrev pub seen_moving : List BasedModule → BasedModule → Bool → List MovingPublic
+seen_moving ms m local = if local then moving_in_module true m else flat_map (moving_in_module false) ms
+
+-- How the publics move that each external of a module refers to: all those of its name.
+abbrev pub moving_of_name : List ℕ → MovingPublic → Option Moving
+moving_of_name name p = if bytes_eq name p.name then Some p.moving else None
+
+abbrev pub referred : List BasedModule → BasedModule → List (List Moving)
+referred ms m = map (λ e. filter_map (moving_of_name e.0) (seen_moving ms m e.1)) (named_externals m.0)
+
+-- The only one.
+abbrev pub only : List Moving → Option Moving
+only [] = None
+only (b ∷ []) = Some b
+only (b ∷ c ∷ bs) = None
+
+-- How the default of external i moves: that of the first pair for i whose default refers to a single public.
+abbrev pub default_in : (ℕ → Option Moving) → ℕ → WeakPair → Option Moving
+default_in single i p = if p.weak == i then single p.substitute else None
+
+abbrev pub default_moving : (ℕ → Option Moving) → List WeakPair → ℕ → Option Moving
+default_moving single pairs i = slice_get (filter_map (default_in single i) pairs) 0
+
+abbrev pub single_of : List (List Moving) → ℕ → Option Moving
+single_of refs i = option_and_then only (entry refs i)
+
+-- How an external moves: as the only public that it refers to; one that refers to none, as its default. Any other has no place, and does not move.
+abbrev pub external_moving : Option Moving → List Moving → Moving
+external_moving default [] = unwrap_or default (both false)
+external_moving default (b ∷ []) = b
+external_moving default (b ∷ c ∷ bs) = both false
+
+abbrev pub externals_moving : List (List Moving) → List WeakPair → List Moving
+externals_moving refs pairs = map (λ x. external_moving (default_moving (single_of refs) pairs x.0) x.1) (enumerate_from 1 refs)
 
 -- ---- all that moves
 
-abbrev pub completed : Movers × (Places × Places) → Movers
-completed x = record x.0 { externals = externals_moving x.1 }
+abbrev pub movers_in : List BasedModule → BasedModule → Movers
+movers_in ms m = record m.1 { externals = externals_moving (referred ms m) (weak_pairs m.0) }
 
-abbrev pub movers_in : List Named → List Rec × (Places × Places) → Movers
-movers_in ls x = completed (bases_in ls x.0, x.1)
+abbrev pub all_movers : List BasedModule → List Movers
+all_movers ms = map (movers_in ms) ms
 
-abbrev pub all_movers : List Named → List (List Rec) → List Places → List Places → List Movers
-all_movers ls ms low high = map (movers_in ls) (zip ms (zip low high))
-
--- The placements that are derived at such bases, where weak externals without a public have the places of their defaults.
-abbrev pub all_based : Bool → List (List Rec) → List PlacedModule → List PlacedModule
-all_based up ms placed = zip ms (map (based up (lows placed)) ms)
-
-abbrev pub derived_at : Bool → List (List Rec) → List PlacedModule → List Given → Result (List Places) DeriveFault
-derived_at up ms placed given = derived (all_based up ms placed) (with_weak (all_based up ms placed) given)
-
--- What moves of modules at their places, where these places are given to externals by hand: those do not move.
-pub record AreMovers (ms : List (List Rec)) (placed : List PlacedModule) (given : List Given) (movers : List Movers) : Type 0 where
-  pub low : List Places
-  pub high : List Places
-  pub at_0 : derived_at false ms placed given ≡ Ok low
-  pub higher : derived_at true ms placed given ≡ Ok high
-  pub each : movers ≡ all_movers (lows placed) ms low high
-
--- The externals of modules have no places; or memory ran out.
-abbrev pub IsMoversFault : List (List Rec) → List PlacedModule → List Given → DeriveFault → Type 0
-IsMoversFault ms placed given f = (f ≡ fault.Memory) ⊎ ((derived_at false ms placed given ≡ Err f) ⊎ (derived_at true ms placed given ≡ Err f))
+-- What moves of modules at their places, of which the segments count.
+abbrev pub AreMovers : List (List Rec) → List PlacedModule → List Movers → Type 0
+AreMovers ms placed movers = movers ≡ all_movers (with_bases (lows placed) ms)

@@ -1,82 +1,19 @@
 //! What moves of modules that are laid out together and whose externals are derived.
 
-ghost use Rattle.std.specs.Prelude.{◌≡◌, ◌<◌, ◌^◌, List, IfOk, IfErr, length, map, zip};
+ghost use Rattle.std.specs.Prelude.{◌≡◌, List, IfOk, length, map, zip};
+ghost use Rattle.std.specs.List.{enumerate_from};
 ghost use Rattle.omf_check.specs.Module.{recs_of, typed_modules};
 ghost use Rattle.omf_placement.specs.Derive.{placed_modules};
 ghost use Rattle.omf_placement.specs.Inner.Linkage.{IsLinkage};
-ghost use Rattle.omf_output.specs.Exe.Derived.{AreMovers, IsLowTable, IsMoversFault, Named, based_by, bases_in, completed, external_moving, externals_moving, frame_at, frame_if, moving_between, place_at, place_if};
+ghost use Rattle.omf_output.specs.Exe.Derived.{AreMovers, IsLowTable, Named, bases_in};
+ghost use Rattle.omf_output.specs.Inner.Referred.{completed, linked_externals};
 
 use crate::exe::groups::{LowTable, segments_moving};
 use crate::exe::movers::{Movers, Moving};
+use crate::exe::referred::DefaultTable;
 use omf_check::Checked;
-use omf_placement::{
-    DeriveFault, Frame, Given, Linkage, Placed, Placement, derive_linked, with_weak_linked,
-};
+use omf_placement::{Linkage, Placement};
 use std::alloc::{AllocError, Global};
-
-/// The frame at address 0, or 16 bytes higher.
-fn frame_if(up: bool) -> Frame
-    ensures { result ≡ frame_if up }
-{
-    if up {
-        Frame {
-            base: 16,
-            selector: 1,
-        }
-    } else {
-        Frame {
-            base: 0,
-            selector: 0,
-        }
-    }
-}
-
-/// The place at address 0, or 16 bytes higher.
-fn place_if(up: bool) -> Placed
-    ensures { result ≡ place_if up }
-{
-    let address = if up { 16 } else { 0 };
-    Placed {
-        address,
-        frame: frame_if(up),
-    }
-}
-
-/// The place at address 0, or 16 bytes higher if both flags are set.
-fn place_of(up: bool, moves: bool) -> Placed
-    ensures { result ≡ place_at up moves }
-{
-    if up { place_if(moves) } else { place_if(false) }
-}
-
-/// The frame of such a place.
-fn frame_of(up: bool, moves: bool) -> Frame
-    ensures { result ≡ frame_at up moves }
-{
-    if up { frame_if(moves) } else { frame_if(false) }
-}
-
-/// Places at address 0; if `up` is set, those of what moves are 16 bytes higher.
-fn places_of(alloc: Global, up: bool, moving: &[bool]) -> Result<Vec<Placed>, AllocError>
-    ensures { IfOk result (λ v. v.items ≡ map (place_at up) moving.now) }
-{
-    let mut places = Vec::with_capacity(alloc, moving.len())?;
-    for moves in moving {
-        places.push(place_of(up, *moves))?;
-    }
-    Ok(places)
-}
-
-/// Frames at address 0; if `up` is set, those of what moves are 16 bytes higher.
-fn frames_of(alloc: Global, up: bool, moving: &[bool]) -> Result<Vec<Frame>, AllocError>
-    ensures { IfOk result (λ v. v.items ≡ map (frame_at up) moving.now) }
-{
-    let mut frames = Vec::with_capacity(alloc, moving.len())?;
-    for moves in moving {
-        frames.push(frame_of(up, *moves))?;
-    }
-    Ok(frames)
-}
 
 /// What moves of a module, without its externals.
 fn bases_of<'a>(
@@ -106,118 +43,87 @@ fn all_bases<'a>(
     Ok(bases)
 }
 
-/// The places of a module whose segments and groups are at address 0; if `up` is set, those that move are 16 bytes higher.
-fn based(alloc: Global, up: bool, bases: &Movers) -> Result<Placement, AllocError>
-    ensures { IfOk result (λ p. p ≡ based_by up bases.now) }
-{
-    let segments = places_of(alloc, up, bases.segments())?;
-    let groups = frames_of(alloc, up, bases.groups())?;
-    Ok(Placement::of(segments, groups, Vec::new(alloc)))
-}
-
-/// These places of all modules.
-fn all_based(alloc: Global, up: bool, bases: &[Movers]) -> Result<Vec<Placement>, AllocError>
-    ensures { IfOk result (λ v. v.items ≡ map (based_by up) bases.now) }
-{
-    let mut placements = Vec::with_capacity(alloc, bases.len())?;
-    for of_module in bases {
-        placements.push(based(alloc, up, of_module)?)?;
-    }
-    Ok(placements)
-}
-
-/// How a place moves, by its two places.
-fn moving_between(low: &Placed, high: &Placed) -> Moving
-    ensures { result ≡ moving_between low.now high.now }
-{
-    Moving {
-        address: low.address != high.address,
-        frame: low.frame.base != high.frame.base,
-    }
-}
-
-/// How an external moves, by its places in two placements.
-fn external_moving(low: &Placement, high: &Placement, i: usize) -> Moving
-    ensures { result ≡ external_moving low.now high.now i }
-{
-    let Some(low) = low.external(i) else {
-        return Moving::both(false);
-    };
-    match high.external(i) {
-        Some(high) => moving_between(&low, &high),
-        None => Moving::both(false),
-    }
-}
-
-/// How the externals of a module move, by its two placements.
-fn externals_moving(
+/// How the externals of the module with this number move, by what moves of the segments and groups of all modules.
+fn externals_of(
     alloc: Global,
-    low: &Placement,
-    high: &Placement,
+    bases: &[Movers],
+    linkage: &Linkage,
+    module: &Checked,
+    number: usize,
 ) -> Result<Vec<Moving>, AllocError>
-    ensures { IfOk result (λ v. v.items ≡ externals_moving (low.now, high.now)) }
+    ensures { IfOk result (λ v. v.items ≡ linked_externals bases.now linkage.now.links (number, recs_of «module».now.bytes)) }
 {
-    let mut moving = Vec::with_capacity(alloc, low.external_count())?;
-    for before in 0..low.external_count() {
-        moving.push(external_moving(low, high, before + 1))?;
+    let defaults = DefaultTable::of(alloc, bases, linkage, module, number)?;
+    let mut moving = Vec::with_capacity(alloc, usize::from(module.externals()))?;
+    for before in 0..module.externals() {
+        let external = before + 1;
+        let definer = linkage.definer(number, external);
+        moving.push(defaults.moving_of(bases, definer, external))?;
     }
     Ok(moving)
 }
 
-/// What moves of all modules, by their two placements.
-fn all_movers(
+/// How the externals of all modules move.
+fn all_externals(
+    alloc: Global,
+    bases: &[Movers],
+    linkage: &Linkage,
+    modules: &[Checked],
+) -> Result<Vec<Vec<Moving>>, AllocError>
+    ensures { IfOk result (λ v. map (λ e. e.items) v.items ≡ map (linked_externals bases.now linkage.now.links) (enumerate_from 0 (typed_modules modules.now))) }
+{
+    let mut all = Vec::with_capacity(alloc, modules.len())?;
+    for (j, module) in modules.iter().enumerate() {
+        all.push(externals_of(alloc, bases, linkage, module, j)?)?;
+    }
+    Ok(all)
+}
+
+/// What moves of all modules, with their externals.
+fn with_externals(
     alloc: Global,
     bases: Vec<Movers>,
-    low: &[Placement],
-    high: &[Placement],
+    externals: Vec<Vec<Moving>>,
 ) -> Result<Vec<Movers>, AllocError>
-    requires low { length low.now ≡ length bases.items }
-    requires high { length high.now ≡ length bases.items }
-    ensures { IfOk result (λ v. v.items ≡ map completed (zip bases.items (zip low.now high.now))) }
+    requires { length externals.items ≡ length bases.items }
+    ensures { IfOk result (λ v. v.items ≡ map completed (zip bases.items (map (λ e. e.items) externals.items))) }
 {
     let mut movers = Vec::with_capacity(alloc, bases.len())?;
-    let mut j = 0;
+    let mut left = externals.into_iter();
     for of_module in bases {
-        let externals = externals_moving(alloc, &low[j], &high[j])?;
-        movers.push(of_module.with_externals(externals))?;
-        j += 1;
+        let Some(own) = left.next() else {
+            unreachable!()
+        };
+        movers.push(of_module.with_externals(own))?;
     }
     Ok(movers)
 }
 
-/// What moves of modules that are laid out together, each with its place in `places`, and whose externals are derived with these places given
-/// by hand:
+/// What moves of modules that are laid out together, each with its place in `places`, and whose externals are derived:
 ///
 /// - a segment, unless it is absolute;
 /// - a group, if of the members of the groups of its name, over all modules, the one with the lowest frame moves;
-/// - an external as the base of the public whose place it has: its address as the segment does, its frame as the group does, or the segment
-///   if there is no group. One with a place given by hand does not move; a weak one without a public moves as its default does.
+/// - an external as the only public that it refers to: its address as the segment of the public does, and its frame as the group does, or
+///   the segment if there is no group (TIS OMF 1.1, "PUBDEF"). A weak one that refers to no public moves as its default: that of the first
+///   pair for it whose default refers to a single public. Any other does not move: it has no place.
 ///
-/// There must be one of `places` for each module, and fewer than 2^32 modules; `linkage` is that of the modules.
+/// There must be one of `places` for each module; `linkage` is that of the modules.
 ///
 /// # Errors
 ///
-/// Those of `derive` with the segments and groups at address 0, or 16 bytes higher; `Memory` if memory runs out.
+/// `AllocError` if memory runs out.
 pub fn movers_of(
     alloc: Global,
     linkage: &Linkage,
     modules: &[Checked],
     places: &[Placement],
-    given: &[Given],
-) -> Result<Vec<Movers>, DeriveFault>
-    requires few { length modules.now < 2 ^ 32 }
+) -> Result<Vec<Movers>, AllocError>
     requires linked { IsLinkage (typed_modules modules.now) linkage.now }
     requires placed { length places.now ≡ length modules.now }
-    ensures movers { IfOk result (λ v. AreMovers (typed_modules modules.now) (placed_modules modules.now places.now) given.now v.items) }
-    ensures fault { IfErr result (IsMoversFault (typed_modules modules.now) (placed_modules modules.now places.now) given.now) }
+    ensures { IfOk result (λ v. AreMovers (typed_modules modules.now) (placed_modules modules.now places.now) v.items) }
 {
     let table = LowTable::of(alloc, modules, places)?;
     let bases = all_bases(alloc, &table, modules)?;
-    let at_0 = all_based(alloc, false, &bases)?;
-    let low_given = with_weak_linked(alloc, linkage, modules, &at_0, given)?;
-    let low = derive_linked(alloc, linkage, modules, at_0, &low_given)?;
-    let higher = all_based(alloc, true, &bases)?;
-    let high_given = with_weak_linked(alloc, linkage, modules, &higher, given)?;
-    let high = derive_linked(alloc, linkage, modules, higher, &high_given)?;
-    Ok(all_movers(alloc, bases, &low, &high)?)
+    let externals = all_externals(alloc, &bases, linkage, modules)?;
+    with_externals(alloc, bases, externals)
 }

@@ -102,20 +102,6 @@ impl Movers {
         }
     }
 
-    /// Whether each segment moves.
-    pub fn segments(&self) -> &[bool]
-        ensures { result.now ≡ self.now.segments }
-    {
-        &self.segments
-    }
-
-    /// Whether each group moves.
-    pub fn groups(&self) -> &[bool]
-        ensures { result.now ≡ self.now.groups }
-    {
-        &self.groups
-    }
-
     /// Adds whether the next segment moves.
     ///
     /// # Errors
@@ -160,6 +146,13 @@ impl Movers {
         ensures { result ≡ moves self.now.segments i }
     {
         entry_of(&self.segments, i).unwrap_or(false)
+    }
+
+    /// Whether the group with index `i`, from 1, moves; one without an entry does not.
+    pub fn group_moves(&self, i: usize) -> bool
+        ensures { result ≡ moves self.now.groups i }
+    {
+        entry_of(&self.groups, i).unwrap_or(false)
     }
 
     /// How the entry of a target moves.

@@ -107,10 +107,10 @@ fn main_start_moves(movers: &Movers, type_byte: u8, start: &Option<PlainReferenc
 }
 
 /// Whether data of a segment move: if the segment does, or if there are none.
-fn data_moves(movers: &Movers, segment: u16, data: &[u8]) -> bool
-    ensures { result ≡ (if has_any data.now then moves movers.now.segments segment else true) }
+fn data_moves(movers: &Movers, segment: u16, bytes: &[u8]) -> bool
+    ensures { result ≡ (if has_any bytes.now then moves movers.now.segments segment else true) }
 {
-    if data.len() > 0 {
+    if bytes.len() > 0 {
         movers.segment_moves(usize::from(segment))
     } else {
         true

@@ -1,7 +1,8 @@
-use Rattle.std.proofs.Common.{[], refl}
+use Rattle.std.proofs.Common.{refl}
 use Rattle.omf_placement.specs.Derive.{placed_modules}
 use Rattle.omf_linker.specs.Exe.Program.{weak_of}
-use Rattle.omf_linker.proofs.ExeLaws.{laid-many, movers-many, placements-many}
+use Rattle.omf_output.proofs.DerivingLaws.{movers-many}
+use Rattle.omf_linker.proofs.ExeLaws.{laid-many, placements-many}
 use Rattle.omf_linker.proofs.exe.making.place_and_settle.Goals as goal
 
 pub returns-in-Ok-clause-placed : goal.returns-in-Ok-clause-placed
@@ -13,7 +14,7 @@ returns-in-Ok-clause-placed c =
 pub returns-in-Ok-clause-moved : goal.returns-in-Ok-clause-moved
 returns-in-Ok-clause-moved c =
     let ms = c.args.modules.now in
-    movers-many ms (placed_modules ms c.in_ok-places.places.items) [] c.in-Ok.settled.movers.items c.in-Ok.ensures.moving
+    movers-many ms (placed_modules ms c.in_ok-places.places.items) c.in-Ok.settled.movers.items c.in-Ok.ensures.moving
 
 pub returns-in-Ok-clause-made : goal.returns-in-Ok-clause-made
 returns-in-Ok-clause-made c = record {

@@ -1,5 +1,5 @@
 use Rattle.std.proofs.lemmas.Result.{err_from_is_err_and}
-use Rattle.std.proofs.Common.{◌∙◌, ◌≡◌, [], List, ap, length, subst, sym, inr}
+use Rattle.std.proofs.Common.{◌∙◌, ◌≡◌, List, ap, length, subst, sym}
 use Rattle.std.specs.List.{AllZip}
 use Rattle.omf_check.specs.Module.{typed_modules}
 use Rattle.omf_placement.specs.Derivation.{KeepsPlace}
@@ -8,9 +8,9 @@ use Rattle.omf_placement.specs.Placement.{Places}
 use Rattle.omf_placement.specs.Inner.Derived.{derived}
 use Rattle.omf_placement.specs.declared.several.given.Given.{Given}
 use Rattle.omf_placement.proofs.DeriveLaws.{derived-fit}
-use Rattle.omf_output.specs.Exe.Derived.{AreMovers, IsMoversFault}
-use Rattle.omf_output.proofs.DerivingLaws.{same-movers, same-fault}
-use Rattle.omf_linker.specs.Exe.Program.{IsExternalFault, weak_of}
+use Rattle.omf_output.specs.Exe.Derived.{AreMovers}
+use Rattle.omf_output.proofs.DerivingLaws.{same-movers}
+use Rattle.omf_linker.specs.Exe.Program.{weak_of}
 use Rattle.omf_linker.proofs.ExeLaws.{are-places, laid-many, placements-many, placing-fault}
 use Rattle.omf_linker.proofs.exe.making.settle.Goals as goal
 
@@ -38,7 +38,7 @@ returns-clause-moving c =
     let pls = c.args.places.items in
     let out = c.in_ok-placements.placements.items in
     let kept : AllZip KeepsPlace (placed_modules ms pls) out = derived-fit (placed_modules ms pls) c.deref-2.result.now out c.in_ok-placements.ensures in
-    same-movers (typed_modules ms) pls out [] kept c.in_ok-movers.movers.items (subst (λ (xs : List Places). AreMovers (typed_modules ms) (placed_modules ms xs) [] c.in_ok-movers.movers.items) c.deref-3.ensures.value c.in_ok-movers.ensures.movers)
+    same-movers (typed_modules ms) pls out kept c.in_ok-movers.movers.items (subst (λ (xs : List Places). AreMovers (typed_modules ms) (placed_modules ms xs) c.in_ok-movers.movers.items) c.deref-3.ensures.value c.in_ok-movers.ensures)
 
 pub returns-in_err-placements-clause-fault : goal.returns-in_err-placements-clause-fault
 returns-in_err-placements-clause-fault c =
@@ -47,15 +47,3 @@ returns-in_err-placements-clause-fault c =
     let given : c.deref-2.result.now ≡ weak_of ms pls = c.deref-2.ensures.value ∙ c.in_ok-given.ensures ∙ ap (λ (xs : List Places). weak_of ms xs) c.deref.ensures.value in
     let e = err_from_is_err_and c.from_residual-in_err-placements.result c.from_residual-in_err-placements.ensures.1 in
     rw (e.1, e.2) (placing-fault ms pls c.deref-2.result.now c.in_err-placements.field-0.0 c.requires.laid given c.in_err-placements.ensures)
-
-pub returns-in_err-movers-clause-fault : goal.returns-in_err-movers-clause-fault
-returns-in_err-movers-clause-fault c =
-    let ms = c.args.modules.now in
-    let pls = c.args.places.items in
-    let out = c.in_ok-placements.placements.items in
-    let f = c.in_err-movers.field-0.0 in
-    let kept : AllZip KeepsPlace (placed_modules ms pls) out = derived-fit (placed_modules ms pls) c.deref-2.result.now out c.in_ok-placements.ensures in
-    let moving = subst (λ (xs : List Places). IsMoversFault (typed_modules ms) (placed_modules ms xs) [] f) c.deref-3.ensures.value c.in_err-movers.ensures.fault in
-    let stated : IsExternalFault ms f = record { places = pls; laid = c.requires.laid; fault = inr (same-fault (typed_modules ms) pls out [] kept f moving) } in
-    let e = err_from_is_err_and c.from_residual-in_err-movers.result c.from_residual-in_err-movers.ensures.1 in
-    rw (e.1, e.2) stated

@@ -1,120 +1,35 @@
-use Rattle.omf_placement.specs.Inner.Derived.{derived}
-use Rattle.std.proofs.lemmas.Result.{err_from_is_err_and}
-use Rattle.std.proofs.Common.{◌≡◌, ◌∙◌, List, ap, ap₂, false, length, map, subst, sym, true}
-use Rattle.std.specs.Prelude.{zip}
-use Rattle.std.specs.List.{AllZip}
+use Rattle.std.proofs.Common.{◌≡◌, ◌∙◌, List, ap, ap₂, length, subst, sym}
+use Rattle.std.specs.Prelude.{IfOk, Option, map, zip}
+use Rattle.std.specs.List.{enumerate_from}
+use Rattle.std.proofs.lemmas.List.{length-map}
+use Rattle.std.proofs.lemmas.List.FromFn.{length-enumerate_from}
 use Rattle.omf_check.specs.Module.{typed_modules}
-use Rattle.omf_placement.specs.Derivation.{IsPlaceOf}
 use Rattle.omf_placement.specs.Derive.{placed_modules}
-use Rattle.omf_placement.specs.Placement.{Places}
-use Rattle.omf_output.specs.Exe.Derived.{all_based, based, based_by, bases_in, completed, derived_at, lows}
+use Rattle.omf_placement.specs.declared.several.sources.Definer.{Definer}
+use Rattle.omf_placement.specs.Inner.Linkage.{linkage}
+use Rattle.omf_output.specs.declared.exe.movers.Moving.{Moving}
+use Rattle.omf_output.specs.Exe.Derived.{all_movers, bases_in, lows, with_bases}
 use Rattle.omf_output.specs.Exe.Moved.{Movers}
-use Rattle.omf_output.proofs.DerivingLaws.{all-completed, as-many-based, bases-are, bases-are-places, derived-many, high-fault, low-fault, weakly-derived}
-use Rattle.omf_placement.specs.Weak.{with_weak}
+use Rattle.omf_output.specs.Inner.Referred.{completed, linked_externals}
+use Rattle.omf_output.proofs.ReferredLaws.{movers-are}
 use Rattle.omf_output.proofs.exe.movement.movers_of.Goals as goal
 
-pub with_weak_linked-requires-clause-placed : goal.with_weak_linked-requires-clause-placed
-with_weak_linked-requires-clause-placed c =
-    let ms = typed_modules c.args.modules.now in
-    let placed = placed_modules c.args.modules.now c.args.places.now in
-    let ls = lows placed in
-    let bases : c.in_ok-bases.bases.items ≡ map (bases_in ls) ms = c.in_ok-bases.ensures ls c.in_ok-table.ensures in
-    let low_is : c.in_ok-at_0.at_0.items ≡ map (based false ls) ms = c.in_ok-at_0.ensures ∙ ap (λ (bs : List Movers). map (based_by false) bs) (c.deref.ensures.value ∙ bases) ∙ bases-are false ls ms in
-    ap length (c.deref-2.ensures.value ∙ low_is) ∙ as-many-based (based false ls) c.args.modules.now
+pub with_externals-requires : goal.with_externals-requires
+with_externals-requires c =
+    let tm = typed_modules c.args.modules.now in
+    let ls = lows (placed_modules c.args.modules.now c.args.places.now) in
+    let bases : c.in_ok-bases.bases.items ≡ map (bases_in ls) tm = c.in_ok-bases.ensures ls c.in_ok-table.ensures in
+    sym (length-map c.in_ok-externals.externals.items (λ e. e.items)) ∙ ap length c.in_ok-externals.ensures
+    ∙ length-map (enumerate_from 0 tm) (linked_externals c.deref.result.now c.args.linkage.now.links) ∙ length-enumerate_from 0 tm
+    ∙ sym (ap length bases ∙ length-map tm (bases_in ls))
 
-pub with_weak_linked-requires-2-clause-placed : goal.with_weak_linked-requires-2-clause-placed
-with_weak_linked-requires-2-clause-placed c =
-    let ms = typed_modules c.args.modules.now in
-    let placed = placed_modules c.args.modules.now c.args.places.now in
-    let ls = lows placed in
-    let bases : c.in_ok-bases.bases.items ≡ map (bases_in ls) ms = c.in_ok-bases.ensures ls c.in_ok-table.ensures in
-    let high_is : c.in_ok-higher.higher.items ≡ map (based true ls) ms = c.in_ok-higher.ensures ∙ ap (λ (bs : List Movers). map (based_by true) bs) (c.deref-4.ensures.value ∙ bases) ∙ bases-are true ls ms in
-    ap length (c.deref-5.ensures.value ∙ high_is) ∙ as-many-based (based true ls) c.args.modules.now
-
-pub derive_linked-requires-clause-placed : goal.derive_linked-requires-clause-placed
-derive_linked-requires-clause-placed c =
-    let ms = typed_modules c.args.modules.now in
-    let placed = placed_modules c.args.modules.now c.args.places.now in
-    let ls = lows placed in
-    let bases : c.in_ok-bases.bases.items ≡ map (bases_in ls) ms = c.in_ok-bases.ensures ls c.in_ok-table.ensures in
-    let low_is : c.in_ok-at_0.at_0.items ≡ map (based false ls) ms = c.in_ok-at_0.ensures ∙ ap (λ (bs : List Movers). map (based_by false) bs) (c.deref.ensures.value ∙ bases) ∙ bases-are false ls ms in
-    subst (λ (xs : List Places). AllZip IsPlaceOf ms xs) (sym low_is) (bases-are-places false ls ms)
-
-pub derive_linked-requires-2-clause-placed : goal.derive_linked-requires-2-clause-placed
-derive_linked-requires-2-clause-placed c =
-    let ms = typed_modules c.args.modules.now in
-    let placed = placed_modules c.args.modules.now c.args.places.now in
-    let ls = lows placed in
-    let bases : c.in_ok-bases.bases.items ≡ map (bases_in ls) ms = c.in_ok-bases.ensures ls c.in_ok-table.ensures in
-    let high_is : c.in_ok-higher.higher.items ≡ map (based true ls) ms = c.in_ok-higher.ensures ∙ ap (λ (bs : List Movers). map (based_by true) bs) (c.deref-4.ensures.value ∙ bases) ∙ bases-are true ls ms in
-    subst (λ (xs : List Places). AllZip IsPlaceOf ms xs) (sym high_is) (bases-are-places true ls ms)
-
-pub all_movers-requires-clause-low : goal.all_movers-requires-clause-low
-all_movers-requires-clause-low c =
-    let ms = typed_modules c.args.modules.now in
-    let placed = placed_modules c.args.modules.now c.args.places.now in
-    let ls = lows placed in
-    let bases : c.in_ok-bases.bases.items ≡ map (bases_in ls) ms = c.in_ok-bases.ensures ls c.in_ok-table.ensures in
-    let low_is : c.in_ok-at_0.at_0.items ≡ map (based false ls) ms = c.in_ok-at_0.ensures ∙ ap (λ (bs : List Movers). map (based_by false) bs) (c.deref.ensures.value ∙ bases) ∙ bases-are false ls ms in
-    let at_0 : derived_at false ms placed c.args.given.now ≡ derived (zip ms c.in_ok-at_0.at_0.items) c.deref-3.result.now
-    = weakly-derived ms _ c.deref-2.result.now c.in_ok-at_0.at_0.items c.args.given.now c.deref-3.result.now (c.deref-2.ensures.value ∙ low_is) low_is (c.deref-3.ensures.value ∙ c.in_ok-low_given.ensures) in
-    ap length c.deref-7.ensures.value ∙ derived-many (based false ls) c.args.modules.now (with_weak (all_based false ms placed) c.args.given.now) c.in_ok-low.low.items (at_0 ∙ c.in_ok-low.ensures)
-    ∙ sym (ap length bases ∙ as-many-based (bases_in ls) c.args.modules.now)
-
-pub all_movers-requires-clause-high : goal.all_movers-requires-clause-high
-all_movers-requires-clause-high c =
-    let ms = typed_modules c.args.modules.now in
-    let placed = placed_modules c.args.modules.now c.args.places.now in
-    let ls = lows placed in
-    let bases : c.in_ok-bases.bases.items ≡ map (bases_in ls) ms = c.in_ok-bases.ensures ls c.in_ok-table.ensures in
-    let high_is : c.in_ok-higher.higher.items ≡ map (based true ls) ms = c.in_ok-higher.ensures ∙ ap (λ (bs : List Movers). map (based_by true) bs) (c.deref-4.ensures.value ∙ bases) ∙ bases-are true ls ms in
-    let higher : derived_at true ms placed c.args.given.now ≡ derived (zip ms c.in_ok-higher.higher.items) c.deref-6.result.now
-    = weakly-derived ms _ c.deref-5.result.now c.in_ok-higher.higher.items c.args.given.now c.deref-6.result.now (c.deref-5.ensures.value ∙ high_is) high_is (c.deref-6.ensures.value ∙ c.in_ok-high_given.ensures) in
-    ap length c.deref-8.ensures.value ∙ derived-many (based true ls) c.args.modules.now (with_weak (all_based true ms placed) c.args.given.now) c.in_ok-high.high.items (higher ∙ c.in_ok-high.ensures)
-    ∙ sym (ap length bases ∙ as-many-based (bases_in ls) c.args.modules.now)
-
-pub returns-in_err-low-clause-fault : goal.returns-in_err-low-clause-fault
-returns-in_err-low-clause-fault c =
-    let ms = typed_modules c.args.modules.now in
-    let placed = placed_modules c.args.modules.now c.args.places.now in
-    let ls = lows placed in
-    let bases : c.in_ok-bases.bases.items ≡ map (bases_in ls) ms = c.in_ok-bases.ensures ls c.in_ok-table.ensures in
-    let low_is : c.in_ok-at_0.at_0.items ≡ map (based false ls) ms = c.in_ok-at_0.ensures ∙ ap (λ (bs : List Movers). map (based_by false) bs) (c.deref.ensures.value ∙ bases) ∙ bases-are false ls ms in
-    let at_0 : derived_at false ms placed c.args.given.now ≡ derived (zip ms c.in_ok-at_0.at_0.items) c.deref-3.result.now
-    = weakly-derived ms _ c.deref-2.result.now c.in_ok-at_0.at_0.items c.args.given.now c.deref-3.result.now (c.deref-2.ensures.value ∙ low_is) low_is (c.deref-3.ensures.value ∙ c.in_ok-low_given.ensures) in
-    let e = err_from_is_err_and c.from_residual-in_err-low.result c.from_residual-in_err-low.ensures.1 in
-    rw (e.1, e.2) (low-fault ms placed c.args.given.now (derived (zip ms c.in_ok-at_0.at_0.items) c.deref-3.result.now) c.in_err-low.field-0.0 at_0 c.in_err-low.ensures)
-
-pub returns-in_err-high-clause-fault : goal.returns-in_err-high-clause-fault
-returns-in_err-high-clause-fault c =
-    let ms = typed_modules c.args.modules.now in
-    let placed = placed_modules c.args.modules.now c.args.places.now in
-    let ls = lows placed in
-    let bases : c.in_ok-bases.bases.items ≡ map (bases_in ls) ms = c.in_ok-bases.ensures ls c.in_ok-table.ensures in
-    let high_is : c.in_ok-higher.higher.items ≡ map (based true ls) ms = c.in_ok-higher.ensures ∙ ap (λ (bs : List Movers). map (based_by true) bs) (c.deref-4.ensures.value ∙ bases) ∙ bases-are true ls ms in
-    let higher : derived_at true ms placed c.args.given.now ≡ derived (zip ms c.in_ok-higher.higher.items) c.deref-6.result.now
-    = weakly-derived ms _ c.deref-5.result.now c.in_ok-higher.higher.items c.args.given.now c.deref-6.result.now (c.deref-5.ensures.value ∙ high_is) high_is (c.deref-6.ensures.value ∙ c.in_ok-high_given.ensures) in
-    let e = err_from_is_err_and c.from_residual-in_err-high.result c.from_residual-in_err-high.ensures.1 in
-    rw (e.1, e.2) (high-fault ms placed c.args.given.now (derived (zip ms c.in_ok-higher.higher.items) c.deref-6.result.now) c.in_err-high.field-0.0 higher c.in_err-high.ensures)
-
-pub returns-clause-movers : goal.returns-clause-movers
-returns-clause-movers c =
-    let ms = typed_modules c.args.modules.now in
-    let placed = placed_modules c.args.modules.now c.args.places.now in
-    let ls = lows placed in
-    let bases : c.in_ok-bases.bases.items ≡ map (bases_in ls) ms = c.in_ok-bases.ensures ls c.in_ok-table.ensures in
-    let low_is : c.in_ok-at_0.at_0.items ≡ map (based false ls) ms = c.in_ok-at_0.ensures ∙ ap (λ (bs : List Movers). map (based_by false) bs) (c.deref.ensures.value ∙ bases) ∙ bases-are false ls ms in
-    let at_0 : derived_at false ms placed c.args.given.now ≡ derived (zip ms c.in_ok-at_0.at_0.items) c.deref-3.result.now
-    = weakly-derived ms _ c.deref-2.result.now c.in_ok-at_0.at_0.items c.args.given.now c.deref-3.result.now (c.deref-2.ensures.value ∙ low_is) low_is (c.deref-3.ensures.value ∙ c.in_ok-low_given.ensures) in
-    let high_is : c.in_ok-higher.higher.items ≡ map (based true ls) ms = c.in_ok-higher.ensures ∙ ap (λ (bs : List Movers). map (based_by true) bs) (c.deref-4.ensures.value ∙ bases) ∙ bases-are true ls ms in
-    let higher : derived_at true ms placed c.args.given.now ≡ derived (zip ms c.in_ok-higher.higher.items) c.deref-6.result.now
-    = weakly-derived ms _ c.deref-5.result.now c.in_ok-higher.higher.items c.args.given.now c.deref-6.result.now (c.deref-5.ensures.value ∙ high_is) high_is (c.deref-6.ensures.value ∙ c.in_ok-high_given.ensures) in
-    record {
-      low = c.in_ok-low.low.items;
-      high = c.in_ok-high.high.items;
-      at_0 = at_0 ∙ c.in_ok-low.ensures;
-      higher = higher ∙ c.in_ok-high.ensures;
-      each = c.in_ok-all_movers.ensures ∙ ap (λ (bs : List Movers). map completed (zip bs (zip c.deref-7.result.now c.deref-8.result.now))) bases
-          ∙ ap₂ (λ (xs ys : List Places). map completed (zip (map (bases_in ls) ms) (zip xs ys))) c.deref-7.ensures.value c.deref-8.ensures.value
-          ∙ all-completed ls ms (zip c.in_ok-low.low.items c.in_ok-high.high.items);
-    }
+pub returns : goal.returns
+returns c =
+    let tm = typed_modules c.args.modules.now in
+    let ls = lows (placed_modules c.args.modules.now c.args.places.now) in
+    let bases : c.in_ok-bases.bases.items ≡ map (bases_in ls) tm = c.in_ok-bases.ensures ls c.in_ok-table.ensures in
+    let externals : map (λ e. e.items) c.in_ok-externals.externals.items ≡ map (linked_externals (map (bases_in ls) tm) (linkage tm)) (enumerate_from 0 tm)
+    = c.in_ok-externals.ensures ∙ ap₂ (λ (bs : List Movers) (l : List (List (Option Definer))). map (linked_externals bs l) (enumerate_from 0 tm)) (c.deref.ensures.value ∙ bases) c.requires.linked.is in
+    let whole : map completed (zip c.in_ok-bases.bases.items (map (λ e. e.items) c.in_ok-externals.externals.items)) ≡ all_movers (with_bases ls tm)
+    = ap₂ (λ (bs : List Movers) (es : List (List Moving)). map completed (zip bs es)) bases externals ∙ movers-are ls tm in
+    subst (λ (x : List Movers). IfOk c.with_externals.result (λ v. v.items ≡ x)) whole c.with_externals.ensures
