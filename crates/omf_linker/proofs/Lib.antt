@@ -37,3 +37,6 @@ pub mod SettledLaws
 pub mod SuitingLaws
 pub mod TellingLaws
 pub mod CommunalFinds
+pub mod OriginLaws
+pub mod AddingLaws
+pub mod MapAddresses

@@ -8,3 +8,5 @@ pub mod Sharing
 pub mod Ordering
 pub mod Adding
 pub mod Laws
+pub mod Origins
+pub mod Listing

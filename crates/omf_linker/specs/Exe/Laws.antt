@@ -1,5 +1,6 @@
--- Laws of the modules that a linker adds to a program, each the contract of a function of the same name.
-use Rattle.std.specs.Prelude.{◌≡◌, ℕ, List, [], ◌∷◌, ◌++◌, filter_map, zip, Some, None, true, false}
+-- Laws of the modules that a linker adds to a program, and of its map, each the contract of a function of the same name.
+use Rattle.std.specs.Prelude.{◌≡◌, ℕ, List, [], ◌∷◌, ◌++◌, filter_map, map, zip, Some, None, Bool, true, false}
+use Rattle.omf_check.specs.Module.{Module, typed_modules}
 use Rattle.omf_records.specs.Values.{Rec}
 use Rattle.omf_placement.specs.Derive.{PlacedModule, all_publics, publics, seen_publics}
 -- computed: derived_is_taken of omf_placement.
@@ -13,7 +14,11 @@ use Rattle.omf_layout.specs.Own.Communals.{communals_of, is_communal}
 use Rattle.omf_layout.specs.Own.Order.{has_claim, order_records}
 use Rattle.omf_layout.specs.Own.Stack.{stack_records}
 use Rattle.omf_layout.specs.Several.Gathered.{of_name as claims_of}
+use Rattle.omf_output.specs.Exe.Members.{Member}
 use Rattle.omf_linker.specs.Drafting.Laws.{HasBases}
+use Rattle.omf_linker.specs.Exe.Program.{IsComOf, IsMapOf, IsProgramOf}
+use Rattle.omf_linker.specs.Map.Addresses.{addressed}
+use Rattle.omf_linker.specs.Map.MapText.{map_text}
 
 -- A name is that of a communal of modules: a COMDEF has it, and no PUBDEF.
 pub record IsCommunalOf (ms : List (List Rec)) (name : List ℕ) : Type 0 where
@@ -45,3 +50,15 @@ pub record DefineNoOther (ms : List (List Rec)) (name : List ℕ) : Type 0 where
 
 abbrev pub AddedDefineNewNames : Type 0
 AddedDefineNewNames = (ms : List (List Rec)) (name : List ℕ) → has_claim (all_claims ms) name ≡ true → DefineNoOther ms name
+
+-- A map shows the addresses of members of a program: it is that of their modules at the placements with which they are linked.
+abbrev pub ShowsAddressesOf : List Module → List Member → List ℕ → Type 0
+ShowsAddressesOf ms members text = text ≡ map_text (addressed (typed_modules ms) (map (λ m. m.places) members))
+
+-- So does a map of modules for each program of them, an .EXE or a .COM file.
+pub record ShowsAddresses (ms : List Module) (text : List ℕ) : Type 0 where
+  pub of_exe : (bytes : List ℕ) (has_stack : Bool) (p : IsProgramOf ms bytes has_stack) → ShowsAddressesOf ms p.members text
+  pub of_com : (bytes : List ℕ) (p : IsComOf ms bytes) → ShowsAddressesOf ms p.members text
+
+abbrev pub MapsShowPrograms : Type 0
+MapsShowPrograms = (ms : List Module) (text : List ℕ) → IsMapOf ms text → ShowsAddresses ms text

@@ -1,22 +1,26 @@
 -- What is written of a DOS program, from the bytes of its files on (this profile's rule).
 use Rattle.std.specs.Prelude.{◌≡◌, ◌⊎◌, ⊤, ◌++◌, ℕ, List, Bool, true, false, not, Option, Some, None, is_some}
 use Rattle.std.specs.Global.{Vec}
-use Rattle.omf_check.specs.Module.{Module}
+use Rattle.omf_check.specs.Module.{Module, typed_modules}
 use Rattle.omf_linking.specs.File.{InputFile}
 use Rattle.omf_linker.specs.Exe.Adding.{AreAdded}
 use Rattle.omf_linker.specs.Exe.Input.{AreOfFiles, AreOfFolded}
-use Rattle.omf_linker.specs.Exe.Program.{IsBetweenOf, IsComOf, IsLongOf, IsMapOf, IsNearOf, IsProgramOf}
+use Rattle.omf_linker.specs.Exe.Listing.{list_text}
+use Rattle.omf_linker.specs.Exe.Origins.{AreAllWith, AreFrom}
+use Rattle.omf_linker.specs.Exe.Program.{IsBetweenOf, IsComOf, IsLongOf, IsMapOf, IsNearOf, IsProgramOf, ProgramModules}
 use Rattle.omf_linker.specs.Exe.Refusing.{AreNoComProgram, AreNoProgram, AreNotAdded, AreUnplaced, Finds, GiveNoFolded, GiveNoModules, HaveNamesTwice, IsNotAllowed}
+use Rattle.omf_linker.specs.declared.exe.input.Origin.{Origin}
 use Rattle.omf_linker.specs.declared.exe.made.MadeProgram.{MadeProgram}
 use Rattle.omf_linker.specs.declared.exe.options.ExeOptions.{ExeOptions}
 use Rattle.omf_linker.specs.declared.exe.options.ProgramKind.{ProgramKind}
 use Rattle.omf_linker.specs.declared.exe.options.ProgramKind.TheVariants.{Exe, Com}
 
--- The files of a program, and the modules that they give. Names may be compared without case.
+-- The files of a program, and the modules that they give, with their origins. Names may be compared without case.
 pub record ProgramFiles : Type 0 where
   pub files : List InputFile
   pub ignores_case : Bool
   pub modules : List Module
+  pub from : List (Option Origin)
 
 -- Modules are those of files.
 abbrev pub AreOf : Bool → List InputFile → List Module → Type 0
@@ -46,27 +50,34 @@ IsAlone Com ms = ⊤
 abbrev pub IsAllowed : Bool → Bool → Type 0
 IsAllowed is_allowed is_found = is_allowed ≡ false → is_found ≡ false
 
--- The map, if it is asked for: lines of the modules, and after them the map of the program.
-abbrev pub IsMapIf : Bool → List Module → Option (Vec ℕ) → Type 0
-IsMapIf false ms map = map ≡ None
-IsMapIf true ms None = ⊥
-IsMapIf true ms (Some map) = (front : List ℕ) × (text : List ℕ) × (map.items ≡ front ++ text) × IsMapOf ms text
+-- The map of modules of files: the list of the modules, and after it the map of the program.
+pub record IsListedMap (files : List InputFile) (p : ProgramModules) (map : List ℕ) : Type 0 where
+  pub text : List ℕ
+  pub listed : map ≡ list_text files p.from (typed_modules p.modules) ++ text
+  pub mapped : IsMapOf p.modules text
 
--- What is written of modules.
-pub record IsMadeOf (options : ExeOptions) (ms : List Module) (made : MadeProgram) : Type 0 where
-  pub program : AreBytesOf options.kind ms made.bytes.items made.lacks_stack
-  pub map : IsMapIf (is_some options.map) ms made.map
-  pub alone : IsAlone options.kind ms
-  pub long : Finds (IsLongOf ms) (is_some made.long) × IsAllowed options.allows_long (is_some made.long)
-  pub near : Finds (IsNearOf ms) (is_some made.near) × IsAllowed options.allows_near (is_some made.near)
-  pub twice : HaveNamesTwice ms (is_some made.repeated) × IsAllowed options.allows_twice (is_some made.repeated)
+-- That map, if it is asked for.
+abbrev pub IsMapIf : Bool → List InputFile → ProgramModules → Option (Vec ℕ) → Type 0
+IsMapIf false files p map = map ≡ None
+IsMapIf true files p None = ⊥
+IsMapIf true files p (Some map) = IsListedMap files p map.items
+
+-- What is written of modules of files.
+pub record IsMadeOf (options : ExeOptions) (files : List InputFile) (p : ProgramModules) (made : MadeProgram) : Type 0 where
+  pub program : AreBytesOf options.kind p.modules made.bytes.items made.lacks_stack
+  pub map : IsMapIf (is_some options.map) files p made.map
+  pub alone : IsAlone options.kind p.modules
+  pub long : Finds (IsLongOf p.modules) (is_some made.long) × IsAllowed options.allows_long (is_some made.long)
+  pub near : Finds (IsNearOf p.modules) (is_some made.near) × IsAllowed options.allows_near (is_some made.near)
+  pub twice : HaveNamesTwice p.modules (is_some made.repeated) × IsAllowed options.allows_twice (is_some made.repeated)
 
 -- What is written of files: of their modules, with those that are added.
 pub record IsMade (options : ExeOptions) (p : ProgramFiles) (made : MadeProgram) : Type 0 where
   pub given : AreOf p.ignores_case p.files p.modules
-  pub all : List Module
-  pub added : AreAdded options.kind options.stack options.order p.modules all
-  pub made_of : IsMadeOf options all made
+  pub origins : AreFrom p.ignores_case p.files p.modules p.from
+  pub all : ProgramModules
+  pub added : AreAllWith options.kind options.stack options.order p.modules p.from all
+  pub made_of : IsMadeOf options p.files all made
 
 -- Why nothing is written of modules: there is no program of them; they have no places; or a look finds what is not allowed.
 abbrev pub IsLookFault : ExeOptions → List Module → Type 0

@@ -1,9 +1,10 @@
 //! The modules of files: those that are given, and the members of libraries.
 
-ghost use Rattle.std.specs.Prelude.{◌≡◌, ◌++◌, [], IfErr, IfOk, OnOk, false, true};
+ghost use Rattle.std.specs.Prelude.{◌≡◌, ◌++◌, [], IfErr, IfOk, OnOk, false, length, true};
 ghost use Rattle.std.specs.List.{AllZip};
 ghost use Rattle.omf_linking.specs.Folded.{IsFolded};
 ghost use Rattle.omf_linker.specs.Exe.Input.{AllGive, IsFileFault, IsInputFault, IsMemberFolded, is_library};
+ghost use Rattle.omf_linker.specs.Exe.Origins.{AllFrom, origins_in};
 ghost use Rattle.omf_linker.specs.Exe.Sharing.{any_profile};
 ghost use Rattle.omf_linker.specs.Inner.Input.{IsAdded};
 
@@ -19,11 +20,13 @@ use std::slice::from_ref;
 /// The type of the record that a library begins with.
 const LIBRARY: u8 = 0xF0;
 
-/// Where a module comes from: the number of its file, and its number in it, each from 0.
+/// Where a module comes from.
 #[derive(Clone, Copy)]
 pub(crate) struct Origin {
+    /// The number of its file, from 0.
     pub(crate) file: usize,
-    pub(crate) module: usize,
+    /// Its number in the file, from 1.
+    pub(crate) number: usize,
 }
 
 /// The modules of files, each with its origin.
@@ -77,9 +80,14 @@ pub(crate) fn is_library(bytes: &[u8]) -> bool
 }
 
 /// Adds the origins of a file's modules, from the first on.
-fn add_origins(origins: &mut Vec<Origin>, file: usize, count: usize) -> Result<(), AllocError> {
-    for module in 0..count {
-        origins.push(Origin { file, module })?;
+fn add_origins(origins: &mut Vec<Origin>, file: usize, count: usize) -> Result<(), AllocError>
+    ensures { OnOk result (origins.new.items ≡ origins.old.items ++ origins_in file count) }
+{
+    for before in 0..count {
+        origins.push(Origin {
+            file,
+            number: before + 1,
+        })?;
     }
     Ok(())
 }
@@ -89,6 +97,8 @@ impl Input {
     fn new(alloc: Global) -> Input
         ensures given { result.given.items ≡ [] }
         ensures members { result.members.items ≡ [] }
+        ensures given_from { result.given_from.items ≡ [] }
+        ensures members_from { result.members_from.items ≡ [] }
     {
         Input {
             given: Vec::new(alloc),
@@ -102,6 +112,8 @@ impl Input {
     fn add_members(&mut self, file: usize, members: Vec<LibraryMember>) -> Result<(), AllocError>
         ensures members { OnOk result (self.new.members.items ≡ self.old.members.items ++ members.items) }
         ensures given { OnOk result (self.new.given.items ≡ self.old.given.items) }
+        ensures members_from { OnOk result (self.new.members_from.items ≡ self.old.members_from.items ++ origins_in file (length members.items)) }
+        ensures given_from { OnOk result (self.new.given_from.items ≡ self.old.given_from.items) }
     {
         add_origins(&mut self.members_from, file, members.len())?;
         move_all(members, &mut self.members)
@@ -114,7 +126,7 @@ impl Input {
     /// `Library` with the first fault of the library. `Memory` if memory runs out.
     fn add_library(&mut self, alloc: Global, file: usize, bytes: &[u8]) -> Result<(), InputFault>
         requires { is_library bytes.now ≡ true }
-        ensures added { OnOk result (IsAdded bytes.now self.old.given.items self.old.members.items self.new.given.items self.new.members.items) }
+        ensures added { OnOk result (IsAdded file bytes.now self.old self.new) }
         ensures fault { IfErr result (IsFileFault file bytes.now) }
     {
         match library_members(alloc, profile(), bytes) {
@@ -130,6 +142,8 @@ impl Input {
     fn add_given(&mut self, file: usize, modules: Vec<Checked>) -> Result<(), AllocError>
         ensures given { OnOk result (self.new.given.items ≡ self.old.given.items ++ modules.items) }
         ensures members { OnOk result (self.new.members.items ≡ self.old.members.items) }
+        ensures given_from { OnOk result (self.new.given_from.items ≡ self.old.given_from.items ++ origins_in file (length modules.items)) }
+        ensures members_from { OnOk result (self.new.members_from.items ≡ self.old.members_from.items) }
     {
         add_origins(&mut self.given_from, file, modules.len())?;
         move_all(modules, &mut self.given)
@@ -147,7 +161,7 @@ impl Input {
         input: &InputFile,
     ) -> Result<(), InputFault>
         requires { is_library input.now.bytes ≡ false }
-        ensures added { OnOk result (IsAdded input.now.bytes self.old.given.items self.old.members.items self.new.given.items self.new.members.items) }
+        ensures added { OnOk result (IsAdded file input.now.bytes self.old self.new) }
         ensures fault { IfErr result (IsFileFault file input.now.bytes) }
     {
         match modules_of_files(alloc, profile(), from_ref(input)) {
@@ -165,7 +179,7 @@ impl Input {
     ///
     /// `Library` or `Modules` with the fault of the file. `Memory` if memory runs out.
     fn add_file(&mut self, alloc: Global, file: usize, input: &InputFile) -> Result<(), InputFault>
-        ensures added { OnOk result (IsAdded input.now.bytes self.old.given.items self.old.members.items self.new.given.items self.new.members.items) }
+        ensures added { OnOk result (IsAdded file input.now.bytes self.old self.new) }
         ensures fault { IfErr result (IsFileFault file input.now.bytes) }
     {
         if is_library(input.bytes()) {
@@ -183,6 +197,8 @@ impl Input {
     pub(crate) fn folded(self, alloc: Global) -> Result<Input, AllocError>
         ensures given { IfOk result (λ i. AllZip IsFolded self.given.items i.given.items) }
         ensures members { IfOk result (λ i. AllZip IsMemberFolded self.members.items i.members.items) }
+        ensures given_from { IfOk result (λ i. i.given_from.items ≡ self.given_from.items) }
+        ensures members_from { IfOk result (λ i. i.members_from.items ≡ self.members_from.items) }
     {
         let Input {
             given,
@@ -205,6 +221,7 @@ impl Input {
     /// The first file that gives nothing: `Library` or `Modules` with its fault. `Memory` if memory runs out.
     pub(crate) fn of(alloc: Global, files: &[InputFile]) -> Result<Input, InputFault>
         ensures input { IfOk result (λ i. AllGive files.now i.given.items i.members.items) }
+        ensures from { IfOk result (λ i. AllFrom 0 files.now i.given.items i.members.items i.given_from.items i.members_from.items) }
         ensures fault { IfErr result (IsInputFault files.now) }
     {
         let mut input = Input::new(alloc);

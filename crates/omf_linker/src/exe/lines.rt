@@ -1,6 +1,9 @@
 //! Lines of faults of programs, by the names of files, modules and segments.
 
-ghost use Rattle.std.specs.Prelude.{IfOk, IfSome, is_some, string_bytes};
+ghost use Rattle.std.specs.Prelude.{◌≡◌, ◌++◌, IfOk, IfSome, codes, decimal, is_some, string_bytes};
+ghost use Rattle.omf_frame.specs.Bytes.{AddsText};
+ghost use Rattle.omf_check.specs.Module.{recs_of};
+ghost use Rattle.omf_linker.specs.Exe.Listing.{file_text, origin_at, title_text};
 ghost use Rattle.omf_linker.specs.Exe.Refusing.{AreTwiceLines, HaveNamesTwice};
 
 use crate::exe::fault::{ComProgramFault, PlacingFault, ProgramFault};
@@ -10,17 +13,17 @@ use crate::exe::sharing::SharingFault;
 use crate::lines::{Labeled, high_line, put_part, put_stray, reach_line, starts_line};
 use crate::link::{InputFile, put_own, repeated_text, unresolved_text};
 use crate::seen::{FarMember, Finding, Range, put_line, put_range};
-use omf_check::Checked;
+use omf_check::{Checked, entry_of};
 use omf_cmd::{RunFault, fault_line};
 use omf_frame::Place;
 use omf_layout::own::{CommunalReason, CommunalsFault, OrderFault};
 use omf_library::LibraryFault;
+use omf_linking::locator::module_name;
 use omf_linking::space::Owner;
 use omf_output::exe::{ComFault, ExeFault, FarAddress};
 use omf_output::near::Stray;
 use omf_output::stacks::Interval;
 use omf_placement::DeriveFault;
-use omf_records::Rec;
 use omf_reloc::{Cause, ReachFault};
 use omf_text::print_quoted;
 use std::alloc::{AllocError, Global};
@@ -42,7 +45,9 @@ pub(crate) struct Origins<'a> {
 }
 
 /// Appends a file's name: `file "NAME"`.
-fn put_file(text: &mut String, files: &[InputFile], file: usize) -> Result<(), AllocError> {
+fn put_file(text: &mut String, files: &[InputFile], file: usize) -> Result<(), AllocError>
+    ensures { AddsText result (string_bytes text.old) (string_bytes text.new) (file_text files.now file) }
+{
     text.push_str("file ")?;
     match files.get(file) {
         Some(file) => print_quoted(text, file.name()),
@@ -56,42 +61,43 @@ pub(crate) fn put_origin(
     files: &[InputFile],
     file: usize,
     module: u64,
-) -> Result<(), AllocError> {
+) -> Result<(), AllocError>
+    ensures { AddsText result (string_bytes text.old) (string_bytes text.new) (file_text files.now file ++ codes " module " ++ decimal «module») }
+{
     put_file(text, files, file)?;
     write!(text, " module {module}")
 }
 
-/// Appends the name of a module that the linker added: that in its THEADR.
-fn put_added(text: &mut String, module: &Checked) -> Result<(), AllocError> {
-    for (_, rec) in module.records() {
-        if let Rec::Header { name, .. } = &rec {
-            return print_quoted(text, name.0);
-        }
+/// Where the module of a number comes from, from 1; one that the linker added has no origin.
+pub(crate) fn origin_at(from: &[Option<Origin>], number: usize) -> Option<Origin>
+    ensures { result ≡ origin_at from.now number }
+{
+    entry_of(from, number)?
+}
+
+/// Appends what a module is called: its origin; without one its name.
+pub(crate) fn put_title(
+    text: &mut String,
+    files: &[InputFile],
+    from: Option<Origin>,
+    module: &Checked,
+) -> Result<(), AllocError>
+    ensures { AddsText result (string_bytes text.old) (string_bytes text.new) (title_text files.now from (recs_of «module».now.bytes)) }
+{
+    match from {
+        Some(origin) => put_origin(text, files, origin.file, origin.number as u64),
+        None => print_quoted(text, module_name(module)),
     }
-    Ok(())
 }
 
 impl<'a> Origins<'a> {
-    /// Appends a module of the program.
-    pub(crate) fn put_module(&self, text: &mut String, number: u32) -> Result<(), AllocError> {
-        match self.from.get(number as usize) {
-            Some(Some(origin)) => {
-                let module = origin.module as u64;
-                put_origin(text, self.files, origin.file, module.saturating_add(1))
-            }
-            Some(None) | None => match self.modules.get(number as usize) {
-                Some(module) => put_added(text, module),
-                None => write!(text, "module {number}"),
-            },
-        }
-    }
-
-    /// What each module of the program is called. There are fewer than 2^32.
+    /// What each module of the program is called.
     fn labels(&self, alloc: Global) -> Result<Vec<String>, AllocError> {
         let mut labels = Vec::new(alloc);
-        for number in 0..self.modules.len() {
+        for (before, module) in self.modules.iter().enumerate() {
             let mut label = String::new(alloc);
-            self.put_module(&mut label, number.min(u32::MAX as usize) as u32)?;
+            let from = origin_at(self.from, before.saturating_add(1));
+            put_title(&mut label, self.files, from, module)?;
             labels.push(label)?;
         }
         Ok(labels)

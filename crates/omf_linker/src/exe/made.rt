@@ -112,7 +112,7 @@ fn map_of(
     files: &[InputFile],
     is_asked: bool,
 ) -> Result<Option<Vec<u8>>, Refusal>
-    ensures map { IfOk result (IsMapIf is_asked modules.now.modules) }
+    ensures map { IfOk result (IsMapIf is_asked files.now modules.now) }
     ensures refused { IfErr result (IsRefusalFor (AreUnplaced modules.now.modules)) }
 {
     if !is_asked {
@@ -135,7 +135,7 @@ pub(crate) fn made_of(
     files: &[InputFile],
     options: &ExeOptions<'_>,
 ) -> Result<MadeProgram, Refusal>
-    ensures made { IfOk result (IsMadeOf options.now modules.now.modules) }
+    ensures made { IfOk result (IsMadeOf options.now files.now modules.now) }
     ensures refused { IfErr result (IsRefusalFor (IsNotMadeOf options.now modules.now.modules)) }
 {
     let ProgramBytes { bytes, lacks_stack } = match bytes_of(alloc, modules, files, options.kind) {

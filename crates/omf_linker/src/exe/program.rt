@@ -1,19 +1,22 @@
 //! The modules of a program, and what is made of them: its file and its map.
 
-ghost use Rattle.std.specs.Prelude.{◌≡◌, ◌++◌, ℕ, IfErr, IfOk, IfSome, List, None, Some, false, is_some, map, string_bytes, true};
+ghost use Rattle.std.specs.Prelude.{◌≡◌, ◌∷◌, ◌++◌, IfErr, IfOk, IfSome, List, None, OnOk, Some, false, is_some, map, string_bytes, true};
 ghost use Rattle.omf_linking.specs.File.{InputFile as FileModel};
 ghost use Rattle.std.specs.List.{AllZip};
 ghost use Rattle.std.specs.List.Sorted.{IsStrictlyIncreasing};
-ghost use Rattle.omf_check.specs.Module.{Module};
+ghost use Rattle.omf_check.specs.Module.{Module, typed_modules};
 ghost use Rattle.omf_linking.specs.Folded.{IsFolded};
-ghost use Rattle.omf_linker.specs.Exe.Adding.{AreAdded};
 ghost use Rattle.omf_library.specs.declared.judged.LibraryMember.{LibraryMember};
 ghost use Rattle.omf_linker.specs.Exe.Input.{AllGive, AreOfFiles, AreOfFolded, IsMemberFolded};
 ghost use Rattle.omf_linker.specs.Exe.Libraries.{sought};
+ghost use Rattle.omf_linker.specs.Exe.Listing.{list_text};
+ghost use Rattle.omf_linker.specs.Exe.Making.{IsListedMap};
 ghost use Rattle.omf_linker.specs.Exe.Ordering.{AreOrdered};
-ghost use Rattle.omf_linker.specs.Exe.Program.{IsBetweenOf, IsComOf, IsLongOf, IsMapOf, IsNearOf, IsProgramOf};
+ghost use Rattle.omf_linker.specs.Exe.Origins.{AllFrom, AreAllWith, AreOfFilesFrom, AreOfFoldedFrom};
+ghost use Rattle.omf_linker.specs.Exe.Program.{IsBetweenOf, IsComOf, IsLongOf, IsNearOf, IsProgramOf};
 ghost use Rattle.omf_linker.specs.Exe.Refusing.{AreNoComProgram, AreNoProgram, AreNotAdded, AreNotOrdered, AreNotShared, AreTwiceLines, AreUnplaced, Finds, GiveNoFolded, GiveNoModules, HaveNamesTwice, IsNotAllowed, IsRefusalFor, NeedRefused, is_com_memory, is_memory, is_out_of_memory, is_placing_memory};
 ghost use Rattle.omf_linker.specs.Exe.Sharing.{AreShared};
+ghost use Rattle.omf_linker.specs.Exe.Taken.{values_at};
 
 use crate::exe::added::{is_dos_ordered, stack_of};
 use crate::exe::defaults::sought;
@@ -47,7 +50,9 @@ pub struct ProgramModules {
 }
 
 /// Appends the origins of modules.
-fn put_origins(own: &[Origin], from: &mut Vec<Option<Origin>>) -> Result<(), AllocError> {
+fn put_origins(own: &[Origin], from: &mut Vec<Option<Origin>>) -> Result<(), AllocError>
+    ensures { OnOk result (from.new.items ≡ from.old.items ++ map Some own.now) }
+{
     for origin in own {
         from.push(Some(*origin))?;
     }
@@ -59,7 +64,7 @@ impl Model for ProgramModules {
 
     ghost Value = { Seen };
 
-    ghost view = { λ p. record { modules = p.modules.items } };
+    ghost view = { λ p. record { modules = p.modules.items; from = p.from.items } };
 }
 
 /// Joined modules with their origins: those of the given modules, and those of all members.
@@ -70,7 +75,8 @@ fn with_origins(
     members_from: Vec<Origin>,
 ) -> Result<ProgramModules, AllocError>
     requires { IsStrictlyIncreasing joined.numbers.items }
-    ensures { IfOk result (λ p. p.modules ≡ joined.modules.items) }
+    ensures modules { IfOk result (λ p. p.modules ≡ joined.modules.items) }
+    ensures from { IfOk result (λ p. p.from ≡ map Some (given_from.items ++ values_at joined.numbers.items members_from.items)) }
 {
     let Joined { modules, numbers } = joined;
     let mut origins = given_from;
@@ -88,6 +94,8 @@ fn with_origins(
 fn all_of(alloc: Global, files: &[InputFile], input: Input) -> Result<ProgramModules, Refusal>
     ensures files { (files : List FileModel) → AllGive files input.given.items input.members.items → IfOk result (λ p. AreOfFiles files p.modules) }
     ensures folded { (files : List FileModel) (given : List Module) (members : List LibraryMember) → AllGive files given members → AllZip IsFolded given input.given.items → AllZip IsMemberFolded members input.members.items → IfOk result (λ p. AreOfFolded files p.modules) }
+    ensures files_from { (files : List FileModel) → AllFrom 0 files input.given.items input.members.items input.given_from.items input.members_from.items → IfOk result (λ p. AreOfFilesFrom files p.modules p.from) }
+    ensures folded_from { (files : List FileModel) (given : List Module) (members : List LibraryMember) → AllFrom 0 files given members input.given_from.items input.members_from.items → AllZip IsFolded given input.given.items → AllZip IsMemberFolded members input.members.items → IfOk result (λ p. AreOfFoldedFrom files p.modules p.from) }
     ensures refused { IfErr result (IsRefusalFor (NeedRefused input.given.items input.members.items)) }
 {
     let Input {
@@ -193,6 +201,7 @@ impl ProgramModules {
     #[tactic(auto, using(crate::proofs::JoiningLaws::have_refused))]
     pub fn of(alloc: Global, files: &[InputFile]) -> Result<ProgramModules, Refusal>
         ensures modules { IfOk result (λ p. AreOfFiles files.now p.modules) }
+        ensures from { IfOk result (λ p. AreOfFilesFrom files.now p.modules p.from) }
         ensures refused { IfErr result (IsRefusalFor (GiveNoModules files.now)) }
     {
         let input = match Input::of(alloc, files) {
@@ -210,6 +219,7 @@ impl ProgramModules {
     #[tactic(auto, using(crate::proofs::JoiningLaws::have_refused_folded))]
     pub fn folded(alloc: Global, files: &[InputFile]) -> Result<ProgramModules, Refusal>
         ensures modules { IfOk result (λ p. AreOfFolded files.now p.modules) }
+        ensures from { IfOk result (λ p. AreOfFoldedFrom files.now p.modules p.from) }
         ensures refused { IfErr result (IsRefusalFor (GiveNoFolded files.now)) }
     {
         let input = match Input::of(alloc, files) {
@@ -225,6 +235,7 @@ impl ProgramModules {
     /// The modules, and before them the module that puts them in DOS order.
     fn in_dos_order(self, alloc: Global) -> Result<ProgramModules, Refusal>
         ensures ordered { IfOk result (λ p. AreOrdered self.modules p.modules) }
+        ensures from { IfOk result (λ p. p.from ≡ None ∷ self.from) }
         ensures refused { IfErr result (IsRefusalFor (AreNotOrdered self.modules)) }
     {
         let ProgramModules { modules, from } = self;
@@ -246,7 +257,7 @@ impl ProgramModules {
         alloc: Global,
         options: &ExeOptions<'_>,
     ) -> Result<ProgramModules, Refusal>
-        ensures added { IfOk result (λ p. AreAdded options.now.kind options.now.stack options.now.order self.modules p.modules) }
+        ensures added { IfOk result (AreAllWith options.now.kind options.now.stack options.now.order self.modules self.from) }
         ensures refused { IfErr result (IsRefusalFor (AreNotAdded options.now.kind options.now.stack options.now.order self.modules)) }
     {
         let ProgramModules { modules, from } = self;
@@ -279,7 +290,9 @@ impl ProgramModules {
 
     /// The modules with the files that they come from.
     fn origins<'a>(&'a self, files: &'a [InputFile]) -> Origins<'a>
-        ensures { result.modules.now ≡ self.entry.now.modules }
+        ensures modules { result.modules.now ≡ self.entry.now.modules }
+        ensures from { result.from.now ≡ self.entry.now.from }
+        ensures files { result.files.now ≡ files.entry.now }
     {
         Origins {
             files,
@@ -518,7 +531,7 @@ impl<'a> LinkedModules<'a> {
     ///
     /// The fault of `map_linked`, as lines.
     pub fn map(&self, alloc: Global, files: &[InputFile]) -> Result<Vec<u8>, Refusal>
-        ensures map { IfOk result (λ v. (front : List ℕ) × (text : List ℕ) × (v.items ≡ front ++ text) × IsMapOf self.now.modules text) }
+        ensures map { IfOk result (λ v. IsListedMap files.now self.now v.items) }
         ensures refused { IfErr result (IsRefusalFor (AreUnplaced self.now.modules)) }
     {
         let program = self.program;
@@ -537,7 +550,7 @@ impl<'a> LinkedModules<'a> {
 
     /// The lines of the modules, and a map after them.
     fn listed(&self, alloc: Global, files: &[InputFile], map: &str) -> Result<String, AllocError>
-        ensures { IfOk result (λ text. (front : List ℕ) × (string_bytes text ≡ front ++ map.now)) }
+        ensures { IfOk result (λ text. string_bytes text ≡ list_text files.now self.now.from (typed_modules self.now.modules) ++ map.now) }
     {
         let mut text = modules_text(alloc, self.program.origins(files))?;
         text.push_str(map)?;

@@ -3,6 +3,7 @@
 ghost use Rattle.std.specs.Prelude.{◌≡◌, ◌++◌, IfErr, IfOk, map};
 ghost use Rattle.omf_linker.specs.Exe.Libraries.{sought};
 ghost use Rattle.omf_linker.specs.Exe.Making.{AreOf, GiveNone, IsMade, IsNotMade};
+ghost use Rattle.omf_linker.specs.Exe.Origins.{AreFrom};
 ghost use Rattle.omf_linker.specs.Exe.Refusing.{IsRefusalFor};
 
 use crate::exe::files::memory;
@@ -26,12 +27,13 @@ pub struct ProgramFiles {
 
 impl Model for ProgramFiles {
     ghost use Rattle.omf_linker.specs.Exe.Making.{AreOf, ProgramFiles as Seen};
+    ghost use Rattle.omf_linker.specs.Exe.Origins.{AreFrom};
 
     ghost Value = { Seen };
 
-    ghost view = { λ p. record { files = p.files.items; ignores_case = p.ignores_case; modules = p.modules.modules } };
+    ghost view = { λ p. record { files = p.files.items; ignores_case = p.ignores_case; modules = p.modules.modules; from = p.modules.from } };
 
-    ghost invariant = { λ p. AreOf p.ignores_case p.files.items p.modules.modules };
+    ghost invariant = { λ p. AreOf p.ignores_case p.files.items p.modules.modules × AreFrom p.ignores_case p.files.items p.modules.modules p.modules.from };
 }
 
 /// The modules of files, with names in lower case if their case does not count.
@@ -41,6 +43,7 @@ fn modules_of(
     ignores_case: bool,
 ) -> Result<ProgramModules, Refusal>
     ensures modules { IfOk result (λ p. AreOf ignores_case files.now p.modules) }
+    ensures from { IfOk result (λ p. AreFrom ignores_case files.now p.modules p.from) }
     ensures refused { IfErr result (IsRefusalFor (GiveNone ignores_case files.now)) }
 {
     if ignores_case {

@@ -56,8 +56,7 @@ fn member_line(
         None => &[],
     };
     let offset = refused.offset as usize;
-    let number = origin.module as u64;
-    put_origin(&mut text, files, origin.file, number.saturating_add(1))?;
+    put_origin(&mut text, files, origin.file, origin.number as u64)?;
     text.push(' ')?;
     print_quoted(&mut text, name_of(bytes, offset))?;
     text.push(' ')?;

@@ -157,24 +157,90 @@ fn add_names(alloc: Global, names: &mut Vec<Defined>, count: u16) -> Result<(), 
     Ok(())
 }
 
-/// Whether no library with short searches is found for this number of names of one hash.
-fn has_long_searches(alloc: Global, count: u16) -> bool {
-    let Some(mut part) = part_of(alloc, LIBRARY.get(16..27).unwrap_or(&[])) else {
-        return false;
-    };
+/// What comes of a library of the module with this number of names of one hash; `None` if memory runs out.
+fn made_with(alloc: Global, count: u16) -> Option<Result<Vec<u8>, MakeFault>> {
+    let mut part = part_of(alloc, LIBRARY.get(16..27).unwrap_or(&[]))?;
     let mut parts = Vec::new(alloc);
     if add_names(alloc, &mut part.names, count).is_err() || parts.push(part).is_err() {
-        return false;
+        return None;
     }
-    matches!(make(alloc, ANY, true, &parts), Err(MakeFault::LongSearches))
+    Some(make(alloc, ANY, true, &parts))
 }
 
 /// Name n of one hash comes after n others, so three searches for each of 1,000 names look at 1,500,000 buckets and more, each with a name of ten
 /// letters: 21,000,000. The dictionaries that may be tried have 211 blocks at most, and allow 7,960,000.
 #[test]
 fn names_of_one_hash_have_long_searches(rt: HostRuntime) {
-    assert!(rt; has_long_searches(rt.alloc(), 1000));
-    assert!(rt; !has_long_searches(rt.alloc(), 100));
+    assert!(rt;
+        matches!(
+            made_with(rt.alloc(), 1000),
+            Some(Err(MakeFault::LongSearches))
+        )
+    );
+}
+
+/// With 100 they look at 5,050 buckets three times, each with a name of ten letters: 212,100 of 1,048,576 and more that are allowed.
+#[test]
+fn a_library_is_made_of_names_of_one_hash(rt: HostRuntime) {
+    assert!(rt; matches!(made_with(rt.alloc(), 100), Some(Ok(_))));
+}
+
+/// Names of each kind, of two modules. Both have the communal c; the second defines it.
+static FIRST: [(Kind, &str); 2] = [(Kind::Public, "a"), (Kind::Communal, "c")];
+
+static SECOND: [(Kind, &str); 3] = [
+    (Kind::Public, "c"),
+    (Kind::Import, "i"),
+    (Kind::Communal, "d"),
+];
+
+/// The module with these names; `None` if memory runs out.
+fn part_with(alloc: Global, names: &[(Kind, &str)]) -> Option<Part> {
+    let mut part = part_of(alloc, LIBRARY.get(16..27).unwrap_or(&[]))?;
+    for (kind, letters) in names {
+        let Ok(name) = Vec::from_slice(alloc, letters.as_bytes()) else {
+            return None;
+        };
+        let kind = *kind;
+        if part.names.push(Defined { kind, name }).is_err() {
+            return None;
+        }
+    }
+    Some(part)
+}
+
+/// What comes of a library of two modules with these names; `None` if memory runs out.
+fn made_of_two(
+    alloc: Global,
+    first: &[(Kind, &str)],
+    second: &[(Kind, &str)],
+) -> Option<Result<Vec<u8>, MakeFault>> {
+    let mut parts = Vec::new(alloc);
+    let one = part_with(alloc, first)?;
+    let other = part_with(alloc, second)?;
+    if parts.push(one).is_err() || parts.push(other).is_err() {
+        return None;
+    }
+    Some(make(alloc, ANY, true, &parts))
+}
+
+#[test]
+fn a_library_is_made_of_names_of_each_kind(rt: HostRuntime) {
+    assert!(rt; matches!(made_of_two(rt.alloc(), &FIRST, &SECOND), Some(Ok(_))));
+}
+
+/// The public of both modules is the first name of the second.
+#[test]
+fn a_public_of_two_modules_makes_no_library(rt: HostRuntime) {
+    let twice = MakeFault::Twice {
+        first: 0,
+        second: 1,
+        name: 0,
+    };
+    match made_of_two(rt.alloc(), &FIRST, &FIRST) {
+        Some(Err(fault)) => assert!(rt; fault == twice),
+        Some(Ok(_)) | None => assert!(rt; false),
+    }
 }
 
 /// The regions of the library: the header's fields and the rest of its page, the member and its padding, the F1H record.

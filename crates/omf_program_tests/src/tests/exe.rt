@@ -25,6 +25,18 @@ const FRAMED: &str =
 /// A module with the public f at 0:1234H, in no segment.
 const ABSOLUTE: &str = "80030001420096040000015400 900A0000000000016634120000 8A02000000";
 
+/// A main module: `mov ax, SEGMENT f` and `retf` in the segment T, where f has the offset FFFFFFF8H in T (a PUBDEF of 32 bits).
+const HIGH: &str =
+    "80030001413B 96040000015400 98070028040002010100 8C040001660000 910A0000010166F8FFFFFF0000 A00800010000B80000CB00 9C0500C801560100 8A0700C1000101000000";
+
+/// A main module: `mov ax, SEGMENT w` and `retf` in the segment T, where w is weak and has the default d, which is at the start of T.
+const WEAK: &str =
+    "80030001413B 96040000015400 98070028040002010100 8C070001770001640000 88050080A8010200 9008000001016400000000 A00800010000B80000CB00 9C0500C801560100 8A0700C1000101000000";
+
+/// The same with d at 0:1234H, in no segment.
+const WEAK_STAYS: &str =
+    "80030001413B 96040000015400 98070028040002010100 8C070001770001640000 88050080A8010200 900A0000000000016434120000 A00800010000B80000CB00 9C0500C801560100 8A0700C1000101000000";
+
 /// A library of two members, which have the publics g and f, each in the segment T of one byte.
 const LIBRARY: &str =
     "F00D0000000000000000000000000000 80030001420096040000015400980700280100020101009008000001016700000000A0050001000090008A020000000080030001420096040000015400980700280100020101009008000001016600000000A00500010000CB008A0200000000F1";
@@ -68,7 +80,7 @@ const NOTHING_LIES_THERE: &str =
 const ONE_LIES_THERE: &str =
     "800300014200 96040000015500 980A0000400000040002010100 A00500010000AB00 8A02000000";
 
-static CASES: [Case; 17] = [
+static CASES: [Case; 20] = [
     // The word at 1 moves. Two paragraphs from the end of the image on, the stack ends at 1:10H.
     Case {
         files: &[("one.obj", ONE)],
@@ -182,6 +194,27 @@ static CASES: [Case; 17] = [
         has_stack: false,
         line: "no start: no main module names one\n",
     },
+    // T is at 0, so f is at FFFFFFF8H, below 2^32. Its frame is at 0, and moves.
+    Case {
+        files: &[("one.obj", HIGH)],
+        program: "4D5A2400010001000200 0000FFFF0000000000000000 00001C000000 01000000 B80000CB",
+        has_stack: false,
+        line: "",
+    },
+    // A weak external moves with its default.
+    Case {
+        files: &[("one.obj", WEAK)],
+        program: "4D5A2400010001000200 0000FFFF0000000000000000 00001C000000 01000000 B80000CB",
+        has_stack: false,
+        line: "",
+    },
+    // Its default stays, and so does the weak external: no word moves.
+    Case {
+        files: &[("one.obj", WEAK_STAYS)],
+        program: "4D5A2400010000000200 0000FFFF0000000000000000 00001C000000 00000000 B80000CB",
+        has_stack: false,
+        line: "",
+    },
 ];
 
 /// A file with bytes in hexadecimal; `None` where it finds no memory.
@@ -255,14 +288,19 @@ const MAP: &str = "module 1 file \"calls.obj\" module 1\n\
     public 2 00000005 \"f\"\n\
     external 1 1 00000005 \"f\"\n";
 
-/// Whether the map of files is a text.
-fn is_mapped(alloc: Global, files: Vec<InputFile>, text: &str) -> bool {
+/// The map of the program of files.
+fn map_of(alloc: Global, files: Vec<InputFile>) -> Option<Vec<u8>> {
     let mut options = ExeOptions::new(alloc, ProgramKind::Exe);
     options.map = Some("a.map");
-    let Ok(made) = made_of(alloc, files, &options) else {
-        return false;
-    };
-    match &made.map {
+    match made_of(alloc, files, &options) {
+        Ok(MadeProgram { map, .. }) => map,
+        Err(_) => None,
+    }
+}
+
+/// Whether the map of files is a text.
+fn is_mapped(alloc: Global, files: Vec<InputFile>, text: &str) -> bool {
+    match map_of(alloc, files) {
         Some(map) => map.as_slice() == text.as_bytes(),
         None => false,
     }
@@ -272,6 +310,43 @@ fn is_mapped(alloc: Global, files: Vec<InputFile>, text: &str) -> bool {
 fn a_map_begins_with_the_modules(rt: HostRuntime) {
     match files_of(rt.alloc(), &CASES[2]) {
         Some(files) => assert!(rt; is_mapped(rt.alloc(), files, MAP)),
+        None => assert!(rt; false),
+    }
+}
+
+/// A file of two modules: CALLS, and one with the public f in the segment T of one byte. And a file with g as a far communal of twice 1 byte.
+static LISTED: Case = Case {
+    files: &[
+        (
+            "both.obj",
+            "80030001413B 96040000015400 98070028050002010100 8C040001660000 A009000100009A0000000000 9C0500CC01560100 8A0700C1000101000000 800300014200 96040000015400 98070028010002010100 9008000001016600000000 A00500010000CB00 8A02000000",
+        ),
+        ("far.obj", "800300014200 B0070001670061020100 8A02000000"),
+    ],
+    program: "",
+    has_stack: false,
+    line: "",
+};
+
+/// The list of the modules: each with its file and its number there; after them that of the communals, which the linker adds.
+const LIST: &str = "module 1 file \"both.obj\" module 1\n\
+    module 2 file \"both.obj\" module 2\n\
+    module 3 file \"far.obj\" module 1\n\
+    module 4 \"communals\"\n\
+    segment 1 1 ";
+
+/// Whether the map of files begins with a text.
+fn is_map_begun(alloc: Global, files: Vec<InputFile>, text: &str) -> bool {
+    match map_of(alloc, files) {
+        Some(map) => map.as_slice().starts_with(text.as_bytes()),
+        None => false,
+    }
+}
+
+#[test]
+fn a_list_names_each_module_of_a_file(rt: HostRuntime) {
+    match files_of(rt.alloc(), &LISTED) {
+        Some(files) => assert!(rt; is_map_begun(rt.alloc(), files, LIST)),
         None => assert!(rt; false),
     }
 }

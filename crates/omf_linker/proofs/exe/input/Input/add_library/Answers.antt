@@ -8,4 +8,5 @@ pub returns-in-Ok-add_members-clause-added : goal.returns-in-Ok-add_members-clau
 returns-in-Ok-add_members-clause-added c =
     let bytes = c.args.bytes.now in
     let library = subst (λ p. AreLibraryMembers p bytes (Ok c.in-Ok.members.items)) c.profile.ensures c.in-Ok.ensures in
-    library-added bytes c.args.self.now.given.items c.args.self.now.members.items _ _ c.in-Ok.members.items c.requires library c.in-Ok-add_members.ensures.given c.in-Ok-add_members.ensures.members
+    let added = c.in-Ok-add_members.ensures in
+    library-added c.args.file bytes c.args.self.now _ c.in-Ok.members.items c.requires library added.given added.members added.given_from added.members_from

@@ -1,7 +1,11 @@
 use Rattle.std.proofs.Common.{take}
 use Rattle.omf_linker.specs.Exe.Input.{AllGive}
+use Rattle.omf_linker.specs.Exe.Origins.{AllFrom}
 use Rattle.omf_linker.proofs.exe.input.Input.of.Given as goal
 
 -- what the files so far give
 abbrev pub invariant-loop-number : goal.invariant-loop-number
-invariant-loop-number l = AllGive (take l.number l.files) l.input.given.items l.input.members.items
+invariant-loop-number l = record {
+  given : AllGive (take l.number l.files) l.input.given.items l.input.members.items;
+  from : AllFrom 0 (take l.number l.files) l.input.given.items l.input.members.items l.input.given_from.items l.input.members_from.items;
+}

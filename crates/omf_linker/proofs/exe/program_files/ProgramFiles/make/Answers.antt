@@ -14,4 +14,4 @@ returns-in_err-made-clause-refused c =
     let linked = ap (λ (p : ProgramModules). p.modules) c.in_ok-linked.ensures.same in
     let own = c.self.inside in
     subst (λ r. IfErr r (IsRefusalFor (IsNotMade options c.args.self))) (sym same)
-    (λ e. not_made options c.args.self own.files.items own.ignores_case own.modules.modules c.in_ok-all.all.modules c.self.view_is c.self.invariant c.in_ok-all.ensures.added (subst (IsNotMadeOf options) linked (c.in_err-made.ensures.refused e)))
+    (λ e. not_made options c.args.self own.files.items own.ignores_case own.modules.modules own.modules.from c.in_ok-all.all.modules c.self.view_is c.self.invariant.0 c.in_ok-all.ensures.added.added (subst (IsNotMadeOf options) linked (c.in_err-made.ensures.refused e)))
