@@ -1,5 +1,6 @@
 #!/usr/bin/env python3
-"""Outputs with names that are something already: a device, a pipe, a link, a file that may not be written, an input, the text, or the other output.
+"""Outputs with names that are something already: a device, a pipe, a link, a file that may not be written, an input, the text, a response file, or the
+other output.
 
 usage: tests/devices/outputs.py
 
@@ -83,7 +84,12 @@ def refused(folder):
         folder.fails([LINK, "draft", "-o", "-", "start.obj"], 2, b'omf-link: "-" is an input and an output\n', output=end)
     for task, name in (("make", "say.obj"), ("make", "sub/say.obj"), ("canon", "small.lib")):
         folder.fails([LIB, task, "-o", name, pathlib.Path(name).name], 2, b'omf-lib: "%s" is an input and an output\n' % name.encode())
-    print("inputs, the text and two outputs of one name: refused, all files as before")
+    (folder.path / "bin.lnk").write_text(" ".join(BIN))
+    (folder.path / "make.lnk").write_text("make say.obj")
+    for name in ("bin.lnk", "sub/bin.lnk"):
+        folder.fails([LINK, "@bin.lnk", "-o", name], 2, b'omf-link: "%s" is an input and an output\n' % name.encode())
+    folder.fails([LIB, "@make.lnk", "-o", "make.lnk"], 2, b'omf-lib: "make.lnk" is an input and an output\n')
+    print("inputs, the text, a response file and two outputs of one name: refused, all files as before")
 
 
 def asked_libraries(folder):

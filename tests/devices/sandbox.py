@@ -22,10 +22,10 @@ from promises import promised
 LOADER = {"execve": 59, "openat": 257, "close": 3, "read": 0, "pread64": 17, "fstat": 5, "newfstatat": 262, "access": 21, "mmap": 9, "mprotect": 10, "munmap": 11,
           "arch_prctl": 158, "set_tid_address": 218, "set_robust_list": 273, "rseq": 334, "prlimit64": 302, "getrandom": 318}
 CHECKS = {"rt_sigprocmask": 14, "sigaltstack": 131, "clock_gettime": 228, "getpid": 39, "readlink": 89, "readlinkat": 267, "madvise": 28, "futex": 202}
-# What a program makes: memory, reading, writing, ignoring the signal of a closed pipe, the end; with files also looking at names; with outputs also giving and removing names.
+# What a program makes: memory, reading, writing, ignoring the signal of a closed pipe, the end; with files also looking at names, and whether there is a terminal; with outputs also giving and removing names.
 MEMORY = {"brk": 12, "mmap": 9, "mremap": 25, "munmap": 11, "madvise": 28}
 STREAMS = {"read": 0, "write": 1, "lseek": 8, "rt_sigaction": 13, "exit": 60, "exit_group": 231}
-FILES = {"openat": 257, "close": 3, "statx": 332, "newfstatat": 262, "fstat": 5, "readlink": 89}
+FILES = {"ioctl": 16, "openat": 257, "close": 3, "statx": 332, "newfstatat": 262, "fstat": 5, "readlink": 89}
 OUTPUTS = {"link": 86, "linkat": 265, "unlink": 87, "unlinkat": 263, "rename": 82, "renameat": 264, "fchmod": 91, "chmod": 90, "ftruncate": 77}
 X86_64, KILL, ALLOW = 0xC000003E, 0x80000000, 0x7FFF0000
 LIBRARIES = [it for it in ("/lib", "/lib64", "/usr/lib", "/usr/lib64", "/etc/ld.so.cache") if pathlib.Path(it).exists()]

@@ -10,6 +10,7 @@ use crate::output::put;
 use crate::spot::{Spot, input_spot, output_spot};
 use crate::streams::Streams;
 use crate::text::put_quoted;
+use crate::words::response_names;
 use omf_frame::Sink;
 use std::alloc::{AllocError, Global};
 
@@ -61,6 +62,17 @@ fn first_clash(inputs: &[Spot], output: &Spot, second: Option<&Spot>) -> Option<
     }
 }
 
+/// Adds the response files of the process, which are inputs too, where there are such files.
+fn add_responses(rt: &HostRuntime, spots: &mut Vec<Spot>) -> Result<(), AllocError> {
+    for name in response_names(rt)? {
+        let spot = input_spot(rt, name.as_str())?;
+        if let Spot::There(_) = spot {
+            spots.push(spot)?;
+        }
+    }
+    Ok(())
+}
+
 /// Where the names of the inputs lead.
 fn input_spots(rt: &HostRuntime, files: RunFiles<'_>) -> Result<Vec<Spot>, AllocError> {
     let mut spots = Vec::new(rt.alloc());
@@ -70,6 +82,7 @@ fn input_spots(rt: &HostRuntime, files: RunFiles<'_>) -> Result<Vec<Spot>, Alloc
     if let Some(text) = files.text {
         spots.push(input_spot(rt, text)?)?;
     }
+    add_responses(rt, &mut spots)?;
     Ok(spots)
 }
 
@@ -108,7 +121,7 @@ fn clash_line(alloc: Global, program: &str, name: &str, clash: Clash) -> Result<
     Ok(line)
 }
 
-/// Refuses outputs that are an input of the same run, or one another, with a line on the standard error. Two names are one file if they point
+/// Refuses outputs that are an input of the same run, or one another, with a line on the standard error. A response file is an input. Two names are one file if they point
 /// to one device and inode, through links; or, where nothing is there yet, to one name in one folder. A device (but a disk), a pipe or a socket
 /// may be named more than once: writing destroys nothing of it. Call it before anything is read. Nothing is written on the standard output,
 /// which may be the very input. Returns `Misused`; or None if the outputs are not refused.

@@ -1,8 +1,8 @@
 //! Files by name: reading, and writing of new files.
 
-use std::alloc::AllocError;
+use std::alloc::{AllocError, Global};
 use std::fs::{File, Metadata};
-use std::io::{Read, Write};
+use std::io::{ErrorKind, Read, Write};
 use std::{fs, io};
 
 /// The bytes of a file, or of the standard input if its name is `-`. They take no room beyond their own, since a program may hold
@@ -42,12 +42,7 @@ fn fill(file: &mut File, bytes: &[u8], like: Option<&Metadata>) -> io::Result<()
 }
 
 /// Writes a file under a name that is not there yet, with the mode of another one, if there is one. An error leaves no such file.
-pub(crate) fn fill_new(
-    rt: &HostRuntime,
-    path: &str,
-    bytes: &[u8],
-    like: Option<&Metadata>,
-) -> io::Result<()> {
+fn fill_new(rt: &HostRuntime, path: &str, bytes: &[u8], like: Option<&Metadata>) -> io::Result<()> {
     let mut file = File::create_new(rt, path)?;
     match fill(&mut file, bytes, like) {
         Ok(()) => Ok(()),
@@ -55,6 +50,31 @@ pub(crate) fn fill_new(
             let _ = fs::remove_file(rt, path);
             Err(error)
         }
+    }
+}
+
+/// Why a file can't be written beside the one of a path: one is there, perhaps of a run that was stopped. Its name is in the words.
+fn left_beside(alloc: Global, beside: &str) -> Result<io::Error, AllocError> {
+    let name = match beside.rsplit_once('/') {
+        Some((_folder, name)) => name,
+        None => beside,
+    };
+    let words = format!(in alloc; "{name} is there already: remove it")?;
+    Ok(io::Error::new(ErrorKind::AlreadyExists, words.as_str()))
+}
+
+/// Writes a file beside another one, as `fill_new` does. Where one is there already the error has its name.
+pub(crate) fn fill_beside(
+    rt: &HostRuntime,
+    beside: &str,
+    bytes: &[u8],
+    like: Option<&Metadata>,
+) -> Result<io::Result<()>, AllocError> {
+    match fill_new(rt, beside, bytes, like) {
+        Err(error) if error.kind() == ErrorKind::AlreadyExists => {
+            Ok(Err(left_beside(rt.alloc(), beside)?))
+        }
+        filled => Ok(filled),
     }
 }
 
@@ -93,7 +113,7 @@ pub fn write_new(rt: &HostRuntime, path: &str, bytes: &[u8]) -> Result<Written, 
         return Ok(Written::IsThere);
     }
     let beside = format!(in rt.alloc(); "{path}.tmp")?;
-    if let Err(error) = fill_new(rt, beside.as_str(), bytes, None) {
+    if let Err(error) = fill_beside(rt, beside.as_str(), bytes, None)? {
         return Ok(Written::Failed(error));
     }
     let written = move_new(rt, beside.as_str(), path);

@@ -12,7 +12,7 @@ use crate::usage::{
     Shown, bare, form_named, form_with, has_word, is_allowed, is_one_of, is_option, is_placeholder,
     next_argument, parts_of, shown_of, tasks_of, what_is_allowed,
 };
-use crate::words::arguments;
+use crate::words::{SpelledArguments, spelled_arguments};
 use omf_frame::Sink;
 use std::alloc::{AllocError, Global};
 
@@ -279,22 +279,20 @@ fn put_both(text: &mut String, first: &str, second: &str) -> Result<(), AllocErr
 /// Appends what is wrong.
 fn put_misuse(text: &mut String, misuse: Misuse<'_>) -> Result<(), AllocError> {
     let (front, name, back) = match misuse {
-        Misuse::NoTask => ("no task", "", ""),
+        Misuse::NoTask => return text.push_str("no task"),
+        Misuse::Other => return text.push_str("the options do not go together"),
+        Misuse::WrongValue(given) => return put_wrong_value(text, given),
+        Misuse::Both(first, second) => return put_both(text, first, second),
         Misuse::UnknownTask(name) => ("there is no task ", name, ""),
         Misuse::UnknownOption(name) => ("there is no option ", name, ""),
         Misuse::NoValue(name) => ("the option ", name, " has no value"),
-        Misuse::WrongValue(given) => return put_wrong_value(text, given),
         Misuse::Twice(name) => ("the option ", name, " is given twice"),
-        Misuse::Both(first, second) => return put_both(text, first, second),
         Misuse::NoOption(name) => ("the option ", name, " is missing"),
         Misuse::NoArgument(name) => ("no ", name, " is given"),
         Misuse::OneTooMany(name) => ("", name, " is one file too many"),
-        Misuse::Other => ("the options do not go together", "", ""),
     };
     text.push_str(front)?;
-    if !name.is_empty() {
-        put_quoted(text, name.as_bytes())?;
-    }
+    put_quoted(text, name.as_bytes())?;
     text.push_str(back)
 }
 
@@ -316,10 +314,33 @@ pub fn misuse_line(
     Ok(line)
 }
 
+/// The words on arguments of which some are not UTF-8, the first of them in quotes; or on arguments that are not understood.
+fn misuse_words(
+    alloc: Global,
+    about: &About,
+    given: &SpelledArguments,
+) -> Result<String, AllocError> {
+    let mut line = String::new(alloc);
+    match given.spelled.first() {
+        Some(first) => {
+            line.push('"')?;
+            line.push_str(first.as_str())?;
+            line.push_str("\" is not UTF-8, and the name of a file must be\n")?;
+        }
+        None => {
+            put_misuse(&mut line, wrong(about.usage, given.words.as_slice()))?;
+            line.push('\n')?;
+        }
+    }
+    Ok(line)
+}
+
 /// What a program shows of itself.
 pub struct About {
     /// Its name.
     pub name: &'static str,
+    /// The same in color, as a terminal shows it.
+    pub colored_name: &'static str,
     /// How it is called, a line or more for each way, as `usage: omf-x task [--option VALUE] FILE ..`: what is in brackets may be left out, names in
     /// capitals are for values (ADDRESS, SIZE, SELECTOR, BYTE are hexadecimal; N, BYTES decimal), and an option with `..` may be given several times.
     pub usage: &'static str,
@@ -380,13 +401,9 @@ pub fn misused_by<K, E: Sink>(
     ensures status { IfOk result (λ status. status ≡ Misused) }
     ensures output { streams.new.output ≡ streams.old.output }
 {
-    let Some(arguments) = arguments(rt, about.usage)? else {
-        let _ = put(&mut streams.errors, about.name.as_bytes());
-        let _ = put(&mut streams.errors, b": an argument is not UTF-8\n");
-        return Ok(misused(streams, about.usage.as_bytes()));
-    };
-    let line = misuse_line(rt.alloc(), about, &arguments)?;
-    let usage = usage_for(rt.alloc(), about, &arguments)?;
-    let _ = put(&mut streams.errors, line.as_bytes());
+    let given = spelled_arguments(rt, about.usage)?;
+    let line = misuse_words(rt.alloc(), about, &given)?;
+    let usage = usage_for(rt.alloc(), about, given.words.as_slice())?;
+    streams.report(rt.alloc(), line.as_bytes())?;
     Ok(misused(streams, usage.as_bytes()))
 }

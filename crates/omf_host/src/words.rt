@@ -1,10 +1,16 @@
 //! The arguments of the process.
 
 use crate::files::read_input;
+use crate::text::put_name;
 use crate::usage::{has_word, is_option, shown_of};
 use std::alloc::{AllocError, Global};
 use std::env;
+use std::env::Env;
 use std::io::ErrorKind;
+use std::str::from_utf8;
+
+/// The most bytes of an argument, with the zero at its end: the system passes no longer one.
+const LONGEST: usize = 131_072;
 
 /// Arguments, as a program takes them.
 #[derive(Drop)]
@@ -104,6 +110,29 @@ fn response(rt: &HostRuntime, argument: &str) -> Result<Option<Vec<String>>, All
     }
 }
 
+/// The names that may be those of response files: what follows an `@` in front of an argument of the process, up to `--`.
+///
+/// # Errors
+///
+/// `AllocError` if out of memory.
+pub(crate) fn response_names(rt: &HostRuntime) -> Result<Vec<String>, AllocError> {
+    let mut names = Vec::new(rt.alloc());
+    let words = match env::args(rt) {
+        Ok(words) => words,
+        Err(error) if error.kind() == ErrorKind::OutOfMemory => return Err(AllocError),
+        Err(_) => return Ok(names),
+    };
+    for word in words.skip(1) {
+        if word.as_str() == "--" {
+            break;
+        }
+        if let Some(name) = word.as_str().strip_prefix('@') {
+            names.push(String::from_str(rt.alloc(), name)?)?;
+        }
+    }
+    Ok(names)
+}
+
 /// Takes the arguments as a program does, with those of response files in their place.
 fn taken(
     rt: &HostRuntime,
@@ -146,6 +175,64 @@ fn arguments_from(
         Err(error) if error.kind() == ErrorKind::OutOfMemory => Err(AllocError),
         Err(_) => Ok(None),
     }
+}
+
+/// The bytes of an argument of the process; None after the last one.
+fn argument(rt: &HostRuntime, number: usize) -> Result<Option<Vec<u8>>, AllocError> {
+    let mut bytes = Vec::new(rt.alloc());
+    bytes.resize(LONGEST, 0)?;
+    match rt.arg(number, &mut bytes) {
+        Ok(length) => {
+            bytes.truncate(length);
+            Ok(Some(bytes))
+        }
+        Err(_) => Ok(None),
+    }
+}
+
+/// Arguments of the process, each as text.
+#[derive(Drop)]
+pub struct SpelledArguments {
+    /// The arguments without the program's own name, as `arguments` has them. Of one that is not UTF-8 the bytes other than plain ASCII are `\xNN`,
+    /// as names are printed.
+    pub words: Vec<String>,
+    /// Those that are not UTF-8.
+    pub spelled: Vec<String>,
+}
+
+impl SpelledArguments {
+    /// Adds an argument.
+    fn add(&mut self, alloc: Global, bytes: Vec<u8>) -> Result<(), AllocError> {
+        if let Ok(text) = from_utf8(&bytes) {
+            return Ok(self.words.push(String::from_str(alloc, text)?)?);
+        }
+        let mut text = String::new(alloc);
+        put_name(&mut text, &bytes)?;
+        self.spelled.push(text.clone()?)?;
+        Ok(self.words.push(text)?)
+    }
+}
+
+/// The arguments of the process as text, for a program with this usage.
+///
+/// # Errors
+///
+/// `AllocError` if out of memory.
+pub fn spelled_arguments(rt: &HostRuntime, usage: &str) -> Result<SpelledArguments, AllocError> {
+    let alloc = rt.alloc();
+    let mut given = SpelledArguments {
+        words: Vec::new(alloc),
+        spelled: Vec::new(alloc),
+    };
+    for number in 1..usize::MAX {
+        match argument(rt, number)? {
+            Some(bytes) => given.add(alloc, bytes)?,
+            None => break,
+        }
+    }
+    let SpelledArguments { words, spelled } = given;
+    let words = taken(rt, usage, words, false)?;
+    Ok(SpelledArguments { words, spelled })
 }
 
 /// The arguments of the process without the program's own name, for a program with this usage; None if one of them is not UTF-8. `@FILE` is

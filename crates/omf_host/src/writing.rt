@@ -4,7 +4,7 @@ ghost use Rattle.std.specs.Prelude.{◌≡◌, IfOk, None, Some, false, option_m
 ghost use Rattle.omf_host.specs.Outputs.{AreAllOnOutput, IsLeft, IsPutIf, is_standard};
 ghost use Rattle.omf_host.specs.Inner.Outputs.{ArePutIf, goes_on_output};
 
-use crate::files::{Written, fill_new, move_new};
+use crate::files::{Written, fill_beside, move_new};
 use crate::spot::{Node, followed};
 use omf_frame::{Sink, push_all};
 use std::alloc::AllocError;
@@ -108,7 +108,7 @@ fn ready_beside(
         return Ok(Err(Error::from(ErrorKind::InvalidFilename)));
     }
     let beside = format!(in rt.alloc(); "{path}.tmp")?;
-    if let Err(error) = fill_new(rt, beside.as_str(), output.bytes, found) {
+    if let Err(error) = fill_beside(rt, beside.as_str(), output.bytes, found)? {
         return Ok(Err(error));
     }
     Ok(Ok(if found.is_some() {

@@ -46,6 +46,7 @@ fn numbers_have_all_digits(rt: HostRuntime) -> Result<(), Fail> {
 /// A program with tasks.
 const TASKS: About = About {
     name: "tool",
+    colored_name: "tool",
     usage: "usage: omf-tool list|check [--all] LIB NAME ..
        omf-tool make [--base ADDRESS | --flat SELECTOR] [--kind a|b ..]
            [--size SIZE] [--stack BYTES] [--fill BYTE] -o OUT FILE
@@ -56,6 +57,7 @@ const TASKS: About = About {
 /// A program without tasks, with two forms.
 const PLAIN: About = About {
     name: "show",
+    colored_name: "show",
     usage: "usage: omf-show [--json] [--data N] [FILE ..]
        omf-show --all|--one [--json | --csv] [FILE ..]
 ",
