@@ -113,7 +113,7 @@ function shownValue(key, value, type, wide, isOfItem) {
     return ["name", "text", "public", "meaning", "looks-like"].includes(key) && !(key === "meaning" && type === "COMENT") ? shownName(value) : value;
   }
   if (type === "COMENT" || key === "flags" || key === "byte" || (key === "offset" && type === "SEGDEF")) return hex(value, 2) + "H";
-  if (key === "type" && !isOfItem) return hex(value, 2) + "H";
+  if ((key === "type" || key === "checksum") && !isOfItem) return hex(value, 2) + "H";
   if (["offset", "at", "displacement", "length"].includes(key)) return hex(value, digits) + "H";
   if (["frame", "count", "size"].includes(key)) return hex(value, 4) + "H";
   return String(value);
@@ -133,6 +133,7 @@ function recordTree(bytes, from, to, dump, dataAt) {
   }
   const places = recordPlaces(type, cursor, wide, to);
   places.type = [from, from + 1];
+  places.checksum = [to - 1, to];
   for (const [key, value] of Object.entries(dump)) {
     if (FRAME.has(key)) continue;
     const [first, end] = places[key] || [from, to];
@@ -161,7 +162,7 @@ function recordSummary(dump, wide) {
   if (dump.unjudged) return `length ${hex(dump.length, 4)}H  unjudged`;
   const words = [];
   for (const [key, value] of Object.entries(dump)) {
-    if (FRAME.has(key) || key === "type" || key === "data" || key === "left-out" || value === false) continue;
+    if (FRAME.has(key) || key === "type" || key === "checksum" || key === "data" || key === "left-out" || value === false) continue;
     words.push(value === true ? key : `${key} ${shownValue(key, value, dump.record, wide)}`);
   }
   const items = dump.items || [];

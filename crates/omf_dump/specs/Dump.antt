@@ -20,7 +20,7 @@ abbrev pub shown_after : List Rec → Rec → Shown
 shown_after before r = shown (tables before) (fixed_data before) (subrecords before) (width_of r.kind) r.contents
 
 abbrev pub record_dump : Style → List Raw → Raw → List ℕ
-record_dump f before r = record_text f (length before) (length (flat_map raw_bytes before)) r.kind (shown_after (recs before) (typed r))
+record_dump f before r = record_text f (length before) (length (flat_map raw_bytes before)) r.kind r.checksum (shown_after (recs before) (typed r))
 
 -- All records in order, none left out.
 abbrev pub dump_text : Style → List Raw → List ℕ

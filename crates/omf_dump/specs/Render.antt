@@ -4,7 +4,7 @@ use Rattle.std.specs.List.{range_with_len}
 use Rattle.omf_frame.specs.Types.{width_bytes}
 use Rattle.omf_frame.specs.declared.kinds.Width.{Width}
 use Rattle.omf_placement.specs.Quoted.{hex, is_plain}
-use Rattle.omf_dump.specs.Fields.{Entry, Value, Number, Signed, Hex, Word, Characters, Bytes, Marked, Named, Method, Flag, Depth, Field, Item, Block, Shown}
+use Rattle.omf_dump.specs.Fields.{Entry, Value, Number, Signed, Hex, Word, Characters, Bytes, Marked, Named, Method, Flag, Depth, Field, field, Item, Block, Shown}
 use Rattle.omf_dump.specs.Words.{type_word}
 use Rattle.omf_dump.specs.declared.format.Format.{Format}
 use Rattle.omf_dump.specs.declared.format.Style.{Style}
@@ -221,5 +221,12 @@ closing style items block = line_end style.format ++ (list_text style.format ite
 abbrev pub shown_text : Style → Shown → List ℕ
 shown_text style s = fields_text style.format s.fields ++ closing style s.items s.block
 
-abbrev pub record_text : Style → ℕ → ℕ → ℕ → Shown → List ℕ
-record_text style number start kind s = head_text style.format number start kind ++ shown_text style s
+-- The checksum byte of a record, after its type name. It is 0 where the compiler wrote no sum (section Record Format).
+abbrev pub checksum_text : Format → ℕ → List ℕ
+checksum_text f checksum = field_text f (field (codes "checksum") (Hex 2 checksum))
+
+abbrev pub framed_head : Format → ℕ → ℕ → ℕ → ℕ → List ℕ
+framed_head f number start kind checksum = head_text f number start kind ++ checksum_text f checksum
+
+abbrev pub record_text : Style → ℕ → ℕ → ℕ → ℕ → Shown → List ℕ
+record_text style number start kind checksum s = framed_head style.format number start kind checksum ++ shown_text style s

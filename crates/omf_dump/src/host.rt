@@ -6,10 +6,10 @@ use crate::format::Format;
 use crate::listing::{header_line, list_input};
 use crate::options::{Asked, Task, read_arguments};
 use crate::value::put_quoted;
-use omf_frame::{Sink, Writing};
+use omf_frame::Sink;
 use omf_host::{
-    About, StandardOutput, Status, Streams, arguments, end, explain, misused_by, out_of_memory,
-    put, put_title, put_unread, question_in, read_input,
+    About, Progress, Status, Streams, arguments, end, explain, misused_by, out_of_memory, put,
+    put_title, put_unread, question_in, read_input, standard_streams,
 };
 use std::alloc::{AllocError, Global};
 use std::io;
@@ -18,6 +18,7 @@ use std::process::ExitCode;
 /// What the program shows of itself.
 const ABOUT: About = About {
     name: "omf-dump",
+    colored_name: "\x1B[1;36momf-dump\x1B[0m",
     usage: "usage: omf-dump [--json] [--data N] [--refuse-vendor-comments] [FILE ..]
        omf-dump --verdict|--names [--json | --csv] [--refuse-vendor-comments]
            [FILE ..]
@@ -172,9 +173,12 @@ fn show_inputs<K: Sink, E: Sink>(
     }
     let is_titled = names.len() > 1 && asked.task == Task::Records;
     let mut status = Status::Done;
-    for name in names {
+    let mut progress = Progress::new(rt);
+    for (at, name) in names.iter().enumerate() {
+        let _ = progress.show(rt, streams, at, names.len());
         status = show_input(rt, asked, name.as_str(), is_titled, streams).worst(status);
     }
+    progress.end(streams);
     status
 }
 
@@ -208,9 +212,7 @@ fn act<K: Sink, E: Sink>(
 /// Runs the program. Returns the exit status: 0 done, 1 an input is refused, 2 the arguments are not understood, 3 an input could not be read, the
 /// output could not be written, or memory ran out.
 pub fn run(rt: &HostRuntime) -> ExitCode {
-    let about = &ABOUT;
-    let output = StandardOutput::new(rt.stdout());
-    let mut streams = Streams::new(about.name, output, Writing::new(rt.stderr()));
+    let mut streams = standard_streams(rt, &ABOUT);
     let status = match act(rt, &mut streams) {
         Ok(status) => status,
         Err(AllocError) => out_of_memory(&mut streams),

@@ -3,8 +3,9 @@
 ghost use Rattle.std.specs.Prelude.{◌≡◌, ◌+◌, ◌++◌, ◌<◌, ◌≤◌, ◌^◌, ◌∷◌, [], Some, codes, length, map, replicate};
 ghost use Rattle.omf_frame.specs.Bytes.{AddsText};
 ghost use Rattle.omf_dump.specs.Words.{type_word};
-ghost use Rattle.omf_dump.specs.Render.{block_text, bytes_block, head_text, is_shown, item_end, item_start, kind_head, left_out, line_end, list_end, list_start, many_bytes, more_bytes, place_head, record_end, row, rows, shown_byte, some_left_out};
+ghost use Rattle.omf_dump.specs.Render.{block_text, bytes_block, framed_head, head_text, is_shown, item_end, item_start, kind_head, left_out, line_end, list_end, list_start, many_bytes, more_bytes, place_head, record_end, row, rows, shown_byte, some_left_out};
 
+use crate::field::small;
 use crate::format::{Format, Style};
 use crate::part::first;
 use crate::value::{put_after_spaces, put_bytes};
@@ -102,6 +103,19 @@ pub(crate) fn open_record(
 {
     put_number_head(text, format, u64::from(raw.number), raw.start)?;
     put_kind_head(text, format, raw.kind)
+}
+
+/// Begins a record, with its checksum byte.
+pub(crate) fn open_framed(
+    text: &mut Vec<u8>,
+    format: Format,
+    raw: &RawRecord<'_>,
+    checksum: u8,
+) -> Result<(), AllocError>
+    ensures { AddsText result text.old.items text.new.items (framed_head format raw.now.number raw.now.start raw.now.kind checksum) }
+{
+    open_record(text, format, raw)?;
+    small(text, format, "checksum", checksum)
 }
 
 /// Ends the fields of a record, in text its first line.

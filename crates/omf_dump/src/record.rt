@@ -25,7 +25,7 @@ use crate::contents::{
 };
 use crate::entry::Entry;
 use crate::format::Style;
-use crate::item::{close_list, close_record, end_fields, open_list, open_record, put_block};
+use crate::item::{close_list, close_record, end_fields, open_framed, open_list, put_block};
 use crate::items::{put_communals, put_externals, put_members, put_names, put_publics};
 use crate::known::{Data, Known, Tables};
 use crate::pairs::put_pairs;
@@ -366,19 +366,20 @@ fn show_contents<'a>(
     }
 }
 
-/// A record: its head, and its contents, or its bytes if these have a fault of layout. Keeps what it gives later records.
+/// A record: its head, its checksum byte, and its contents, or its bytes if these have a fault of layout. Keeps what it gives later records.
 pub(crate) fn show_record<'a>(
     text: &mut Vec<u8>,
     style: Style,
     known: &mut Known<'a>,
     raw: RawRecord<'a>,
+    checksum: u8,
 ) -> Result<(), AllocError>
     requires taken { IsTrue (is_taken raw.kind) }
     requires short { length raw.body.now ≤ 65534 }
-    ensures text { AddsText result text.old.items text.new.items (record_text style raw.entry.number raw.entry.start raw.entry.kind (shown_by known.old (width_of raw.entry.kind) (contents_or raw.entry.body.now (read_body raw.entry.kind raw.entry.body.now)))) }
+    ensures text { AddsText result text.old.items text.new.items (record_text style raw.entry.number raw.entry.start raw.entry.kind checksum (shown_by known.old (width_of raw.entry.kind) (contents_or raw.entry.body.now (read_body raw.entry.kind raw.entry.body.now)))) }
     ensures keeps { OnOk result (Keeps known.old (contents_or raw.entry.body.now (read_body raw.entry.kind raw.entry.body.now)) known.new) }
 {
-    open_record(text, style.format, &raw)?;
+    open_framed(text, style.format, &raw, checksum)?;
     match view(raw) {
         Ok(rec) => show_contents(text, style, known, Width::of(raw.kind), &rec),
         Err(_) => show_carried(text, style, raw.body),

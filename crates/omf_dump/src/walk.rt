@@ -2,7 +2,8 @@
 
 ghost use Rattle.std.specs.Prelude.{◌≡◌, ◌++◌, [], List};
 ghost use Rattle.omf_frame.specs.Device.{Writes};
-ghost use Rattle.omf_frame.specs.Framing.{Raw};
+ghost use Rattle.omf_frame.specs.Framing.{Raw, front_record, present};
+ghost use Rattle.omf_check.specs.Listed.{StartsWithRecord};
 ghost use Rattle.omf_dump.specs.Dump.{AreRecords, dump_text};
 ghost use Rattle.omf_dump.specs.Inner.Walking.{Holds, Passes};
 
@@ -14,6 +15,20 @@ use crate::record::show_record;
 use omf_check::{Threads, split_record};
 use omf_frame::{RawRecord, Sink};
 use std::alloc::Global;
+
+/// The checksum byte of the first record, which is whole.
+fn checksum_of(bytes: &[u8]) -> u8
+    requires { StartsWithRecord bytes.now }
+    ensures { result ≡ (front_record (present bytes.now)).checksum }
+{
+    match bytes {
+        [_, low, high, rest @ ..] => {
+            let size = usize::from(*low) + 256 * usize::from(*high);
+            rest[size - 1]
+        }
+        _ => unreachable!(),
+    }
+}
 
 /// Writes what is shown of the records of `bytes`, in order, in pieces. The end of it is left in `text`.
 fn show_records<'a, K: Sink>(
@@ -39,7 +54,7 @@ fn show_records<'a, K: Sink>(
             number,
             start,
         };
-        let Ok(()) = show_record(text, style, known, raw) else {
+        let Ok(()) = show_record(text, style, known, raw, checksum_of(left)) else {
             return Err(DumpFault::Memory);
         };
         send_piece(writer, text)?;

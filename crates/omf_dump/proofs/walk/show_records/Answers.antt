@@ -26,6 +26,14 @@ split_record-requires g c =
     let n = next_of c.args.style c.args.bytes.now records c.loop-left.known c.loop-left.number c.loop-left.start c.loop-left.left.now [] (c.loop-left.invariant.streamed.front ++ c.loop-left.text.items) are some (c.loop-left.invariant.streamed.walked records are) in
     begins c.args.style records c.loop-left.known c.loop-left.number c.loop-left.start c.loop-left.left.now [] (c.loop-left.invariant.streamed.front ++ c.loop-left.text.items) n
 
+pub checksum_of-requires : goal.checksum_of-requires
+checksum_of-requires g c =
+    let records = c.requires.records.0 in
+    let are = c.requires.records.1 in
+    let some : 0 < length c.loop-left.left.now = grind (arith, nat_tests) in
+    let n = next_of c.args.style c.args.bytes.now records c.loop-left.known c.loop-left.number c.loop-left.start c.loop-left.left.now [] (c.loop-left.invariant.streamed.front ++ c.loop-left.text.items) are some (c.loop-left.invariant.streamed.walked records are) in
+    begins c.args.style records c.loop-left.known c.loop-left.number c.loop-left.start c.loop-left.left.now [] (c.loop-left.invariant.streamed.front ++ c.loop-left.text.items) n
+
 pub show_record-requires : goal.show_record-requires
 show_record-requires g c =
     let records = c.requires.records.0 in
@@ -57,8 +65,8 @@ returns-in_err-send_piece g c = λ records are.
     let p = err_from_is_err_and c.from_residual.result c.from_residual.ensures.1 in
     let front = c.loop-left.invariant.streamed.front in
     let made : front ++ c.show_record.new.text.items ≡ (front ++ c.loop-left.text.items) ++ _ = ap (λ (t : List ℕ). front ++ t) c.in-Ok.ensures.text ∙ sym (append_assoc front c.loop-left.text.items _) in
-    let walked = shown_next c.args.style c.args.bytes.now records c.loop-left.known c.show_record.new.known c.loop-left.number c.loop-left.start c.split_record.result.0.kind c.split_record.result.0.body.now c.loop-left.left.now
-    c.split_record.result.1.now [] (front ++ c.loop-left.text.items) (front ++ c.show_record.new.text.items) are some (c.loop-left.invariant.streamed.walked records are) c.split_record.ensures.kind c.split_record.ensures.body
+    let walked = shown_next c.args.style c.args.bytes.now records c.loop-left.known c.show_record.new.known c.loop-left.number c.loop-left.start c.split_record.result.0.kind c.checksum_of.result c.split_record.result.0.body.now c.loop-left.left.now
+    c.split_record.result.1.now [] (front ++ c.loop-left.text.items) (front ++ c.show_record.new.text.items) are some (c.loop-left.invariant.streamed.walked records are) c.split_record.ensures.kind c.checksum_of.ensures c.split_record.ensures.body
     c.split_record.ensures.rest made c.in-Ok.ensures.keeps in
     rw p.1 (stopped c.args.style records c.show_record.new.known _ _ c.split_record.result.1.now (g.K.Sink.seen c.args.writer.now).bytes (g.K.Sink.seen c.loop-left.writer).bytes (g.K.Sink.seen c.send_piece.new.writer).bytes
     front c.show_record.new.text.items c.loop-left.invariant.streamed.written walked c.in_err-send_piece.ensures)
@@ -73,8 +81,8 @@ loop-left-preserved g c =
         front = front ++ sent.front;
         written = Appends-trans (g.K.Sink.seen c.args.writer.now).bytes (g.K.Sink.seen c.loop-left.writer).bytes (g.K.Sink.seen c.send_piece.new.writer).bytes front sent.front c.loop-left.invariant.streamed.written sent.written;
         walked = λ records are.
-            shown_next c.args.style c.args.bytes.now records c.loop-left.known c.show_record.new.known c.loop-left.number c.loop-left.start c.split_record.result.0.kind c.split_record.result.0.body.now c.loop-left.left.now
-            c.split_record.result.1.now [] (front ++ c.loop-left.text.items) _ are some (c.loop-left.invariant.streamed.walked records are) c.split_record.ensures.kind c.split_record.ensures.body c.split_record.ensures.rest
+            shown_next c.args.style c.args.bytes.now records c.loop-left.known c.show_record.new.known c.loop-left.number c.loop-left.start c.split_record.result.0.kind c.checksum_of.result c.split_record.result.0.body.now c.loop-left.left.now
+            c.split_record.result.1.now [] (front ++ c.loop-left.text.items) _ are some (c.loop-left.invariant.streamed.walked records are) c.split_record.ensures.kind c.checksum_of.ensures c.split_record.ensures.body c.split_record.ensures.rest
             (sent_on (g.K.Sink.seen c.loop-left.writer).bytes (g.K.Sink.seen c.send_piece.new.writer).bytes front c.loop-left.text.items _ c.show_record.new.text.items c.send_piece.new.text.items c.in-Ok.ensures.text sent)
             c.in-Ok.ensures.keeps;
       };
