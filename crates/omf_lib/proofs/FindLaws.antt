@@ -1,18 +1,26 @@
 -- What is found so far, and what is left.
 use Rattle.std.proofs.Common.{◌≡◌, ℕ, ◌+◌, ◌<◌, Bool, true, false, List, [], ◌∷◌, ◌++◌, length, drop, get_or, refl, sym, ap, ap₂, subst, inr, ◌∙◌, append_assoc}
 use Rattle.std.proofs.lemmas.List.{append-nil, drop_more}
-use Rattle.std.specs.Prelude.{◌||◌, Option, Result, Ok, map, string_bytes}
+use Rattle.std.specs.Prelude.{◌||◌, Option, Some, None, Result, Ok}
+use Rattle.omf_library.specs.Dictionary.{HasOther}
 use Rattle.omf_library.specs.Library.{header_of}
+use Rattle.omf_library.specs.LibraryMembers.{names_kept}
 use Rattle.omf_library.specs.Made.{IsDictionary}
 use Rattle.omf_library.specs.declared.dictionary.Dictionary.{Dictionary}
 use Rattle.omf_library.specs.declared.header.Header.{Header}
 use Rattle.omf_library.specs.declared.spans.Span.{Span}
 use Rattle.omf_library.specs.declared.spans.SpanFault.{SpanFault}
-use Rattle.omf_lib.specs.Find.{AreNamesFound, ArePlaces, IsFound, IsFoundIn, IsNameFound, any_profile, is_nowhere, name_text}
+use Rattle.omf_lib.specs.Find.{AreNamesFound, ArePlaces, IsFound, IsFoundIn, IsNameFound, IsSpelledAt, any_profile, is_nowhere, name_text}
 use Rattle.omf_lib.specs.Members.{AreAllPublics, ArePublics, IsLibraryRead, Public, publics_seen}
 use Rattle.omf_lib.specs.declared.asked.Find.{Find}
+use Rattle.omf_lib.specs.declared.finding.First.{First}
 use Rattle.omf_lib.specs.declared.finding.Listed.{Listed}
 use Rattle.omf_lib.specs.declared.library.Library.{Library}
+
+-- a bucket that has no entry of a name has another or none
+pub other_there : (sensitive : Bool) (block : List ℕ) (bucket : ℕ) (name : List ℕ) (found : Option First) → ((f : First) → found ≡ Some f → ⊥) → IsSpelledAt sensitive block bucket name found → HasOther sensitive block bucket name
+other_there sensitive block bucket name None none s = s
+other_there sensitive block bucket name (Some f) none s = absurd (none f refl)
 
 -- with the publics of the members that are left, the publics so far are those of all members
 abbrev pub IsFrontOf : List Span → ℕ → List Span → List Listed → Type 0
@@ -91,7 +99,7 @@ found_there asked bytes l is_refused old new r p =
 
 -- the names in a library that has an end
 pub found_names : (asked : Find) (h : Header) (bytes : List ℕ) (members given : List Span) (end : Result ℕ SpanFault) (e : ℕ) (dictionary : Option Dictionary) (all : List Listed) (slice : List Listed) (names : List (List ℕ)) (is_refused : Bool) (old new : List ℕ)
-    → end ≡ Ok e → IsDictionary h bytes dictionary → given ≡ members → slice ≡ all → names ≡ map string_bytes asked.names.items → AreAllPublics any_profile 0 given (publics_seen all)
+    → end ≡ Ok e → IsDictionary h bytes dictionary → given ≡ members → slice ≡ all → names ≡ names_kept asked.names.items → AreAllPublics any_profile 0 given (publics_seen all)
     → (own : List ℕ) × AreNamesFound asked.ignores_case dictionary (publics_seen slice) names is_refused own × (new ≡ old ++ own)
     → (own : List ℕ) × IsFoundIn asked h bytes members end is_refused own × (new ≡ old ++ own)
 found_names asked h bytes members given end e dictionary all slice names is_refused old new r d g s n a p =

@@ -1,10 +1,13 @@
 -- What `omf-lib find` prints (a format of this profile).
-use Rattle.std.specs.Prelude.{◌≡◌, ◌⊎◌, ℕ, ◌==◌, ◌&&◌, ◌||◌, not, Bool, true, false, if◌then◌else◌, List, [], ◌∷◌, ◌++◌, flat_map, map, codes, decimal, string_bytes, Option, Some, None, Result, Ok, Err}
+use Rattle.std.specs.Prelude.{◌≡◌, ◌⊎◌, ◌<◌, ℕ, ◌==◌, ◌&&◌, ◌||◌, not, Bool, true, false, if◌then◌else◌, List, [], ◌∷◌, ◌++◌, flat_map, codes, decimal, Option, Some, None, Result, Ok, Err}
 use Rattle.omf_check.specs.declared.profile.Profile.{Profile}
 use Rattle.omf_host.specs.Lines.{failure_line}
 use Rattle.omf_host.specs.declared.ending.Status.{Status}
 use Rattle.omf_host.specs.declared.ending.Status.TheVariants as status
-use Rattle.omf_library.specs.Dictionary.{IsFirstEntry, IsSought, is_same_name}
+use Rattle.omf_library.specs.Dictionary.{HasOther, IsFirstEntry, IsFirstInBlock, IsSought, block_count, block_of, entry_offset, is_same_name, look_of, name_at}
+use Rattle.omf_library.specs.Hash.{buckets}
+use Rattle.omf_library.specs.declared.dictionary.Look.TheVariants as look
+use Rattle.omf_library.specs.LibraryMembers.{names_kept}
 use Rattle.omf_library.specs.Library.{HasHeader, IsHeaderRead, header_of, page_size}
 use Rattle.omf_library.specs.Made.{IsDictionary}
 use Rattle.omf_library.specs.Spans.{AreSpansIn}
@@ -19,6 +22,7 @@ use Rattle.omf_lib.specs.Lines.{fault_line, header_fault, page_fault, public_lin
 use Rattle.omf_lib.specs.Members.{AreAllPublics, Public}
 use Rattle.omf_lib.specs.declared.asked.Find.{Find}
 use Rattle.omf_lib.specs.declared.finding.Entry.{Entry}
+use Rattle.omf_lib.specs.declared.finding.First.{First}
 
 -- A line for each public of a name.
 abbrev pub public_text : Bool → List ℕ → Public → List ℕ
@@ -27,27 +31,42 @@ public_text sensitive name p = if is_same_name sensitive p.name name then public
 abbrev pub publics_text : Bool → List ℕ → List Public → List ℕ
 publics_text sensitive name ps = flat_map (public_text sensitive name) ps
 
+-- What a bucket has of a name: another entry or none; or its entry, with the page of a member and the spelling that is there.
+abbrev pub IsSpelledAt : Bool → List ℕ → ℕ → List ℕ → Option First → Type 0
+IsSpelledAt sensitive block bucket name None = HasOther sensitive block bucket name
+IsSpelledAt sensitive block bucket name (Some f) = (look_of sensitive block bucket name ≡ look.Found f.page) × (f.name.now ≡ name_at block (entry_offset block bucket))
+
+-- The first entry of a name in a block, with its spelling; and in a dictionary, in the order of the blocks and their buckets.
+abbrev pub IsFirstSpelledIn : Bool → List ℕ → List ℕ → Option First → Type 0
+IsFirstSpelledIn sensitive block name None = IsFirstInBlock sensitive block name None
+IsFirstSpelledIn sensitive block name (Some f) = (bucket : ℕ) × (bucket < buckets) × ((i : ℕ) → i < bucket → HasOther sensitive block i name) × IsSpelledAt sensitive block bucket name (Some f)
+
+abbrev pub IsFirstSpelled : Bool → List ℕ → List ℕ → Option First → Type 0
+IsFirstSpelled sensitive dictionary name None = IsFirstEntry sensitive dictionary name None
+IsFirstSpelled sensitive dictionary name (Some f) = (number : ℕ) × (number < block_count dictionary) × ((i : ℕ) → i < number → IsFirstInBlock sensitive (block_of dictionary i) name None)
+    × IsFirstSpelledIn sensitive (block_of dictionary number) name (Some f)
+
 -- What a dictionary has for a name: its first entry, and what the two searches find.
 pub record IsEntry (sensitive : Bool) (dictionary name : List ℕ) (e : Entry) : Type 0 where
-  pub first : IsFirstEntry sensitive dictionary name e.first
+  pub first : IsFirstSpelled sensitive dictionary name e.first
   pub restart : IsSought rule.Restart sensitive dictionary name e.restart
   pub keep : IsSought rule.Keep sensitive dictionary name e.keep
 
--- The line of the first entry: its page, the name, and a word for each search that finds this page.
+-- The line of the first entry: its page, the name as it is spelled there, and a word for each search that finds this page.
 abbrev pub found_word : Option ℕ → ℕ → List ℕ → List ℕ
 found_word None page word = []
 found_word (Some found) page word = if found == page then word else []
 
-abbrev pub entry_line : Option ℕ → List ℕ → Option ℕ → Option ℕ → List ℕ
-entry_line None name restart keep = []
-entry_line (Some page) name restart keep = codes "E " ++ decimal page ++ 32 ∷ quoted name ++ found_word restart page (codes " restart") ++ found_word keep page (codes " keep") ++ 10 ∷ []
+abbrev pub entry_line : Option First → Option ℕ → Option ℕ → List ℕ
+entry_line None restart keep = []
+entry_line (Some f) restart keep = codes "E " ++ decimal f.page ++ 32 ∷ quoted f.name.now ++ found_word restart f.page (codes " restart") ++ found_word keep f.page (codes " keep") ++ 10 ∷ []
 
-abbrev pub entry_text : List ℕ → Entry → List ℕ
-entry_text name e = entry_line e.first name e.restart.page e.keep.page
+abbrev pub entry_text : Entry → List ℕ
+entry_text e = entry_line e.first e.restart.page e.keep.page
 
 abbrev pub IsEntryText : Bool → Option Dictionary → List ℕ → List ℕ → Type 0
 IsEntryText ignores None name text = text ≡ []
-IsEntryText ignores (Some d) name text = (e : Entry) × IsEntry (d.is_case_sensitive && not ignores) d.bytes.now name e × (text ≡ entry_text name e)
+IsEntryText ignores (Some d) name text = (e : Entry) × IsEntry (d.is_case_sensitive && not ignores) d.bytes.now name e × (text ≡ entry_text e)
 
 -- A name is refused if it is nowhere.
 abbrev pub is_nowhere : List ℕ → Bool
@@ -79,7 +98,7 @@ any_profile = record { refuse_vendor_comments = false }
 abbrev pub IsFoundIn : Find → Header → List ℕ → List Span → Result ℕ SpanFault → Bool → List ℕ → Type 0
 IsFoundIn asked h bytes members (Err f) is_refused text = (is_refused ≡ true) × (text ≡ fault_line (page_fault f))
 IsFoundIn asked h bytes members (Ok end) is_refused text = (dictionary : Option Dictionary) × (publics : List Public) × IsDictionary h bytes dictionary
-    × AreAllPublics any_profile 0 members publics × AreNamesFound asked.ignores_case dictionary publics (map string_bytes asked.names.items) is_refused text
+    × AreAllPublics any_profile 0 members publics × AreNamesFound asked.ignores_case dictionary publics (names_kept asked.names.items) is_refused text
 
 -- What is printed for a file.
 abbrev pub IsFound : Find → List ℕ → Bool → List ℕ → Type 0

@@ -1,5 +1,6 @@
 //! The arguments of `omf-lib`.
 
+use crate::names::typed_name;
 use omf_check::Profile;
 use std::alloc::{AllocError, Global};
 
@@ -33,7 +34,8 @@ pub struct Make {
 /// Names to find in a library.
 #[derive(Drop)]
 pub struct Find {
-    pub names: Vec<String>,
+    /// Their bytes.
+    pub names: Vec<Vec<u8>>,
     /// Whether names are compared without case.
     pub ignores_case: bool,
 }
@@ -167,8 +169,12 @@ fn find_of(alloc: Global, words: Words) -> Result<Option<Asked>, AllocError> {
     let Some(file) = names.next() else {
         return Ok(None);
     };
+    let mut sought = Vec::new(alloc);
+    for name in names {
+        sought.push(typed_name(alloc, name.as_str())?)?;
+    }
     let find = Find {
-        names: names.collect(alloc)?,
+        names: sought,
         ignores_case,
     };
     Ok(Some(Asked::Find { file, find }))
@@ -235,6 +241,18 @@ fn canon_of(words: Words) -> Option<Asked> {
         return None;
     }
     Some(Asked::Canon(make_of(words)?))
+}
+
+impl Asked {
+    /// Whether it is for names alone that arguments which are not UTF-8 are given: a file can't have such a name.
+    pub fn takes(&self, spelled: &[String]) -> bool {
+        match self {
+            Asked::Find { file, .. } => !spelled.iter().any(|one| one.as_str() == file.as_str()),
+            Asked::Look { .. } | Asked::Get { .. } | Asked::Make(_) | Asked::Canon(_) => {
+                spelled.is_empty()
+            }
+        }
+    }
 }
 
 /// What the arguments ask for, without the program's own name; None if they are not understood.

@@ -1,10 +1,13 @@
 //! The text of `omf-lib find`: which member has a public, and how the dictionary leads there.
 
-ghost use Rattle.std.specs.Prelude.{◌≡◌, ◌++◌, ◌&&◌, ◌||◌, not, List, ℕ, Bool, IfOk, OnOk, map, string_bytes};
+ghost use Rattle.std.specs.Prelude.{◌≡◌, ◌<◌, ◌++◌, ◌&&◌, ◌||◌, not, List, ℕ, Bool, IfOk, OnOk, codes, string_bytes};
 ghost use Rattle.std.specs.Io.KnownBytes.{Appends};
 ghost use Rattle.omf_frame.specs.Bytes.{AddsText};
+ghost use Rattle.omf_host.specs.Lines.{failure_line};
+ghost use Rattle.omf_library.specs.Dictionary.{IsBucket, block_count, block_of};
+ghost use Rattle.omf_library.specs.LibraryMembers.{names_kept};
 ghost use Rattle.omf_library.specs.Names.{names_seen};
-ghost use Rattle.omf_lib.specs.Find.{any_profile, AreNamesFound, ArePlaces, entry_text, found_word, is_nowhere, IsEntry, IsEntryText, IsFound, IsFoundIn, IsNameFound, name_text, public_text, publics_text, refused_status};
+ghost use Rattle.omf_lib.specs.Find.{any_profile, AreNamesFound, ArePlaces, entry_text, found_word, is_nowhere, IsEntry, IsEntryText, IsFirstSpelled, IsFirstSpelledIn, IsSpelledAt, IsFound, IsFoundIn, IsNameFound, name_text, public_text, publics_text, refused_status};
 ghost use Rattle.omf_lib.specs.Members.{AreAllPublics, ArePublics, is_public, public_seen, publics_among, publics_seen, Public};
 
 use crate::asked::Find;
@@ -17,8 +20,8 @@ use crate::shown::{Stop, send, status_of};
 use crate::text::put_fault;
 use omf_check::Profile;
 use omf_frame::Sink;
-use omf_host::{Status, put_failure, put_quoted};
-use omf_library::{Defined, Dictionary, Kind, Rule, Sought, Span, defined_names};
+use omf_host::{Status, put_name, put_quoted};
+use omf_library::{BUCKETS, Bucket, Defined, Dictionary, Kind, Rule, Sought, Span, defined_names};
 use std::alloc::{AllocError, Global};
 use std::fmt::Write;
 
@@ -114,10 +117,60 @@ fn put_publics(
     Ok(())
 }
 
-/// What a dictionary has for a name: the page of the first entry, and what the two searches find.
+/// The first entry of a name: its page, and the name as it is spelled there.
 #[derive(Clone, Copy)]
-struct Entry {
-    first: Option<u16>,
+struct First<'a> {
+    page: u16,
+    name: &'a [u8],
+}
+
+/// The entry of a bucket, if it is one of a name.
+fn spelled_at<'a>(is_case_sensitive: bool, bucket: Bucket<'a>, name: &[u8]) -> Option<First<'a>>
+    ensures { (block : List ℕ) → (number : ℕ) → IsBucket block number bucket.entry → IsSpelledAt is_case_sensitive block number name.now result }
+{
+    match bucket {
+        Bucket::Entry { page, name: own } if is_same_name(is_case_sensitive, own, name) => {
+            Some(First { page, name: own })
+        }
+        Bucket::Entry { .. } | Bucket::Empty | Bucket::Outside => None,
+    }
+}
+
+/// The first entry of a name in a block.
+fn first_in_block<'a>(dictionary: Dictionary<'a>, number: usize, name: &[u8]) -> Option<First<'a>>
+    requires { number < block_count dictionary.bytes.now }
+    ensures { IsFirstSpelledIn dictionary.entry.is_case_sensitive (block_of dictionary.entry.bytes.now number) name.now result }
+{
+    for bucket in 0..BUCKETS {
+        let found = spelled_at(
+            dictionary.is_case_sensitive,
+            dictionary.bucket(number, bucket),
+            name,
+        );
+        if let Some(first) = found {
+            return Some(first);
+        }
+    }
+    None
+}
+
+/// The first entry of a name, in the order of the blocks and their buckets, wherever its hash is.
+fn first_entry<'a>(dictionary: Dictionary<'a>, name: &[u8]) -> Option<First<'a>>
+    ensures { IsFirstSpelled dictionary.entry.is_case_sensitive dictionary.entry.bytes.now name.now result }
+{
+    for number in 0..dictionary.blocks() {
+        match first_in_block(dictionary, number, name) {
+            Some(first) => return Some(first),
+            None => {}
+        }
+    }
+    None
+}
+
+/// What a dictionary has for a name: the first entry, and what the two searches find.
+#[derive(Clone, Copy)]
+struct Entry<'a> {
+    first: Option<First<'a>>,
     restart: Sought,
     keep: Sought,
 }
@@ -130,7 +183,7 @@ fn is_sensitive(dictionary: Dictionary<'_>, ignores_case: bool) -> bool
 }
 
 /// What a dictionary has for a name.
-fn entry_of(dictionary: Dictionary<'_>, ignores_case: bool, name: &[u8]) -> Entry
+fn entry_of<'a>(dictionary: Dictionary<'a>, ignores_case: bool, name: &[u8]) -> Entry<'a>
     ensures { IsEntry (dictionary.entry.is_case_sensitive && not ignores_case) dictionary.entry.bytes.now name.now result }
 {
     let compared = Dictionary {
@@ -138,7 +191,7 @@ fn entry_of(dictionary: Dictionary<'_>, ignores_case: bool, name: &[u8]) -> Entr
         is_case_sensitive: is_sensitive(dictionary, ignores_case),
     };
     Entry {
-        first: compared.first_entry(name),
+        first: first_entry(compared, name),
         restart: compared.search(Rule::Restart, name),
         keep: compared.search(Rule::Keep, name),
     }
@@ -161,10 +214,10 @@ fn put_found(text: &mut String, found: Option<u16>, page: u16, word: &str) -> Re
 }
 
 /// Appends the line of the first entry of a name, if there is one.
-fn put_entry(text: &mut String, name: &[u8], entry: Entry) -> Result<(), AllocError>
-    ensures { AddsText result (string_bytes text.old) (string_bytes text.new) (entry_text name.now entry) }
+fn put_entry(text: &mut String, entry: Entry<'_>) -> Result<(), AllocError>
+    ensures { AddsText result (string_bytes text.old) (string_bytes text.new) (entry_text entry.entry) }
 {
-    let Some(page) = entry.first else {
+    let Some(First { page, name }) = entry.first else {
         return Ok(());
     };
     write!(text, "E {page} ")?;
@@ -185,7 +238,7 @@ fn put_first_entry(
 {
     match dictionary {
         Some(dictionary) => {
-            put_entry(text, name, entry_of(dictionary, ignores_case, name))?;
+            put_entry(text, entry_of(dictionary, ignores_case, name))?;
             Ok(())
         }
         None => Ok(()),
@@ -220,12 +273,21 @@ fn is_nowhere(text: &[u8]) -> bool
     }
 }
 
+/// Appends the line of a name that is nowhere.
+fn put_nowhere(text: &mut String, name: &[u8]) -> Result<(), AllocError>
+    ensures { AddsText result (string_bytes text.old) (string_bytes text.new) (failure_line (codes "refused") name.now (codes "no such public")) }
+{
+    text.push_str("refused ")?;
+    put_name(text, name)?;
+    text.push_str(": no such public\n")
+}
+
 /// Appends the places of a name, or that it is nowhere. Returns whether it is refused.
-fn put_places(text: &mut String, name: &str, places: &str) -> Result<bool, AllocError>
+fn put_places(text: &mut String, name: &[u8], places: &str) -> Result<bool, AllocError>
     ensures { IfOk result (λ is_refused. (is_refused ≡ is_nowhere places.now) × (string_bytes text.new ≡ string_bytes text.old ++ name_text name.now places.now)) }
 {
     if is_nowhere(places.as_bytes()) {
-        put_failure(text, "refused", name, "no such public")?;
+        put_nowhere(text, name)?;
         Ok(true)
     } else {
         text.push_str(places)?;
@@ -234,11 +296,11 @@ fn put_places(text: &mut String, name: &str, places: &str) -> Result<bool, Alloc
 }
 
 /// Appends the text of a name. Returns whether it is refused.
-fn put_name(text: &mut String, sources: Sources<'_>, name: &String) -> Result<bool, AllocError>
-    ensures { IfOk result (λ is_refused. (own : List ℕ) × IsNameFound sources.entry.ignores_case sources.entry.dictionary (publics_seen sources.entry.publics.now) (string_bytes name.now) is_refused own × (string_bytes text.new ≡ string_bytes text.old ++ own)) }
+fn put_sought(text: &mut String, sources: Sources<'_>, name: &[u8]) -> Result<bool, AllocError>
+    ensures { IfOk result (λ is_refused. (own : List ℕ) × IsNameFound sources.entry.ignores_case sources.entry.dictionary (publics_seen sources.entry.publics.now) name.now is_refused own × (string_bytes text.new ≡ string_bytes text.old ++ own)) }
 {
-    let places = places_of(*text.allocator(), sources, name.as_bytes())?;
-    let is_refused = put_places(text, name.as_str(), places.as_str())?;
+    let places = places_of(*text.allocator(), sources, name)?;
+    let is_refused = put_places(text, name, places.as_str())?;
     Ok(is_refused)
 }
 
@@ -250,12 +312,12 @@ fn is_either(one: bool, other: bool) -> bool
 }
 
 /// Appends the text of each name. Returns whether one is refused.
-fn put_names(text: &mut String, sources: Sources<'_>, names: &[String]) -> Result<bool, AllocError>
-    ensures { IfOk result (λ is_refused. (own : List ℕ) × AreNamesFound sources.entry.ignores_case sources.entry.dictionary (publics_seen sources.entry.publics.now) (map string_bytes names.now) is_refused own × (string_bytes text.new ≡ string_bytes text.old ++ own)) }
+fn put_names(text: &mut String, sources: Sources<'_>, names: &[Vec<u8>]) -> Result<bool, AllocError>
+    ensures { IfOk result (λ is_refused. (own : List ℕ) × AreNamesFound sources.entry.ignores_case sources.entry.dictionary (publics_seen sources.entry.publics.now) (names_kept names.now) is_refused own × (string_bytes text.new ≡ string_bytes text.old ++ own)) }
 {
     let mut is_refused = false;
     for name in names {
-        let is_one_refused = put_name(text, sources, name)?;
+        let is_one_refused = put_sought(text, sources, name)?;
         is_refused = is_either(is_refused, is_one_refused);
     }
     Ok(is_refused)

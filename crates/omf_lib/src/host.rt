@@ -9,10 +9,11 @@ use crate::making::make_library;
 use crate::shown::{Stop, Told};
 use crate::taking::get;
 use omf_check::Profile;
-use omf_frame::{Sink, Writing};
+use omf_frame::Sink;
 use omf_host::{
-    About, RunFiles, StandardOutput, Status, Streams, arguments, end, explain, misused_by,
+    About, Progress, RunFiles, SpelledArguments, Status, Streams, end, explain, misused_by,
     out_of_memory, put, put_title, put_unread, question_with_tasks, read_input, refuse_clash,
+    spelled_arguments, standard_streams,
 };
 use std::alloc::{AllocError, Global};
 use std::process::ExitCode;
@@ -20,6 +21,7 @@ use std::process::ExitCode;
 /// What the program shows of itself.
 const ABOUT: About = About {
     name: "omf-lib",
+    colored_name: "\x1B[1;36momf-lib\x1B[0m",
     usage: "usage: omf-lib list|check [--refuse-vendor-comments] LIB ..
        omf-lib find [--ignore-case] LIB NAME ..
        omf-lib get LIB [MEMBER ..] -d DIR [--numbered]
@@ -125,10 +127,13 @@ fn look_at_all<K: Sink, E: Sink>(
         is_titled: files.len() > 1,
     };
     let mut status = Status::Done;
-    for name in files {
+    let mut progress = Progress::new(rt);
+    for (at, name) in files.iter().enumerate() {
+        let _ = progress.show(rt, streams, at, files.len());
         let answer = look_at(rt, streams, manner, name.as_str());
         status = status.worst(settled(streams, answer));
     }
+    progress.end(streams);
     status
 }
 
@@ -241,24 +246,20 @@ fn on_arguments<K: Sink, E: Sink>(
     streams: &mut Streams<K, E>,
 ) -> Result<Status, AllocError> {
     let about = &ABOUT;
-    let Some(words) = arguments(rt, about.usage)? else {
-        return misused_by(rt, streams, about);
-    };
+    let SpelledArguments { words, spelled } = spelled_arguments(rt, about.usage)?;
     if let Some(question) = question_with_tasks(&words) {
         return explain(rt.alloc(), &mut streams.output, question, &ABOUT);
     }
     match read_arguments(rt.alloc(), words)? {
-        Some(asked) => Ok(act(rt, streams, &asked)),
-        None => misused_by(rt, streams, &ABOUT),
+        Some(asked) if asked.takes(&spelled) => Ok(act(rt, streams, &asked)),
+        Some(_) | None => misused_by(rt, streams, &ABOUT),
     }
 }
 
 /// Runs the program. Returns the exit status: 0 done, 1 something is refused, 2 the arguments are not understood, 3 a
 /// file could not be read or written, the output could not be written, or memory ran out.
 pub fn run(rt: &HostRuntime) -> ExitCode {
-    let about = &ABOUT;
-    let output = StandardOutput::new(rt.stdout());
-    let mut streams = Streams::new(about.name, output, Writing::new(rt.stderr()));
+    let mut streams = standard_streams(rt, &ABOUT);
     let status = match on_arguments(rt, &mut streams) {
         Ok(status) => status,
         Err(AllocError) => out_of_memory(&mut streams),
