@@ -15,10 +15,10 @@ use crate::report::{Shown, map_text};
 use crate::source::Source;
 use crate::symbols::{symbols_text, usual_load};
 use omf_finding::{FindOptions, Findings, find};
-use omf_frame::{Sink, Writing};
+use omf_frame::Sink;
 use omf_host::{
-    About, StandardOutput, Status, Streams, arguments, end, explain, misused_by, out_of_memory,
-    put, put_unread, question_in, read_input, warn,
+    About, Status, Streams, arguments, end, explain, misused_by, out_of_memory, put, put_unread,
+    question_in, read_input, standard_streams, warn,
 };
 use std::alloc::{AllocError, Global};
 use std::io;
@@ -27,6 +27,7 @@ use std::process::ExitCode;
 /// What the program shows of itself.
 const ABOUT: About = About {
     name: "omf-find",
+    colored_name: "\x1B[1;36momf-find\x1B[0m",
     usage: "usage: omf-find [--symbols ghidra|ida|r2|nm] [--load ADDRESS] [--json]
            [--possible] [--least N] [--base ADDRESS] [--frame SELECTOR ..]
            [--refuse-vendor-comments] PROGRAM FILE ..
@@ -325,9 +326,7 @@ fn act<K: Sink, E: Sink>(
 /// Runs the program. Returns the exit status: 0 done, 1 the program or a part of a file is refused, 2 the arguments are not understood, 3 a file
 /// could not be read, the output could not be written, or memory ran out.
 pub fn run(rt: &HostRuntime) -> ExitCode {
-    let about = &ABOUT;
-    let output = StandardOutput::new(rt.stdout());
-    let mut streams = Streams::new(about.name, output, Writing::new(rt.stderr()));
+    let mut streams = standard_streams(rt, &ABOUT);
     let status = match act(rt, &mut streams) {
         Ok(status) => status,
         Err(AllocError) => out_of_memory(&mut streams),

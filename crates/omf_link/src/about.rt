@@ -5,6 +5,7 @@ use omf_host::About;
 /// Its name, how it is called, and what its tasks and options do. The second is that of `omf_linker::link::Link`.
 pub(crate) const ABOUT: About = About {
     name: "omf-link",
+    colored_name: "\x1B[1;36momf-link\x1B[0m",
     usage: "usage: omf-link exe -o FILE [--map FILE] [--stack BYTES] [--order dos|input]
            [--library-path DIR ..] [--no-default-libraries]
            [--allow group|near|twice ..] [--ignore-case] FILE ..

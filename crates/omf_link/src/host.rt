@@ -2,11 +2,12 @@
 
 use crate::about::ABOUT;
 use crate::exe;
+use crate::mapping::kept_files;
 use omf_cmd::Fault;
-use omf_frame::{Sink, Writing};
+use omf_frame::Sink;
 use omf_host::{
-    RunFiles, StandardOutput, Status, Streams, end, explain, misused_by, out_of_memory,
-    program_and_arguments, question_with_tasks, refuse_clash, warn,
+    Progress, RunFiles, Status, Streams, end, explain, misused_by, out_of_memory,
+    program_and_arguments, question_with_tasks, refuse_clash, standard_streams, warn,
 };
 use omf_linker::asked::{Asked, sorted};
 use omf_linker::host::{perform_on_input, read_or_tell, tell_fault, write_output_or_tell};
@@ -16,6 +17,7 @@ use omf_linker::seen::{
     is_looked_at,
 };
 use std::alloc::{AllocError, Global};
+use std::mem;
 use std::process::ExitCode;
 
 /// Reads the files. None if one could not be read.
@@ -25,12 +27,15 @@ pub(crate) fn read_files<K: Sink, E: Sink>(
     streams: &mut Streams<K, E>,
 ) -> Result<Option<Vec<InputFile>>, AllocError> {
     let mut files = Vec::new(rt.alloc());
-    for name in names {
+    let mut progress = Progress::new(rt);
+    for (at, name) in names.iter().enumerate() {
+        progress.show(rt, streams, at, names.len())?;
         let Some(bytes) = read_or_tell(rt, name.as_str(), streams)? else {
             return Ok(None);
         };
         files.push(InputFile::new(name.clone()?, bytes))?;
     }
+    progress.end(streams);
     Ok(Some(files))
 }
 
@@ -178,6 +183,35 @@ fn refuse_output<K, E: Sink>(
     refuse_clash(rt, streams, files)
 }
 
+/// Writes the map of the files that are not refused. Returns the status.
+fn on_map<K: Sink, E: Sink>(
+    rt: &HostRuntime,
+    manner: Manner,
+    asked: &Asked,
+    streams: &mut Streams<K, E>,
+) -> Result<Status, AllocError> {
+    let name = asked.text.as_ref().map(|name| name.as_str());
+    let Some(text) = read_text(rt, name, streams)? else {
+        return Ok(Status::Failed);
+    };
+    let mut kept = kept_files(rt, asked.files.as_slice(), streams)?;
+    let files = mem::replace(&mut kept.files, Vec::new(rt.alloc()));
+    if files.is_empty() {
+        return Ok(kept.status);
+    }
+    match manner.seen(rt.alloc(), files, &text) {
+        Ok(seen) => {
+            let shown = kept.with_lines(rt.alloc(), &seen.shown)?;
+            let name = asked.output.as_ref().map(|name| name.as_str());
+            Ok(written(rt, name, &shown, streams)?.worst(kept.status))
+        }
+        Err(fault) => {
+            tell_fault(rt.alloc(), streams, &fault)?;
+            Ok(Status::of_code(fault.status()).worst(kept.status))
+        }
+    }
+}
+
 /// Does a task, and writes its output, or the line of its fault. Returns the status.
 fn on_files<K: Sink, E: Sink>(
     rt: &HostRuntime,
@@ -190,6 +224,8 @@ fn on_files<K: Sink, E: Sink>(
     }
     let found = if is_on_input(asked) {
         of_input(rt, manner, streams)?
+    } else if matches!(manner.task, Task::Map) {
+        return on_map(rt, manner, asked, streams);
     } else {
         of_files(rt, manner, asked, streams)?
     };
@@ -240,7 +276,9 @@ fn on_task<K: Sink, E: Sink>(
     };
     let looks = is_looked_at(task);
     let on_input_alone = is_on_input(asked);
-    if (allowed.has_any() && !looks) || (!on_input_alone && asked.files.is_empty()) {
+    let has_no_text = matches!(task, Task::Draft(_)) && asked.text.is_some();
+    let has_no_file = !on_input_alone && asked.files.is_empty();
+    if has_no_text || has_no_file || (allowed.has_any() && !looks) {
         return misused_by(rt, streams, &ABOUT);
     }
     if on_input_alone && asked.output.is_none() && !looks && !ignores_case {
@@ -291,9 +329,7 @@ fn act<K: Sink, E: Sink>(
 /// Runs the program. Returns the exit status: 0 done, 1 an input or its text is refused, has no room or does not fit, 2 the arguments are not
 /// understood, 3 out of memory, or a file could not be read or written, or the output could not be written.
 pub fn run(rt: &HostRuntime) -> ExitCode {
-    let about = &ABOUT;
-    let output = StandardOutput::new(rt.stdout());
-    let mut streams = Streams::new(about.name, output, Writing::new(rt.stderr()));
+    let mut streams = standard_streams(rt, &ABOUT);
     let status = match act(rt, &mut streams) {
         Ok(status) => status,
         Err(AllocError) => out_of_memory(&mut streams),

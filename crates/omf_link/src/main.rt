@@ -7,6 +7,7 @@ mod about;
 mod exe;
 mod host;
 mod libraries;
+mod mapping;
 
 use std::process::ExitCode;
 

@@ -1,9 +1,9 @@
 //! The program on the arguments, the file, the standard input, the standard output and the standard error of its process.
 
-use omf_frame::{Bytes, Sink, Writing};
+use omf_frame::{Bytes, Sink};
 use omf_host::{
-    About, StandardOutput, Status, Streams, end, explain, misused_by, out_of_memory,
-    program_and_arguments, question_in,
+    About, Status, Streams, end, explain, misused_by, out_of_memory, program_and_arguments,
+    question_in, standard_streams,
 };
 use omf_linker::asked::{Asked, sorted};
 use omf_linker::host::{perform, perform_on_input, read_or_tell};
@@ -15,6 +15,7 @@ use std::process::ExitCode;
 /// What the program shows of itself.
 const ABOUT: About = About {
     name: "omf-place",
+    colored_name: "\x1B[1;36momf-place\x1B[0m",
     usage: "usage: omf-place [--base ADDRESS] [--real | --flat SELECTOR] [FILE]\n",
     details: "
 Drafts a placement for an object module (.OBJ): the text with addresses that omf
@@ -83,9 +84,7 @@ fn act<K: Sink, E: Sink>(
 /// Runs the program. Returns the exit status: 0 done, 1 the input is refused or has no room, 2 the arguments are not understood, 3 out of
 /// memory, or the file could not be read, or the output could not be written.
 pub fn run(rt: &HostRuntime) -> ExitCode {
-    let about = &ABOUT;
-    let output = StandardOutput::new(rt.stdout());
-    let mut streams = Streams::new(about.name, output, Writing::new(rt.stderr()));
+    let mut streams = standard_streams(rt, &ABOUT);
     let status = match act(rt, &mut streams) {
         Ok(status) => status,
         Err(AllocError) => out_of_memory(&mut streams),
