@@ -3,7 +3,8 @@
 
 usage: tests/docs.py options --write | --check
   --write  writes completions/omf.bash, completions/_omf (zsh) and completions/omf.fish
-  --check  compares these with the sources, completes some lines in bash, and looks for each option in man/: status 1 where one fails"""
+  --check  compares these with the sources, completes some lines in bash, and compares the tasks and options that the SYNOPSIS of each page in man/
+           has; a page also names each option in its text, and no other: status 1 where one fails"""
 import re
 import subprocess
 import sys
@@ -140,6 +141,30 @@ def completed(line):
     return subprocess.run(["bash", "-c", script], capture_output=True, text=True, check=False).stdout.strip()
 
 
+def synopsis(page):
+    """The tasks of a man page, with the options of each, as its SYNOPSIS has them."""
+    tasks = {}
+    for part in page.partition(".Sh SYNOPSIS\n")[2].partition("\n.Sh ")[0].split(".Nm")[1:]:
+        lines = part.strip().split("\n")
+        names = lines[0][len(".Cm "):].split(" | ") if lines[0].startswith(".Cm ") else [""]
+        options = {"-" + it for line in lines for it in re.findall(r"(?<=Fl )\S+|(?<=\| )-\S+", line)}
+        for name in names:
+            tasks.setdefault(name, set()).update(options)
+    return tasks
+
+
+def differences(program, tasks, page):
+    """Where the SYNOPSIS of a man page has other tasks or options than the usage."""
+    always = {it for it, _, _ in ALWAYS}
+    found = {task: options - always for task, options in synopsis(page).items() if task in tasks or options - always}
+    wanted = {task: {it for it, _, _ in options} for task, options in tasks.items()}
+    for task in sorted(found.keys() | wanted.keys()):
+        for option in sorted(found.get(task, set()) ^ wanted.get(task, set())):
+            yield f"man/{program}.1, SYNOPSIS: {' '.join([task, option]).strip()} is {'too much' if option in found.get(task, set()) else 'missing'}"
+        if (task in found) != (task in wanted):
+            yield f"man/{program}.1, SYNOPSIS: the task {task} is {'too much' if task in found else 'missing'}"
+
+
 def faults():
     """What does not agree."""
     for name, text in made().items():
@@ -151,8 +176,12 @@ def faults():
             yield f"bash completes '{line}' to '{completed(line)}', not '{expected}'"
     for program, tasks in table().items():
         page = (ROOT / "man" / f"{program}.1").read_text(encoding="utf-8")
+        yield from differences(program, tasks, page)
         page = re.sub(r"\bFl (?=\S)", "-", re.sub(r"\\f[A-Z]", " ", page)).replace("\\-", "-")
-        for option in sorted({it for options in tasks.values() for it, _, _ in options}):
+        known = {it for options in tasks.values() for it, _, _ in options}
+        for option in sorted(set(re.findall(r"(?<![\w-])--[a-z][a-z-]*", page)) - known - {it for it, _, _ in ALWAYS}):
+            yield f"man/{program}.1 names {option}, which no task has"
+        for option in sorted(known):
             if not re.search(rf"(?<![\w-]){re.escape(option)}(?![\w-])", page):
                 yield f"man/{program}.1 does not name {option}"
 
