@@ -9,7 +9,7 @@ ghost use Rattle.omf_check.specs.Checking.{IsCheckFault, IsReadPatiently};
 ghost use Rattle.omf_check.specs.Inner.Ahead.{PassesAhead, StopsAhead, FailsAhead};
 ghost use Rattle.omf_check.specs.Inner.Judging.{raw_fault, rec_of};
 ghost use Rattle.omf_check.specs.Inner.Kept.{IsBounded, with_record};
-ghost use Rattle.omf_check.specs.Inner.Passing.{IsPassing, IsStopped, Moves, Fails};
+ghost use Rattle.omf_check.specs.Inner.Passing.{IsPassing, IsStopped, Moves, Fails, refused_at};
 ghost use Rattle.omf_check.specs.Inner.Taking.{HasTaken};
 ghost use Rattle.omf_check.specs.Judging.{Judges};
 
@@ -18,8 +18,9 @@ use crate::keeping::Keeper;
 use crate::profile::Profile;
 use crate::session::framing_fault;
 use crate::table::Tables;
-use omf_frame::{Bytes, Fed, Framer, RawRecord, Source, pull_piece};
-use std::alloc::Global;
+use omf_frame::{Bytes, Fed, Framer, Place, RawRecord, Source, pull_piece};
+use omf_records::LayoutFault;
+use std::alloc::{AllocError, Global};
 
 /// The records taken from a reader: what later records need of them, and their size in bytes.
 #[derive(Drop)]
@@ -38,7 +39,31 @@ fn wanted(framer: &Framer, size: u64, ahead: &[u8]) -> usize
     framer.want_with(ahead)
 }
 
-/// Judges a record, and then keeps its bytes.
+/// The refusal of the record with this number that starts at this offset of the module.
+fn refused(number: u32, start: u64, fault: &LayoutFault) -> CheckFault
+    ensures { result ≡ refused_at number start fault.now }
+{
+    CheckFault::Refused {
+        reason: fault.reason,
+        place: Place {
+            number,
+            start,
+            within: fault.within,
+        },
+    }
+}
+
+/// Why a record is not taken: its fault, or `Memory` if it has none.
+fn stopped(number: u32, start: u64, found: Option<LayoutFault>) -> CheckFault
+    ensures { IsStopped found number start result }
+{
+    match found {
+        Some(fault) => refused(number, start, &fault),
+        None => CheckFault::Memory,
+    }
+}
+
+/// Judges a record, and then keeps its bytes. Returns its first fault, or no fault if memory ran out.
 #[inline(always)]
 fn accept<K: Keeper>(
     tables: &mut Tables,
@@ -46,7 +71,7 @@ fn accept<K: Keeper>(
     profile: Profile,
     raw: RawRecord<'_>,
     bytes: &[u8],
-) -> Result<(), CheckFault>
+) -> Result<(), Option<LayoutFault>>
     requires taken { IsTrue (is_taken raw.kind) }
     requires short { length raw.body.now ≤ 65534 }
     requires start { raw.start < 2 ^ 40 }
@@ -55,12 +80,14 @@ fn accept<K: Keeper>(
     ensures tables { OnOk result (tables.new ≡ with_record tables.old raw.entry.start (rec_of raw.entry.kind raw.entry.body.now)) }
     ensures bounded { OnOk result (IsBounded tables.new) }
     ensures grown { OnOk result (Appends (K.kept keeper.old) (K.kept keeper.new) bytes.now) }
-    ensures cause { IfErr result (IsStopped (raw_fault profile profile_limits tables.old raw.entry.kind raw.entry.body.now) raw.entry.number raw.entry.start) }
+    ensures cause { IfErr result (λ found. found ≡ raw_fault profile profile_limits tables.old raw.entry.kind raw.entry.body.now) }
     ensures same { OnErr result (Keeps (K.kept keeper.old) (K.kept keeper.new)) }
 {
     tables.take(profile, raw)?;
-    keeper.keep(bytes)?;
-    Ok(())
+    match keeper.keep(bytes) {
+        Ok(()) => Ok(()),
+        Err(AllocError) => Err(None),
+    }
 }
 
 /// Takes the bytes that the current record still lacks. If the record is then complete, judges it and moves past it.
@@ -91,7 +118,9 @@ pub(crate) fn step<K: Keeper>(
             Ok(fed)
         }
         Some(raw) => {
-            accept(tables, keeper, profile, raw, bytes)?;
+            if let Err(found) = accept(tables, keeper, profile, raw, bytes) {
+                return Err(stopped(raw.number, raw.start, found));
+            }
             framer.next();
             Ok(fed)
         }
@@ -119,11 +148,14 @@ fn step_ahead<S: Source, K: Keeper>(
     let Some(raw) = framer.raw_ahead(ahead) else {
         return Ok(0);
     };
+    let (number, start) = (raw.number, raw.start);
     let size = framer.pass(ahead);
     let accepted = accept(tables, keeper, profile, raw, &ahead[..size]);
     reader.consume(size);
-    accepted?;
-    Ok(size)
+    match accepted {
+        Ok(()) => Ok(size),
+        Err(found) => Err(stopped(number, start, found)),
+    }
 }
 
 /// Judges all records that the reader shows whole, up to the first that is refused, one by one. Returns their size in bytes.

@@ -6,20 +6,18 @@ ghost use Rattle.omf_check.specs.Rules.{item_limit};
 ghost use Rattle.omf_image.specs.Limits.{profile_limits};
 ghost use Rattle.omf_check.specs.Inner.Kept.{starts, alike, with_record, with_contents, IsBounded};
 ghost use Rattle.omf_check.specs.Inner.Judging.{IsNoFixupp, raw_fault, rec_of};
-ghost use Rattle.omf_check.specs.Inner.Passing.{refused_at, IsStopped};
 ghost use Rattle.omf_check.specs.Inner.Plain.{plain_fault};
 ghost use Rattle.omf_check.specs.declared.last_data.LastData.TheVariants.{Plain};
 ghost use Rattle.omf_frame.specs.Framing.{is_taken};
 ghost use Rattle.omf_records.specs.Inner.Seen.{contents_seen, kind_seen, odd_if, rec_seen};
 ghost use Rattle.omf_records.specs.Valued.{is_fixupp};
 
-use crate::fault::CheckFault;
 use crate::last_data::LastData;
 use crate::profile::Profile;
-use crate::rule::lesser;
+use crate::rule::{fault, lesser};
 use crate::segment::SegInfo;
 use crate::table::Tables;
-use omf_frame::{Place, RawRecord, Width};
+use omf_frame::{RawRecord, Width};
 use omf_records::{
     Item, Items, LayoutFault, PlainData, Rec, Segment, plain_data, unread_fixups, view,
 };
@@ -65,20 +63,6 @@ fn add_alike<T: Item>(
         values.push(value)?;
     }
     Ok(())
-}
-
-/// The refusal of the record with this number that starts at this offset of the module.
-fn refused(number: u32, start: u64, fault: &LayoutFault) -> CheckFault
-    ensures { result ≡ refused_at number start fault.now }
-{
-    CheckFault::Refused {
-        reason: fault.reason,
-        place: Place {
-            number,
-            start,
-            within: fault.within,
-        },
-    }
 }
 
 impl Tables {
@@ -155,23 +139,27 @@ impl Tables {
     {
         let plain = match read {
             Ok(plain) => plain,
-            Err(fault) => return Some(fault),
+            Err(found) => return Some(found),
         };
         let size = plain.bytes.len();
-        let fault = lesser(
+        let found = lesser(
             self.item_fault(),
             self.data_fault(&plain.segment, &plain.offset, size),
         );
-        if fault.is_none() {
+        if found.is_none() {
             self.items += 1;
             self.last = Some(LastData::Plain(size));
         }
-        fault
+        found
     }
 
-    /// Checks a record other than a FIXUPP or an LEDATA, and keeps what it defines.
+    /// Checks a record other than a FIXUPP or an LEDATA, and keeps what it defines. Returns its first fault, or no fault if memory ran out.
     #[inline(never)]
-    fn take_other(&mut self, profile: Profile, raw: RawRecord<'_>) -> Result<(), CheckFault>
+    fn take_other(
+        &mut self,
+        profile: Profile,
+        raw: RawRecord<'_>,
+    ) -> Result<(), Option<LayoutFault>>
         requires taken { IsTrue (is_taken raw.kind) }
         requires other { is_fixupp raw.kind ≡ false }
         requires short { length raw.body.now ≤ 65534 }
@@ -180,24 +168,27 @@ impl Tables {
         ensures sound { OnOk result (raw_fault profile profile_limits self.old raw.entry.kind raw.entry.body.now ≡ None) }
         ensures kept { OnOk result (self.new ≡ with_record self.old raw.entry.start (rec_of raw.entry.kind raw.entry.body.now)) }
         ensures bounded { OnOk result (IsBounded self.new) }
-        ensures cause { IfErr result (IsStopped (raw_fault profile profile_limits self.old raw.entry.kind raw.entry.body.now) raw.entry.number raw.entry.start) }
+        ensures cause { IfErr result (λ found. found ≡ raw_fault profile profile_limits self.old raw.entry.kind raw.entry.body.now) }
     {
         // A typed record is large: it is seen where it is, and not moved.
         let viewed = view(raw);
         let rec = match &viewed {
             Ok(rec) => rec,
-            Err(fault) => return Err(refused(raw.number, raw.start, fault)),
+            Err(found) => return Err(Some(fault(found.within, found.reason))),
         };
-        if let Some(fault) = self.record_fault(profile, rec) {
-            return Err(refused(raw.number, raw.start, &fault));
+        if let Some(found) = self.record_fault(profile, rec) {
+            return Err(Some(found));
         }
-        self.add(raw.start, rec)?;
-        Ok(())
+        match self.add(raw.start, rec) {
+            Ok(()) => Ok(()),
+            Err(AllocError) => Err(None),
+        }
     }
 
-    /// Checks the next record, and keeps what it defines. FIXUPPs and LEDATAs are most records: they are checked where it is called.
+    /// Checks the next record, and keeps what it defines. Returns its first fault, or no fault if memory ran out. FIXUPPs and LEDATAs are most
+    /// records: they are checked where it is called, and an error is small, since it is made there.
     #[inline(always)]
-    pub fn take(&mut self, profile: Profile, raw: RawRecord<'_>) -> Result<(), CheckFault>
+    pub fn take(&mut self, profile: Profile, raw: RawRecord<'_>) -> Result<(), Option<LayoutFault>>
         requires taken { IsTrue (is_taken raw.kind) }
         requires short { length raw.body.now ≤ 65534 }
         requires start { raw.start < 2 ^ 40 }
@@ -205,17 +196,17 @@ impl Tables {
         ensures sound { OnOk result (raw_fault profile profile_limits self.old raw.entry.kind raw.entry.body.now ≡ None) }
         ensures kept { OnOk result (self.new ≡ with_record self.old raw.entry.start (rec_of raw.entry.kind raw.entry.body.now)) }
         ensures bounded { OnOk result (IsBounded self.new) }
-        ensures cause { IfErr result (IsStopped (raw_fault profile profile_limits self.old raw.entry.kind raw.entry.body.now) raw.entry.number raw.entry.start) }
+        ensures cause { IfErr result (λ found. found ≡ raw_fault profile profile_limits self.old raw.entry.kind raw.entry.body.now) }
     {
         if let Some(subrecords) = unread_fixups(&raw) {
             return match self.take_fixups(subrecords) {
-                Some(fault) => Err(refused(raw.number, raw.start, &fault)),
+                Some(found) => Err(Some(found)),
                 None => Ok(()),
             };
         }
         if let Some(read) = plain_data(&raw) {
             return match self.take_plain(read) {
-                Some(fault) => Err(refused(raw.number, raw.start, &fault)),
+                Some(found) => Err(Some(found)),
                 None => Ok(()),
             };
         }

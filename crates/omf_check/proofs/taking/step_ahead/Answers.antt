@@ -1,7 +1,7 @@
 use Rattle.std.proofs.Common.{sym, subst, arith, take}
 use Rattle.std.specs.Io.KnownBytes.{Consumes}
-use Rattle.std.proofs.lemmas.Result.{err_from_is_err_and}
 use Rattle.omf_check.specs.Inner.Ahead.{StopsAhead}
+use Rattle.omf_check.specs.Inner.Passing.{IsStopped}
 use Rattle.omf_check.proofs.AheadLaws.{none_ahead, start_fits, number_fits, accepted, refused}
 use Rattle.omf_check.proofs.taking.step_ahead.Goals as goal
 
@@ -15,21 +15,20 @@ pub accept-accepted-requires-clause-start : goal.accept-accepted-requires-clause
 accept-accepted-requires-clause-start g c =
     start_fits c.args.profile c.args.framer.now.held c.requires.0 c.args.tables.now c.requires.1 c.ahead-ahead.result.now c.in-Some.ensures.between c.in-Some.ensures.fed c.in-Some.ensures.present c.in-Some.raw.start c.in-Some.ensures.start
 
-pub returns-clause-moves : goal.returns-clause-moves
-returns-clause-moves g c = λ taken p.
+pub returns-in-Ok-clause-moves : goal.returns-in-Ok-clause-moves
+returns-in-Ok-clause-moves g c = λ taken p.
     accepted c.args.profile c.args.framer.now.held taken c.args.tables.now p c.ahead-ahead.result.now c.in-Some.ensures.between c.in-Some.ensures.fed c.in-Some.ensures.present
     c.in-Some.raw.kind c.in-Some.raw.number c.in-Some.raw.start c.in-Some.raw.body.now (λ i. let fits = c.ahead-ahead.items_fit i in omega (arith, fits)) c.in-Some.ensures.sound c.in-Some.ensures.record c.in-Some.ensures.spelled c.in-Some.ensures.kind c.in-Some.ensures.body c.in-Some.ensures.number c.in-Some.ensures.start
     c.pass-size.new.self.held c.accept-accepted.new.tables c.pass-size.result (g.S.Source.seen c.args.reader.now).bytes (g.S.Source.seen c.consume.new.self).bytes (g.K.Keeper.kept c.args.keeper.now) (g.K.Keeper.kept c.accept-accepted.new.keeper)
     c.pass-size.ensures.size (subst (λ x. Consumes (g.S.Source.seen c.args.reader.now).bytes (g.S.Source.seen c.consume.new.self).bytes (take c.pass-size.result x)) (sym c.ahead-ahead.ensures.all) c.consume.ensures.bytes)
-    c.in_ok-accepted.ensures.grown c.pass-size.ensures.passed c.in_ok-accepted.ensures.sound c.in_ok-accepted.ensures.tables c.in_ok-accepted.ensures.bounded
+    c.in-Ok.ensures.grown c.pass-size.ensures.passed c.in-Ok.ensures.sound c.in-Ok.ensures.tables c.in-Ok.ensures.bounded
 
-pub returns-in_err-accepted-clause-cause : goal.returns-in_err-accepted-clause-cause
-returns-in_err-accepted-clause-cause g c = λ taken p.
-    let e = err_from_is_err_and c.from_residual.result c.from_residual.ensures.1 in
-    rw (e.1, e.2) (
-    subst (λ x. StopsAhead c.args.profile c.args.framer.now.held taken x (g.S.Source.seen c.args.reader.now).bytes (g.S.Source.seen c.consume.new.self).bytes c.in_err-accepted.field-0.0) c.ahead-ahead.ensures.all (
+pub returns-in-Err-clause-cause : goal.returns-in-Err-clause-cause
+returns-in-Err-clause-cause g c = λ taken p.
+    subst (λ x. StopsAhead c.args.profile c.args.framer.now.held taken x (g.S.Source.seen c.args.reader.now).bytes (g.S.Source.seen c.consume.new.self).bytes c.stopped.result) c.ahead-ahead.ensures.all (
     refused c.args.profile c.args.framer.now.held taken c.args.tables.now p c.ahead-ahead.result.now c.in-Some.ensures.between c.in-Some.ensures.fed c.in-Some.ensures.present
     c.in-Some.raw.kind c.in-Some.raw.number c.in-Some.raw.start c.in-Some.raw.body.now (λ i. let fits = c.ahead-ahead.items_fit i in omega (arith, fits)) c.in-Some.ensures.sound c.in-Some.ensures.record c.in-Some.ensures.spelled c.in-Some.ensures.kind c.in-Some.ensures.body c.in-Some.ensures.number c.in-Some.ensures.start
-    c.in_err-accepted.field-0.0 c.pass-size.result (g.S.Source.seen c.args.reader.now).bytes (g.S.Source.seen c.consume.new.self).bytes
+    c.stopped.result c.pass-size.result (g.S.Source.seen c.args.reader.now).bytes (g.S.Source.seen c.consume.new.self).bytes
     c.ahead-ahead.ensures.front c.pass-size.ensures.size (subst (λ x. Consumes (g.S.Source.seen c.args.reader.now).bytes (g.S.Source.seen c.consume.new.self).bytes (take c.pass-size.result x)) (sym c.ahead-ahead.ensures.all) c.consume.ensures.bytes)
-    c.in-Some.ensures.taken c.in_err-accepted.ensures.cause))
+    c.in-Some.ensures.taken
+    (subst (λ found. IsStopped found c.in-Some.raw.number c.in-Some.raw.start c.stopped.result) c.in-Err.ensures.cause c.stopped.ensures))

@@ -30,7 +30,7 @@ record_fault-requires-clause-short c =
     let meets = subst (λ x. Meets (contents c.args.raw.kind) 3 c.args.raw.body.now (map_ok contents_seen x)) c.in-Ok.is c.view-viewed.ensures.meets in
     spelled_short c.args.raw.kind c.args.raw.body.now (contents_seen c.in-Ok.rec) c.requires.short meets.spelled
 
-pub returns-clause-bounded : goal.returns-clause-bounded
-returns-clause-bounded c =
-    subst IsBounded (sym c.in_ok-add.ensures)
+pub returns-in-Ok-add-clause-bounded : goal.returns-in-Ok-add-clause-bounded
+returns-in-Ok-add-clause-bounded c =
+    subst IsBounded (sym c.in-Ok-add.ensures)
     (fits_on c.args.profile profile_limits c.args.self.now c.requires.bounded c.args.raw.start (rec_seen c.in-Ok.rec) (sym c.record_fault.ensures ∙ c.in_default.is)).1
