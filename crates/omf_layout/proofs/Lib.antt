@@ -13,5 +13,6 @@ pub mod SeveralLaws
 pub mod OwnLaws
 mod OrderModule
 mod ComdefLaws
+mod DosLaws
 mod HomeLaws
 mod CommunalRecords

@@ -6,3 +6,5 @@ pub mod Homes
 pub mod Stack
 pub mod Order
 pub mod OrderFault
+pub mod Ordered
+pub mod Rows

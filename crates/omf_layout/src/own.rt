@@ -6,8 +6,10 @@ mod dgroup;
 mod ends;
 mod fault;
 mod homes;
+pub mod laws;
 mod order;
 mod records;
+pub mod rows;
 mod slots;
 mod stack;
 

@@ -105,7 +105,7 @@ pub each-both : {A : Type 0} (P : A → Type 0) (xs ys : List A) → Each P xs �
 each-both P [] ys e f = f
 each-both P (x ∷ xs) ys e f = (e.0, each-both P xs ys e.1 f)
 
-each-weaker : {A : Type 0} (P Q : A → Type 0) → ((x : A) → P x → Q x) → (xs : List A) → Each P xs → Each Q xs
+pub each-weaker : {A : Type 0} (P Q : A → Type 0) → ((x : A) → P x → Q x) → (xs : List A) → Each P xs → Each Q xs
 each-weaker P Q w [] e = tt
 each-weaker P Q w (x ∷ xs) e = (w x e.0, each-weaker P Q w xs e.1)
 
@@ -125,7 +125,7 @@ pairs-at (z ∷ zs) e (suc i) (suc j) x y lt h k = pairs-at zs e.1 i j x y (omeg
 
 module _ (frames : Frames) where
   -- A segment is well placed from one address on and up to another.
-  record LiesWell (low high : ℕ) (x : Lying) : Type 0 where
+  pub record LiesWell (low high : ℕ) (x : Lying) : Type 0 where
     pub relative : IsRelocatable x → LiesWithin frames low high x
     pub absolute : (number offset : ℕ) → x.0.segment.absolute ≡ Some (number, offset) → x.1 ≡ absolute_place number offset
 
@@ -136,7 +136,7 @@ module _ (frames : Frames) where
   }
 
   -- Segments are well placed and do not overlap, from one address on and up to another.
-  record LieWell (low : ℕ) (l : Laid (List Lying)) : Type 0 where
+  pub record LieWell (low : ℕ) (l : Laid (List Lying)) : Type 0 where
     pub up : low ≤ l.free
     pub each : Each (LiesWell low l.free) l.what
     pub pairs : Pairs l.what
@@ -286,7 +286,7 @@ module _ (frames : Frames) where
     | inr n ↦ subst (Each P) (sym (cond-false (t p) (p ∷ filter t ps) (filter t ps) n)) (each-filter P t w ps)
   ]
 
-  run-well : (free : ℕ) (run : List Portion) (l : Laid (List Lying)) → run_laid frames free run ≡ Some l → LieWell free l
+  pub run-well : (free : ℕ) (run : List Portion) (l : Laid (List Lying)) → run_laid frames free run ≡ Some l → LieWell free l
   run-well free run l h =
       behind-well free (joined_laid frames free (combined_by Joined run)) _ l h
       (λ k e. joined-well free (combined_by Joined run) k (each-filter (λ p. p.segment.absolute ≡ None) (λ p. is_same_combination Joined (lies_by p.segment.absolute p.combination)) (λ p y. relative-by Joined refl p.segment.absolute p.combination y) run) e)
@@ -295,7 +295,7 @@ module _ (frames : Frames) where
       (λ p y. record { relative = relative-by Common refl p.segment.absolute p.combination y; common = is-common p.segment.absolute p.combination y }) run) d)
       (λ m j d. all-well (alone_laid frames) (λ p. ⊤) alone-one m (combined_by Alone run) j (any-each (combined_by Alone run)) d))
 
-  runs-well : (free : ℕ) (rs : List (List Portion)) (l : Laid (List Lying)) → runs_laid frames free rs ≡ Some l → LieWell free l
+  pub runs-well : (free : ℕ) (rs : List (List Portion)) (l : Laid (List Lying)) → runs_laid frames free rs ≡ Some l → LieWell free l
   runs-well free [] l h = none-well free l h
   runs-well free (r ∷ rs) l h = behind-well free (run_laid frames free r) (λ behind. runs_laid frames behind rs) l h (λ k e. run-well free r k e) (λ n k e. runs-well n rs k e)
 

@@ -11,7 +11,7 @@ module _ {A B : Type 0} (f : A → B) where
   abbrev seen : List ℕ × A → List ℕ × B
   seen x = (x.0, f x.1)
 
-  names-seen : (xs : List (List ℕ × A)) → names_in (map seen xs) ≡ names_in xs
+  pub names-seen : (xs : List (List ℕ × A)) → names_in (map seen xs) ≡ names_in xs
   names-seen [] = refl
   names-seen (x ∷ xs) = ap (λ ns. x.0 ∷ ns) (names-seen xs)
 
@@ -19,7 +19,7 @@ module _ {A B : Type 0} (f : A → B) where
   one-seen true a xs = refl
   one-seen false a xs = refl
 
-  of-name-seen : (xs : List (List ℕ × A)) (n : List ℕ) → of_name (map seen xs) n ≡ map f (of_name xs n)
+  pub of-name-seen : (xs : List (List ℕ × A)) (n : List ℕ) → of_name (map seen xs) n ≡ map f (of_name xs n)
   of-name-seen [] n = refl
   of-name-seen (x ∷ xs) n = ap (cons_option (value_of n (seen x))) (of-name-seen xs n) ∙ one-seen (bytes_eq n x.0) x.1 (of_name xs n)
 
@@ -30,7 +30,7 @@ module _ {A B : Type 0} (f : A → B) where
   pub gathered-seen : (xs : List (List ℕ × A)) → gathered (map seen xs) ≡ map (map f) (gathered xs)
   gathered-seen xs = ap (λ ns. map (of_name (map seen xs)) (distinct ns)) (names-seen xs) ∙ each-seen xs (distinct (names_in xs))
 
-map-map : {A B C : Type 0} (f : B → C) (g : A → B) (xs : List A) → map f (map g xs) ≡ map (λ x. f (g x)) xs
+pub map-map : {A B C : Type 0} (f : B → C) (g : A → B) (xs : List A) → map f (map g xs) ≡ map (λ x. f (g x)) xs
 map-map f g [] = refl
 map-map f g (x ∷ xs) = ap (λ ys. f (g x) ∷ ys) (map-map f g xs)
 

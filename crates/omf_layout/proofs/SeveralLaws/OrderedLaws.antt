@@ -61,7 +61,7 @@ module _ (frames : Frames) where
   alone-one : (free : ℕ) (p : Portion) (one : Laid Lying) → alone_laid frames free p ≡ Some one → one.what.0 ≡ p
   alone-one free p one h = map_some (lying_there p) (segment_laid frames free (p.segment, p.alignment)) one h (λ k e g. ap (λ m. m.what.0) (sym g))
 
-  those-in-run : (free : ℕ) (run : List Portion) (l : Laid (List Lying)) → run_laid frames free run ≡ Some l → AreThose (in_order run) l
+  pub those-in-run : (free : ℕ) (run : List Portion) (l : Laid (List Lying)) → run_laid frames free run ≡ Some l → AreThose (in_order run) l
   those-in-run free run l h =
       those-behind (combined_by Joined run) (combined_by Common run ++ combined_by Alone run) (joined_laid frames free (combined_by Joined run)) _ l h (λ k e. those-joined free (combined_by Joined run) k e)
       (λ n k e. those-behind (combined_by Common run) (combined_by Alone run) (common_laid frames n (combined_by Common run)) _ k e (λ j d. those-common n (combined_by Common run) j d)

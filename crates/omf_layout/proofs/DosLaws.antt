@@ -1,0 +1,10 @@
+pub mod KeyLaws
+pub mod RunLaws
+pub mod FrontLaws
+pub mod PartLaws
+pub mod DosOrder
+pub mod EmptyLaws
+pub mod PlaceLaws
+pub mod OrderAlone
+pub mod RankLaws
+pub mod RoomLaws
