@@ -45,3 +45,6 @@ pub mod DerivingLaws
 pub mod DefaultLaws
 pub mod ReferredLaws
 pub mod ComLaws
+pub mod PublicMoves
+pub mod ExternalMoves
+pub mod ExternalLaws

@@ -58,7 +58,7 @@ none-by : {A B : Type 0} (c : Bool) (bs : List A) (xs : List B) (i : ℕ) → le
 none-by true bs xs i e h = none-at bs xs i e h
 none-by false bs xs i e h = refl
 
-segment-both : (k : ℕ) (b : Bool) (o : Option Placed) → option_map (λ p. cond b (moved_place k p) p) o ≡ option_map (parted_place k (both b)) o
+pub segment-both : (k : ℕ) (b : Bool) (o : Option Placed) → option_map (λ p. cond b (moved_place k p) p) o ≡ option_map (parted_place k (both b)) o
 segment-both k true None = refl
 segment-both k false None = refl
 segment-both k true (Some p) = refl

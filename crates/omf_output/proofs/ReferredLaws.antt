@@ -10,13 +10,12 @@ use Rattle.omf_check.specs.Tables.{entry, externals}
 use Rattle.omf_placement.specs.declared.several.pairs.WeakPair.{WeakPair}
 use Rattle.omf_placement.specs.declared.several.sources.Base.{Base}
 use Rattle.omf_placement.specs.declared.several.sources.Source.{Source}
-use Rattle.omf_placement.specs.declared.several.sources.Definer.{Definer}
 use Rattle.omf_placement.specs.Derive.{named_externals}
 use Rattle.omf_placement.specs.Inner.Linkage.{NamedSource, contents_sources, definer, definer_at, definers, linkage, of_source, record_sources, seen_sources, sources, sources_at}
 use Rattle.omf_placement.specs.Weak.{weak_pairs}
 use Rattle.omf_placement.proofs.NamedLaws.{entry-suc, named-count}
 use Rattle.omf_output.specs.declared.exe.movers.Moving.{Moving}
-use Rattle.omf_output.specs.Exe.Derived.{BasedModule, MovingPublic, Named, all_movers, base_moving, bases_in, default_in, default_moving, external_moving, externals_moving, movers_in, moving_in_module, moving_in_record, moving_of_name, moving_publics, only, public_moving, referred, seen_moving, single_of, with_bases}
+use Rattle.omf_output.specs.Exe.Derived.{MovingPublic, Named, all_movers, base_moving, bases_in, default_in, default_moving, external_moving, externals_moving, movers_in, moving_in_module, moving_in_record, moving_of_name, moving_publics, only, public_moving, referred, seen_moving, single_of, with_bases}
 use Rattle.omf_output.specs.Exe.Moved.{Movers, both}
 use Rattle.omf_output.specs.Inner.Referred.{completed, defined_moving, linked_externals, linked_moving, only_moving, single_at, source_moving}
 
@@ -25,7 +24,7 @@ use Rattle.omf_output.specs.Inner.Referred.{completed, defined_moving, linked_ex
 get-map : {A B : Type 0} (f : A → B) (xs : List A) (k : ℕ) (x : A) → slice_get xs k ≡ Some x → slice_get (map f xs) k ≡ Some (f x)
 get-map f xs k x e = slice_get-map f xs k ∙ ap (option_map f) e
 
-get-enumerated : {A : Type 0} (xs : List A) (s k : ℕ) (x : A) → slice_get xs k ≡ Some x → slice_get (enumerate_from s xs) k ≡ Some (s + k, x)
+pub get-enumerated : {A : Type 0} (xs : List A) (s k : ℕ) (x : A) → slice_get xs k ≡ Some x → slice_get (enumerate_from s xs) k ≡ Some (s + k, x)
 get-enumerated [] s k x e = absurd (none-some x e)
 get-enumerated (y ∷ xs) s zero x e = ap₂ (λ n z. Some (n, z)) (omega arith) (same_Some y x e)
 get-enumerated (y ∷ xs) s (suc k) x e = get-enumerated xs (s + 1) k x e ∙ ap (λ n. Some (n, x)) (omega arith)

@@ -1,14 +1,21 @@
 -- Laws over the definitions, each the contract of a function of the same name.
-use Rattle.std.specs.Prelude.{◌≡◌, ℕ, ◌+◌, ◌*◌, ◌%◌, ◌≤◌, List, length, map, flat_map, option_map, All, IsOk, true}
+use Rattle.std.specs.Prelude.{◌≡◌, ◌↔◌, ℕ, ◌+◌, ◌*◌, ◌%◌, ◌^◌, ◌<◌, ◌≤◌, List, [], length, map, flat_map, zip, option_map, All, Ok, IsOk, Result, true}
+use Rattle.std.specs.List.{AllZip}
 use Rattle.omf_records.specs.Values.{DataItem, Rec}
 use Rattle.omf_image.specs.Limits.{profile_limits}
+use Rattle.omf_placement.specs.declared.several.fault.DeriveFault.{DeriveFault}
+use Rattle.omf_placement.specs.Derivation.{IsPlaceOf}
+-- computed: derived_is_taken of omf_placement.
+use Rattle.omf_placement.specs.Inner.Derived.{derived}
 use Rattle.omf_placement.specs.Placement.{Places}
+use Rattle.omf_placement.specs.Weak.{with_weak}
 use Rattle.omf_reloc.specs.Image.{patched, laid, start}
 use Rattle.omf_reloc.specs.Reach.{Reaches}
 use Rattle.omf_reloc.specs.Laws.{AreInside}
 use Rattle.omf_reloc.specs.Offsets.{outcome, outcome_at}
 use Rattle.std.specs.Result.{result_map_both}
 use Rattle.omf_reloc.specs.Plain.{PlainFixup, pieces}
+use Rattle.omf_output.specs.Exe.Derived.{AreMovers}
 use Rattle.omf_output.specs.Exe.Moved.{Movers, AreMoversOf, moved}
 use Rattle.omf_output.specs.Exe.Loading.{Loaded, loaded}
 use Rattle.omf_output.specs.Exe.Exe.{Program, CanBeWritten, exe}
@@ -78,3 +85,23 @@ WordsAreMoved = (k : ℕ) (words bytes : List ℕ) → All (λ at. at + 2 ≤ le
 -- The relocation words of a program do not overlap.
 abbrev pub WordsStandApart : Type 0
 WordsStandApart = (n : ℕ) (ms : List MovingModule) (code stack : ℕ × ℕ) → IsProgram n ms code stack → AreApart (flat_words 0 (all_chunks ms))
+
+-- The placements of modules, each moved by k paragraphs.
+abbrev pub all_moved : ℕ → List Movers → List Places → List Places
+all_moved k mvs pls = map (λ x. moved k x.0 x.1) (zip mvs pls)
+
+-- The placements of modules at their places, each external at the only public of its name, or if it is weak and has none at its default. No external has a
+-- place given by hand.
+abbrev pub derived_at : List (List Rec) → List Places → Result (List Places) DeriveFault
+derived_at ms pls = derived (zip ms pls) (with_weak (zip ms pls) [])
+
+-- Each external has an address below 2^32; a public with a higher one gives no place.
+abbrev pub AreLow : List Places → Type 0
+AreLow pls = All (λ pl. All (λ p. p.address < 2 ^ 32) pl.externals) pls
+
+-- Well-formed modules whose externals are derived: at their segments and groups moved by k paragraphs, the externals are derived exactly at their places moved by
+-- k paragraphs, if and only if each of these is below 2^32.
+abbrev pub ExternalsMove : Type 0
+ExternalsMove = (k : ℕ) (ms : List (List Rec)) (pls placements : List Places) (mvs : List Movers) → All (ModuleHolds profile_limits) ms → AllZip IsPlaceOf ms pls
+    → AreMovers ms (zip ms pls) mvs → derived_at ms pls ≡ Ok placements
+    → (derived_at ms (all_moved k mvs pls) ≡ Ok (all_moved k mvs placements)) ↔ AreLow (all_moved k mvs placements)

@@ -1,6 +1,6 @@
 -- Words of the worked examples.
-use Rattle.std.specs.Prelude.{ℕ, ◌+◌, List, [], ◌∷◌, ◌++◌, true, false, Some, None}
-use Rattle.omf_records.specs.Values.{At, Rec, Names, Segment, Group, Plain, Iterated, Fixups, ModEnd, Fixup, SegmentItem}
+use Rattle.std.specs.Prelude.{ℕ, ◌+◌, List, [], ◌∷◌, ◌++◌, Bool, true, false, Some, None, codes}
+use Rattle.omf_records.specs.Values.{At, Rec, Names, Segment, Group, Comment, Externs, Publics, Plain, Iterated, Fixups, ModEnd, Fixup, SegmentItem}
 use Rattle.omf_check.specs.declared.method.FrameMethod.{FrameMethod}
 use Rattle.omf_check.specs.declared.method.TargetMethod.{TargetMethod}
 use Rattle.omf_placement.specs.declared.frame.Placed.{Placed}
@@ -8,7 +8,8 @@ use Rattle.omf_frame.specs.declared.fault.Place.{Place}
 use Rattle.omf_check.specs.Threads.{T0}
 use Rattle.omf_check.specs.declared.method.FrameMethod.TheVariants.{Target as F5}
 use Rattle.omf_reloc.specs.Plain.{Piece, Kept, Fixed, PlainFixup}
-use Rattle.omf_output.specs.Exe.Moved.{Movers}
+use Rattle.omf_output.specs.declared.exe.movers.Moving.{Moving}
+use Rattle.omf_output.specs.Exe.Moved.{Movers, both}
 use Rattle.omf_placement.specs.Placement.{Places}
 use Rattle.omf_output.specs.Exe.Members.{Member, Portion}
 use Rattle.omf_output.specs.Exe.Memory.{MovingModule}
@@ -127,3 +128,43 @@ data_and_fixups =
 abbrev pub numbered_records : ℕ → List Rec → List (Place × Rec)
 numbered_records n [] = []
 numbered_records n (r ∷ rs) = (place n, r) ∷ numbered_records (n + 1) rs
+
+-- A module with the externals "A", "B" and "W", where A is the default of W; and one with two segments, of which the second is absolute at 40:0, and a group of the
+-- first. Its public A is at offset 2 of segment 1; its public B is at offset 6CH of segment 2, in the frame of the group.
+abbrev pub asks : List Rec
+asks =
+    record { kind = 0x8C; contents = Externs (at 3 (record { name = codes "A"; type_index = 0 }) ∷ at 6 (record { name = codes "B"; type_index = 0 }) ∷ at 9 (record { name = codes "W"; type_index = 0 }) ∷ []) }
+    ∷ record { kind = 0x88; contents = Comment 0x80 0xA8 (3 ∷ 1 ∷ []) }
+    ∷ []
+
+abbrev pub segment_at_40 : SegmentItem
+segment_at_40 = record { attribute = 0; absolute = Some (0x40, 0); size = 0x100; name = at 9 1; class = at 10 1; overlay = 1 }
+
+abbrev pub public_in : ℕ → ℕ → List ℕ → ℕ → Rec
+public_in group segment name offset = record { kind = 0x90; contents = Publics (record { group = at 3 group; segment = at 4 segment; frame = None; items = at 5 (record { name = name; offset = offset; type_index = 0 }) ∷ [] }) }
+
+abbrev pub defines : List Rec
+defines =
+    record { kind = 0x98; contents = Segment segment_of_4 }
+    ∷ record { kind = 0x98; contents = Segment segment_at_40 }
+    ∷ record { kind = 0x9A; contents = Group (record { name = at 3 1; members = at 4 (at 5 1) ∷ [] }) }
+    ∷ public_in 0 1 (codes "A") 2
+    ∷ public_in 1 2 (codes "B") 0x6C
+    ∷ []
+
+-- Their places, with the first segment at an address in a frame; and their placements, with these externals.
+abbrev pub their_places : Placed → List Placed → List Places
+their_places first externals =
+    record { segments = []; groups = []; externals = externals }
+    ∷ record { segments = first ∷ placed_at 0x400 0x400 0x40 ∷ []; groups = first.frame ∷ []; externals = [] }
+    ∷ []
+
+-- What moves of them: segment 1 and the group; A and W; the frame of B, but not its address.
+abbrev pub moving_in_part : Bool → Bool → Moving
+moving_in_part address frame = record { address = address; frame = frame }
+
+abbrev pub their_movers : List Movers
+their_movers =
+    record { segments = []; groups = []; externals = both true ∷ moving_in_part false true ∷ both true ∷ [] }
+    ∷ record { segments = true ∷ false ∷ []; groups = true ∷ []; externals = [] }
+    ∷ []

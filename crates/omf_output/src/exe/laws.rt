@@ -1,6 +1,6 @@
 //! Laws about the definitions, each the contract of an empty function.
 
-ghost use Rattle.omf_output.specs.Exe.Laws.{OutcomesMove, DataMove, FilesAreLoaded, ChunksAreLaid, ChunksMove, ImagesMove, ProgramsAreLoaded, StartsMove, PlacementsReach, JudgedMove, WordsAreMoved, WordsStandApart};
+ghost use Rattle.omf_output.specs.Exe.Laws.{OutcomesMove, DataMove, FilesAreLoaded, ChunksAreLaid, ChunksMove, ImagesMove, ProgramsAreLoaded, StartsMove, PlacementsReach, JudgedMove, WordsAreMoved, WordsStandApart, ExternalsMove};
 ghost use Rattle.omf_output.specs.Exe.Movable.{MovingIsDecided};
 ghost use Rattle.omf_output.specs.Exe.Overlaps.{OverlapsAreFound, ProgramsAreJudged};
 
@@ -80,4 +80,10 @@ pub fn overlaps_are_found()
 /// words are theirs, and no data record of any of them covers an earlier word.
 pub fn programs_are_judged()
     ensures { ProgramsAreJudged }
+{}
+
+/// Externals that are derived at moved segments and groups are where those derived at the unmoved ones are moved to, each as the base of its only
+/// public, and a weak one without a public as its default: if and only if all of them are below 2^32 there.
+pub fn externals_move()
+    ensures { ExternalsMove }
 {}

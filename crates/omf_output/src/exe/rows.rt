@@ -1,6 +1,6 @@
 //! Worked examples, each evaluated by the check.
 
-ghost use Rattle.std.specs.Prelude.{◌≡◌, [], ◌∷◌, ◌++◌, drop, length, map, Some, None, Ok, Err, true, false};
+ghost use Rattle.std.specs.Prelude.{◌≡◌, [], ◌∷◌, ◌++◌, drop, length, map, zip, Some, None, Ok, Err, true, false};
 ghost use Rattle.std.specs.List.{repeat};
 ghost use Rattle.omf_check.specs.Threads.{F0, T0};
 ghost use Rattle.omf_check.specs.declared.method.FrameMethod.TheVariants.{Target as F5};
@@ -12,8 +12,10 @@ ghost use Rattle.omf_output.specs.Exe.Memory.{IsProgram, program};
 ghost use Rattle.omf_output.specs.Exe.Judged.{pieces_move};
 ghost use Rattle.omf_reloc.specs.Plain.{Fixed, pieces};
 ghost use Rattle.omf_output.specs.Exe.Loading.{loaded};
+ghost use Rattle.omf_output.specs.Exe.Derived.{AreMovers};
+ghost use Rattle.omf_output.specs.Exe.Laws.{all_moved, derived_at};
 ghost use Rattle.omf_output.specs.Exe.Moved.{moved};
-ghost use Rattle.omf_output.specs.Exe.Rows.{at_0, base_under_offset, blocks_of_2, both_move, data_and_fixups, file, fixup, in_a_group, joined_in_a_group, joined_segments, loads_its_segment, member_0, near_to_1, numbered, numbered_records, one_of_two, place, stack_portion, two_apart, two_apart_grouped, two_segments};
+ghost use Rattle.omf_output.specs.Exe.Rows.{asks, at_0, base_under_offset, blocks_of_2, both_move, data_and_fixups, defines, file, fixup, in_a_group, joined_in_a_group, joined_segments, loads_its_segment, member_0, near_to_1, numbered, numbered_records, one_of_two, place, placed_at, stack_portion, their_movers, their_places, two_apart, two_apart_grouped, two_segments};
 ghost use Rattle.omf_output.specs.Near.{first_stray, group_of, strays};
 ghost use Rattle.omf_output.specs.Exe.Movable.{first_unmoved};
 ghost use Rattle.omf_output.specs.Located.{located};
@@ -139,4 +141,14 @@ pub fn what_no_com_file_has()
     ensures stays { counts_apart two_apart one_of_two 1 (fixup 0xC402 F5 (T0 2)).1 ≡ false }
     ensures base { counts_apart two_apart both_move 1 (fixup 0xC802 F5 (T0 2)).1 ≡ false }
     ensures distance { counts_apart two_apart both_move 1 (fixup 0x8402 F5 (T0 2)).1 ≡ false }
+{}
+
+/// Externals at moved places: A, and W whose default it is, move with segment 1; B has an absolute address in a frame that moves. Derived at the
+/// segments and groups 1000H paragraphs higher, they are the same as moved there.
+pub fn derived_externals()
+    ensures movers { AreMovers (asks ∷ defines ∷ []) (zip (asks ∷ defines ∷ []) (their_places (placed_at 0x20 0x20 2) [])) their_movers }
+    ensures low { derived_at (asks ∷ defines ∷ []) (their_places (placed_at 0x20 0x20 2) []) ≡ Ok (their_places (placed_at 0x20 0x20 2) (placed_at 0x22 0x20 2 ∷ placed_at 0x46C 0x20 2 ∷ placed_at 0x22 0x20 2 ∷ [])) }
+    ensures moved_places { all_moved 0x1000 their_movers (their_places (placed_at 0x20 0x20 2) []) ≡ their_places (placed_at 0x10020 0x10020 0x1002) [] }
+    ensures high { derived_at (asks ∷ defines ∷ []) (their_places (placed_at 0x10020 0x10020 0x1002) []) ≡ Ok (their_places (placed_at 0x10020 0x10020 0x1002) (placed_at 0x10022 0x10020 0x1002 ∷ placed_at 0x46C 0x10020 0x1002 ∷ placed_at 0x10022 0x10020 0x1002 ∷ [])) }
+    ensures moved_externals { all_moved 0x1000 their_movers (their_places (placed_at 0x20 0x20 2) (placed_at 0x22 0x20 2 ∷ placed_at 0x46C 0x20 2 ∷ placed_at 0x22 0x20 2 ∷ [])) ≡ their_places (placed_at 0x10020 0x10020 0x1002) (placed_at 0x10022 0x10020 0x1002 ∷ placed_at 0x46C 0x10020 0x1002 ∷ placed_at 0x10022 0x10020 0x1002 ∷ []) }
 {}
