@@ -25,7 +25,7 @@ use Rattle.omf_linking.specs.Locator.Sparse.{Sparse, sparse_of, sparse_all}
 use Rattle.omf_linking.specs.declared.locator.fault.LineFault.{LineFault}
 use Rattle.omf_linking.specs.declared.locator.fault.LineFault.TheVariants as why
 use Rattle.omf_linking.specs.declared.locator.fault.LocatorFault.TheVariants as fault
-use Rattle.omf_linking.specs.Locator.Drafted.{AllNamed, AreNamed, HasEntries, Labels, all_groups, all_lines, all_segments, blanks, group_lines_of, group_told, groups_framed, is_same, is_sharing, labels_from, module_lines, segment_lines_of, segment_told, segments_framed, sharing, told_from, told_places}
+use Rattle.omf_linking.specs.Locator.Drafted.{AllNamed, AreNamed, AreShared, HasEntries, Labels, Sharing, all_groups, all_lines, all_segments, blanks, group_lines_of, group_told, groups_framed, is_same, is_sharing, labels_from, module_lines, segment_lines_of, segment_told, segments_framed, sharing, told_from, told_places}
 
 -- ---- what is given
 
@@ -240,14 +240,16 @@ module _ (title : List Rec → ℕ → Title) (ms : List (List Rec)) (j i : ℕ)
       ap (λ o. option_map_or (λ n. bytes_eq own.0 (in_quotes (title n i)).0 && bytes_eq own.1 (in_quotes (title n i)).1) o false) here
       ∙ and_from (bytes_eq own.0 own.0) (bytes_eq own.1 own.1) ((bytes_eq-Decides own.0 own.0).1 refl) ((bytes_eq-Decides own.1 own.1).1 refl)
 
-  frame-before : (before later all : List Framed) → all ≡ before ++ ((j, i), Some f) ∷ later → sharing title ms all j m i f ≡ true → shared_frame title ms own before ≡ Some f
-  frame-before before later all split h =
+  pub first-of-all : (before later all : List Framed) → all ≡ before ++ ((j, i), Some f) ∷ later → first_titled title ms own all ≡ option_or (first_titled title ms own before) (Some ((j, i), Some f))
+  first-of-all before later all split =
       let x : Framed = ((j, i), Some f) in
       let test : Framed → Bool = λ g. is_titled title ms own g.0 in
-      let found : first_titled title ms own all ≡ option_or (first_titled title ms own before) (Some x)
-      = ap (first_titled title ms own) split ∙ find-append test before (x ∷ later)
-      ∙ ap (option_or (first_titled title ms own before)) (cond-true (test x) (Some x) (find test later) own-titled) in
-      shared-before j i f (first_titled title ms own before) (sym (ap (is_sharing (j, i) f) found) ∙ h)
+      ap (first_titled title ms own) split ∙ find-append test before (x ∷ later)
+      ∙ ap (option_or (first_titled title ms own before)) (cond-true (test x) (Some x) (find test later) own-titled)
+
+  frame-before : (before later all : List Framed) → all ≡ before ++ ((j, i), Some f) ∷ later → sharing title ms all j m i f ≡ true → shared_frame title ms own before ≡ Some f
+  frame-before before later all split h =
+      shared-before j i f (first_titled title ms own before) (sym (ap (is_sharing (j, i) f) (first-of-all before later all split)) ∙ h)
 
 -- Of all frames of segments and groups the lines so far give the first, and these are left.
 pub record AreLeft (all : List Places) (before : List Item) (ls lg : List Framed) : Type 0 where
@@ -350,10 +352,10 @@ module _ (ms : List (List Rec)) (all : List Places) where
         let more = segments_framed j (s + 1) ps ++ ls in
         let joined : (before ++ x ∷ []) ++ xs ≡ before ++ x ∷ xs = append_assoc before (x ∷ []) xs in
         let rest = run-segments (before ++ x ∷ []) q (s + 1) g ps ls lg is (gives-segment before j s g p h) (left-segment all before more lg j s p left) (λ i low high. named i (omega (arith, low)) (omega (arith, high))) in
-        let b = q.shares_segment s p.frame in
+        let b = q.shares.segment s p.frame in
         let line = Gives (q.segment s) (segment_told b p) in
         let one = runs-one before line x (segment-item before s g (q.segment s) p b h (named s (omega arith) (omega arith))
-        (λ e. frame-before segment_title ms j s m p.frame here (filter_map segment_framed before) more (all_segments 0 all) left.segments (is.shared_segments s p.frame e))) in
+        (λ e. frame-before segment_title ms j s m p.frame here (filter_map segment_framed before) more (all_segments 0 all) left.segments (is.shared.segments s p.frame e))) in
         let first : segment_place (before ++ x ∷ []) j s ≡ Some p
         = ap (λ gs. given_to gs j s) (picked-more segment_given before x (Some ((j, s), p)) refl) ∙ given-here (filter_map segment_given before) j s p (h.segments j s (inr (refl, omega arith))) in
         record {
@@ -384,10 +386,10 @@ module _ (ms : List (List Rec)) (all : List Places) where
         let more = groups_framed j (g + 1) fs ++ lg in
         let joined : (before ++ x ∷ []) ++ xs ≡ before ++ x ∷ xs = append_assoc before (x ∷ []) xs in
         let rest = run-groups (before ++ x ∷ []) q s (g + 1) fs ls lg is (gives-group before j s g (Some f) h) (left-group all before ls more j g f left) (λ i low high. named i (omega (arith, low)) (omega (arith, high))) in
-        let b = q.shares_group g f in
+        let b = q.shares.group g f in
         let line = Gives (q.group g) (group_told b f) in
         let one = runs-one before line x (group-item before s g (q.group g) f b h (named g (omega arith) (omega arith))
-        (λ e. frame-before group_title ms j g m f here (filter_map group_given before) more (all_groups 0 all) left.groups (is.shared_groups g f e))) in
+        (λ e. frame-before group_title ms j g m f here (filter_map group_given before) more (all_groups 0 all) left.groups (is.shared.groups g f e))) in
         let first : group_frame (before ++ x ∷ []) j g ≡ Some (Some f)
         = ap (λ gs. given_to gs j g) (picked-more group_given before x (Some ((j, g), Some f)) refl) ∙ given-here (filter_map group_given before) j g (Some f) (h.groups j g (inr (refl, omega arith))) in
         record {
@@ -496,8 +498,8 @@ all-told ms pls qs named =
 
 -- ---- the keys of drafts
 
-module _ (shared : Bool) (ms : List (List Rec)) (all : List Places) where
-  all-named : (a : ℕ) (ns : List (List Rec)) (pls : List Places) (cs : List ℕ) → ((k : ℕ) → slice_get ns k ≡ slice_get ms (a + k)) → AllZip HasEntries ns pls → length cs ≡ length ns → AllNamed ms all a ns pls (labels_from shared ms all a ns cs)
+module _ (shares : ℕ → List Rec → Sharing) (ms : List (List Rec)) (all : List Places) (are : (j : ℕ) (m : List Rec) → AreShared ms all j m (shares j m)) where
+  all-named : (a : ℕ) (ns : List (List Rec)) (pls : List Places) (cs : List ℕ) → ((k : ℕ) → slice_get ns k ≡ slice_get ms (a + k)) → AllZip HasEntries ns pls → length cs ≡ length ns → AllNamed ms all a ns pls (labels_from shares ms a ns cs)
   all-named a [] [] cs here has many = tt
   all-named a [] (pl ∷ pls) cs here has many = absurd has
   all-named a (m ∷ ns) [] cs here has many = absurd has
@@ -508,12 +510,11 @@ module _ (shared : Bool) (ms : List (List Rec)) (all : List Places) where
           «module» = keys-name-module ms a m (ap (slice_get ms) same ∙ sym (here 0));
           segments = λ i low high. keys-name m kinds.Segment i low high;
           groups = λ i low high. keys-name m kinds.Group i low high;
-          shared_segments = λ i f h. (and_parts shared (sharing segment_title ms (all_segments 0 all) a m i f) h).1;
-          shared_groups = λ i f h. (and_parts shared (sharing group_title ms (all_groups 0 all) a m i f) h).1;
+          shared = are a m;
         },
         (has.0, all-named (a + 1) ns pls cs (λ k. let next : a + suc k ≡ a + 1 + k = omega arith in here (suc k) ∙ ap (slice_get ms) next) has.1 (omega (arith, many))),
       )
 
-pub drafted-told : (shared : Bool) (ms : List (List Rec)) (pls : List Places) (cs : List ℕ) → AllZip HasEntries ms pls → length cs ≡ length ms
-    → map_ok (sparse_all ms) (items_after ms [] (told_from 1 (all_lines pls (labels_from shared ms pls 0 ms cs) ++ Blank ∷ []))) ≡ Ok (map told_places (zip ms pls))
-drafted-told shared ms pls cs has many = all-told ms pls (labels_from shared ms pls 0 ms cs) (all-named shared ms pls 0 ms pls cs (λ k. let same : k ≡ 0 + k = omega arith in ap (slice_get ms) same) has many)
+pub drafted-told : (shares : ℕ → List Rec → Sharing) (ms : List (List Rec)) (pls : List Places) (cs : List ℕ) → ((j : ℕ) (m : List Rec) → AreShared ms pls j m (shares j m)) → AllZip HasEntries ms pls → length cs ≡ length ms
+    → map_ok (sparse_all ms) (items_after ms [] (told_from 1 (all_lines pls (labels_from shares ms 0 ms cs) ++ Blank ∷ []))) ≡ Ok (map told_places (zip ms pls))
+drafted-told shares ms pls cs are has many = all-told ms pls (labels_from shares ms 0 ms cs) (all-named shares ms pls are 0 ms pls cs (λ k. let same : k ≡ 0 + k = omega arith in ap (slice_get ms) same) has many)

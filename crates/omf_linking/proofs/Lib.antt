@@ -22,4 +22,5 @@ pub mod KeyNames
 pub mod KeyTableLaws
 pub mod TitleLaws
 pub mod ItemLaws
+pub mod SharingLaws
 pub mod FoldLaws

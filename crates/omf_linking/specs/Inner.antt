@@ -7,6 +7,7 @@ pub mod Gathering
 pub mod LineParsing
 pub mod KeyTables
 pub mod Titling
+pub mod Sharing
 pub mod Walking
 pub mod Forms
 pub mod Folding

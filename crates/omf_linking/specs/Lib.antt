@@ -15,3 +15,4 @@ pub mod Locator
 pub mod Inner
 pub mod Folded
 pub mod FoldedText
+pub mod PlainText

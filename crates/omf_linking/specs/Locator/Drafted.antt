@@ -1,8 +1,9 @@
 -- The lines of a draft, by their entries: each names its module or entry by a key (this profile's rule).
-use Rattle.std.specs.Prelude.{◌≡◌, ◌≤◌, ⊤, ℕ, zero, suc, ◌+◌, List, [], ◌∷◌, ◌++◌, length, map, flat_map, Bool, true, false, ◌==◌, ◌&&◌, not, Option, Some, None, Ok, if◌then◌else◌}
+use Rattle.std.specs.Prelude.{◌≡◌, ◌≤◌, ⊤, ℕ, zero, suc, ◌+◌, List, [], ◌∷◌, ◌++◌, length, map, flat_map, zip, Bool, true, false, ◌==◌, ◌&&◌, ◌||◌, not, Option, Some, None, is_some, Ok, if◌then◌else◌}
 use Rattle.std.specs.List.{enumerate_from}
-use Rattle.omf_records.specs.Values.{Rec}
-use Rattle.omf_check.specs.Tables.{segments, groups, externals}
+use Rattle.std.specs.Option.{option_map_or}
+use Rattle.omf_records.specs.Values.{Rec, combination}
+use Rattle.omf_check.specs.Tables.{attributes, entry, segments, groups, externals}
 use Rattle.omf_placement.specs.Placement.{Places}
 use Rattle.omf_placement.specs.declared.frame.Frame.{Frame}
 use Rattle.omf_placement.specs.declared.frame.Placed.{Placed}
@@ -23,14 +24,17 @@ pub record HasEntries (m : List Rec) (pl : Places) : Type 0 where
 abbrev pub told_places : List Rec × Places → Sparse
 told_places m = record { segments = map Some m.1.segments; groups = map (λ f. Some (Some f)) m.1.groups; externals = map (λ e. None) (externals m.0) }
 
--- The keys by which the lines of a module name it, its segments and its groups; which of these share the frame of their name; and how many comments are after these
--- lines.
+-- Which segments and groups of a module share the frame of their name, by their indices and frames.
+pub record Sharing : Type 0 where
+  pub segment : ℕ → Frame → Bool
+  pub group : ℕ → Frame → Bool
+
+-- The keys by which the lines of a module name it, its segments and its groups; which of these share a frame; and how many comments are after these lines.
 pub record Labels : Type 0 where
   pub opening : Key
   pub segment : ℕ → Key
   pub group : ℕ → Key
-  pub shares_segment : ℕ → Frame → Bool
-  pub shares_group : ℕ → Frame → Bool
+  pub shares : Sharing
   pub count : ℕ
 
 abbrev pub segment_told : Bool → Placed → Told
@@ -45,10 +49,10 @@ blanks zero = []
 blanks (suc c) = Blank ∷ blanks c
 
 abbrev pub segment_lines_of : Labels → ℕ → List Placed → List LinkEntry
-segment_lines_of q s ps = map (λ y. Gives (q.segment y.0) (segment_told (q.shares_segment y.0 y.1.frame) y.1)) (enumerate_from s ps)
+segment_lines_of q s ps = map (λ y. Gives (q.segment y.0) (segment_told (q.shares.segment y.0 y.1.frame) y.1)) (enumerate_from s ps)
 
 abbrev pub group_lines_of : Labels → ℕ → List Frame → List LinkEntry
-group_lines_of q g fs = map (λ y. Gives (q.group y.0) (group_told (q.shares_group y.0 y.1) y.1)) (enumerate_from g fs)
+group_lines_of q g fs = map (λ y. Gives (q.group y.0) (group_told (q.shares.group y.0 y.1) y.1)) (enumerate_from g fs)
 
 abbrev pub module_lines : Labels → Places → List LinkEntry
 module_lines q pl = Opens q.opening ∷ (segment_lines_of q 1 pl.segments ++ (group_lines_of q 1 pl.groups ++ blanks q.count))
@@ -71,6 +75,10 @@ abbrev pub is_same : Option Frame → Frame → Bool
 is_same None f = false
 is_same (Some g) f = (g.base == f.base) && (g.selector == f.selector)
 
+abbrev pub is_same_part : Option Frame → Option Frame → Bool
+is_same_part o None = false
+is_same_part o (Some f) = is_same o f
+
 abbrev pub is_sharing : ℕ × ℕ → Frame → Option ((ℕ × ℕ) × Option Frame) → Bool
 is_sharing at f None = false
 is_sharing at f (Some first) = not ((first.0.0 == at.0) && (first.0.1 == at.1)) && is_same first.1 f
@@ -87,30 +95,68 @@ all_lines _ _ = []
 abbrev pub told_from : {E : Type 0} → ℕ → List E → List (ℕ × Option E)
 told_from n es = map (λ l. (l.0, Some l.1)) (enumerate_from n es)
 
+-- Where lines of a module share a frame, it is that of the first line of their name, which is another, in the same frame.
+pub record AreShared (ms : List (List Rec)) (all : List Places) (j : ℕ) (m : List Rec) (s : Sharing) : Type 0 where
+  pub segments : (i : ℕ) (f : Frame) → s.segment i f ≡ true → sharing segment_title ms (all_segments 0 all) j m i f ≡ true
+  pub groups : (i : ℕ) (f : Frame) → s.group i f ≡ true → sharing group_title ms (all_groups 0 all) j m i f ≡ true
+
 -- The keys name module j of the input, and each segment and group of it; those that share a frame share it. Those of each module, the first with number a.
 pub record AreNamed (ms : List (List Rec)) (all : List Places) (j : ℕ) (m : List Rec) (q : Labels) : Type 0 where
   pub «module» : module_named ms q.opening ≡ Ok j
   pub segments : (i : ℕ) → 1 ≤ i → i ≤ length (segments m) → entry_named m kinds.Segment (q.segment i) ≡ Ok i
   pub groups : (i : ℕ) → 1 ≤ i → i ≤ length (groups m) → entry_named m kinds.Group (q.group i) ≡ Ok i
-  pub shared_segments : (i : ℕ) (f : Frame) → q.shares_segment i f ≡ true → sharing segment_title ms (all_segments 0 all) j m i f ≡ true
-  pub shared_groups : (i : ℕ) (f : Frame) → q.shares_group i f ≡ true → sharing group_title ms (all_groups 0 all) j m i f ≡ true
+  pub shared : AreShared ms all j m q.shares
 
 abbrev pub AllNamed : List (List Rec) → List Places → ℕ → List (List Rec) → List Places → List Labels → Type 0
 AllNamed ms all a [] [] [] = ⊤
 AllNamed ms all a (m ∷ ns) (pl ∷ pls) (q ∷ qs) = AreNamed ms all a m q × (HasEntries m pl × AllNamed ms all (a + 1) ns pls qs)
 AllNamed ms all a _ _ _ = ⊥
 
--- The labels of drafts; those that share frames where the first argument is set.
-abbrev pub labels : Bool → List (List Rec) → List Places → ℕ → List Rec → ℕ → Labels
-labels shared ms pls j m c = record {
+-- A part of a segment that modules have together: public, stack or common (C = 2, 4, 5, 6, 7), and not absolute (TIS OMF 1.1, "SEGDEF").
+abbrev pub is_combined : ℕ → Bool
+is_combined c = (c == 2) || ((c == 4) || ((c == 5) || ((c == 6) || (c == 7))))
+
+abbrev pub is_part : List Rec → ℕ → Bool
+is_part m i = option_map_or (λ s. not (is_some s.absolute)) (entry (segments m) i) false && option_map_or (λ a. is_combined (combination a)) (entry (attributes m) i) false
+
+-- The frame of a segment, if it is such a part; those of all segments of modules.
+abbrev pub part_frame : List Rec → ℕ → Frame → Option Frame
+part_frame m i f = if is_part m i then Some f else None
+
+abbrev pub parts_framed : ℕ → List Rec → List Placed → List ((ℕ × ℕ) × Option Frame)
+parts_framed j m ps = map (λ y. ((j, y.0), part_frame m y.0 y.1.frame)) (enumerate_from 1 ps)
+
+abbrev pub all_parts : ℕ → List (List Rec) → List Places → List ((ℕ × ℕ) × Option Frame)
+all_parts a ms pls = flat_map (λ x. parts_framed x.0 x.1.0 x.1.1.segments) (enumerate_from a (zip ms pls))
+
+-- In a draft a segment shares if it is a part, another segment is the first of its name and class, and that is a part in the same frame. A group shares if another group
+-- is the first of its name, in the same frame.
+abbrev pub sharing_of : List (List Rec) → List Places → ℕ → List Rec → Sharing
+sharing_of ms pls j m = record {
+  segment = λ i f. is_part m i && sharing segment_title ms (all_parts 0 ms pls) j m i f;
+  group = λ i f. sharing group_title ms (all_groups 0 pls) j m i f;
+}
+
+-- Of each segment and each group, whether it shares.
+abbrev pub Shared : Type 0
+Shared = List Bool × List Bool
+
+abbrev pub shared_by : Sharing → Places → Shared
+shared_by s pl = (map (λ y. s.segment y.0 y.1.frame) (enumerate_from 1 pl.segments), map (λ y. s.group y.0 y.1) (enumerate_from 1 pl.groups))
+
+abbrev pub all_shared : List (List Rec) → List Places → List Shared
+all_shared ms pls = map (λ x. shared_by (sharing_of ms pls x.0 x.1.0) x.1.1) (enumerate_from 0 (zip ms pls))
+
+-- The labels by which a draft names modules and their entries, where lines share frames so.
+abbrev pub labels : (ℕ → List Rec → Sharing) → List (List Rec) → ℕ → List Rec → ℕ → Labels
+labels shares ms j m c = record {
   opening = module_key ms j m;
   segment = λ i. key_of m kinds.Segment (key_form m kinds.Segment i) i;
   group = λ i. key_of m kinds.Group (key_form m kinds.Group i) i;
-  shares_segment = λ i f. shared && sharing segment_title ms (all_segments 0 pls) j m i f;
-  shares_group = λ i f. shared && sharing group_title ms (all_groups 0 pls) j m i f;
+  shares = shares j m;
   count = c;
 }
 
-abbrev pub labels_from : Bool → List (List Rec) → List Places → ℕ → List (List Rec) → List ℕ → List Labels
-labels_from shared ms pls a (m ∷ ns) (c ∷ cs) = labels shared ms pls a m c ∷ labels_from shared ms pls (a + 1) ns cs
-labels_from shared ms pls a _ _ = []
+abbrev pub labels_from : (ℕ → List Rec → Sharing) → List (List Rec) → ℕ → List (List Rec) → List ℕ → List Labels
+labels_from shares ms a (m ∷ ns) (c ∷ cs) = labels shares ms a m c ∷ labels_from shares ms (a + 1) ns cs
+labels_from shares ms a _ _ = []

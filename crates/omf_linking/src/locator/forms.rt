@@ -92,8 +92,12 @@ fn key_text(
     Ok(text)
 }
 
-/// Returns the keys of one form of all entries of a kind.
-fn key_texts(
+/// Returns the keys of one form of all entries of a kind, in index order, with a dash for a name that is missing.
+///
+/// # Errors
+///
+/// `AllocError` if memory runs out.
+pub fn key_texts(
     alloc: Global,
     module: &Checked,
     kind: Kind,

@@ -1,6 +1,6 @@
 //! Laws of the keys of drafts, each the contract of an empty function.
 
-ghost use Rattle.omf_linking.specs.Locator.Laws.{DraftedEntriesGivePlaces, KeysArePrinted, KeysNameEntries, KeysNameModules};
+ghost use Rattle.omf_linking.specs.Locator.Laws.{DraftedEntriesGivePlaces, DraftsShareFrames, KeysArePrinted, KeysNameEntries, KeysNameModules};
 
 /// The key that a draft writes for a segment, a group or an external names that entry and no other.
 pub fn keys_name_entries()
@@ -20,4 +20,9 @@ pub fn keys_name_modules()
 /// The entries of a draft's lines give each module the places of its segments and groups, and no place to an external.
 pub fn drafted_entries_give_places()
     ensures { DraftedEntriesGivePlaces }
+{}
+
+/// A line of a draft that shares a frame gives its entry the frame that it has: that of the first line of its name.
+pub fn drafts_share_frames()
+    ensures { DraftsShareFrames }
 {}

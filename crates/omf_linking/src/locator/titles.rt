@@ -9,6 +9,7 @@ ghost use Rattle.omf_placement.specs.declared.frame.Frame.{Frame as Base};
 ghost use Rattle.omf_linking.specs.Inner.LineParsing.{target_seen, told_seen};
 ghost use Rattle.omf_linking.specs.Inner.Titling.{AreTitles, IsFrameTable, title_text};
 ghost use Rattle.omf_linking.specs.Locator.LinkEntries.{GroupFrame, SegmentPlace};
+ghost use Rattle.omf_linking.specs.Locator.Drafted.{is_same, is_same_part};
 ghost use Rattle.omf_linking.specs.Locator.Items.{Given, Item, Title, group_given, group_title, in_quotes, segment_framed, segment_title, settled, shared_frame};
 
 use crate::locator::entry::{Target, Told};
@@ -25,13 +26,13 @@ use std::collections::BTreeMap;
 /// The frames of the first lines of names. A name and a class are one text, as they are written in quotes, with a line feed between them.
 #[derive(Drop)]
 pub struct FrameTable {
-    /// `None` for a group in the frame of its lowest member.
+    /// `None` for a group in the frame of its lowest member, and in a draft for a segment that is no part of another.
     by_title: BTreeMap<Vec<u8>, Option<Frame>>,
 }
 
 impl FrameTable {
     /// Returns an empty table.
-    fn new(alloc: Global) -> FrameTable
+    pub(crate) fn new(alloc: Global) -> FrameTable
         ensures { (title : List Records → ℕ → Title) (ms : List (List Records)) → IsFrameTable title ms [] result.by_title }
     {
         FrameTable {
@@ -61,6 +62,36 @@ impl FrameTable {
             }
         }
     }
+
+    /// Adds the frame of a line of a name. Returns whether it is also that of the first line of the name, if there was one.
+    pub(crate) fn share(&mut self, text: Vec<u8>, frame: Option<Frame>) -> Result<bool, AllocError>
+        ensures table { OnOk result ((title : List Records → ℕ → Title) (ms : List (List Records)) (gs : List ((ℕ × ℕ) × Option Base)) (j i : ℕ) (m : List Records) → slice_get ms j ≡ Some m → text.items ≡ title_text (in_quotes (title m i)) → IsFrameTable title ms gs self.old.by_title → IsFrameTable title ms (gs ++ ((j, i), frame) ∷ []) self.new.by_title) }
+        ensures shared { IfOk result (λ b. (title : List Records → ℕ → Title) (ms : List (List Records)) (gs : List ((ℕ × ℕ) × Option Base)) (t : Title) → text.items ≡ title_text t → IsFrameTable title ms gs self.old.by_title → b ≡ is_same_part (shared_frame title ms t gs) frame) }
+    {
+        let shared = is_same_part(self.frame(&text), frame);
+        self.add(text, frame)?;
+        Ok(shared)
+    }
+}
+
+/// Returns whether the first line of a name gives this frame.
+fn is_same(first: Option<Frame>, frame: Frame) -> bool
+    ensures { result ≡ is_same first frame }
+{
+    match first {
+        Some(first) => first.base == frame.base && first.selector == frame.selector,
+        None => false,
+    }
+}
+
+/// Returns whether it gives the frame of a line, if this line has one.
+fn is_same_part(first: Option<Frame>, frame: Option<Frame>) -> bool
+    ensures { result ≡ is_same_part first frame }
+{
+    match frame {
+        Some(frame) => is_same(first, frame),
+        None => false,
+    }
 }
 
 /// The frames that names share so far.
@@ -81,7 +112,11 @@ fn spelled_or_empty(alloc: Global, name: Option<Name<'_>>) -> Result<Vec<u8>, Al
 }
 
 /// Returns the name and the class of a segment as one text.
-fn segment_title(alloc: Global, module: &Checked, index: u16) -> Result<Vec<u8>, AllocError>
+pub(crate) fn segment_title(
+    alloc: Global,
+    module: &Checked,
+    index: u16,
+) -> Result<Vec<u8>, AllocError>
     ensures { IfOk result (λ t. t.items ≡ title_text (in_quotes (segment_title (recs_of «module».now.bytes) index))) }
 {
     let name = spelled_or_empty(alloc, entry_name(module, Kind::Segment, index))?;
@@ -90,7 +125,11 @@ fn segment_title(alloc: Global, module: &Checked, index: u16) -> Result<Vec<u8>,
 }
 
 /// Returns the name of a group as such a text.
-fn group_title(alloc: Global, module: &Checked, index: u16) -> Result<Vec<u8>, AllocError>
+pub(crate) fn group_title(
+    alloc: Global,
+    module: &Checked,
+    index: u16,
+) -> Result<Vec<u8>, AllocError>
     ensures { IfOk result (λ t. t.items ≡ title_text (in_quotes (group_title (recs_of «module».now.bytes) index))) }
 {
     let name = spelled_or_empty(alloc, entry_name(module, Kind::Group, index))?;
