@@ -30,7 +30,7 @@ pub(crate) const ABOUT: About = About {
     details: "
   exe     a DOS program (.EXE) of object modules (.OBJ) and libraries (.LIB)
   com     a DOS program without a header (.COM)
-  image   the memory of object modules at the addresses of a text, in hexadecimal
+  image   the memory of object modules at a text's addresses, in hexadecimal
   bin     the same memory as the bytes of a chip
   hex     the same memory as Intel HEX
   srec    the same memory as Motorola S-records
@@ -38,38 +38,38 @@ pub(crate) const ABOUT: About = About {
           gives them
   draft   a text with addresses, to begin with
 
-  -o FILE                  the output; without it, or where FILE is -, the standard
-                           output
+  -o FILE                  the output; without it, or where FILE is -, the
+                           standard output
   -t TEXT                  the text with the addresses
   --map FILE               exe, com: the map of the program
-  --stack BYTES            exe, com: a stack of BYTES bytes more, decimal, or as 4K
-  --order dos|input        exe, com: segments in the order of DOS linkers (LINK's
-                           /DOSSEG), or as they come
+  --stack BYTES            exe, com: a stack of BYTES more bytes: decimal, or 4K
+  --order dos|input        exe, com: segments in the order of DOS linkers
+                           (LINK's /DOSSEG), or as they come
   --library-path DIR       exe, com: a folder for libraries that modules ask for
   --no-default-libraries   exe, com: without the libraries that modules ask for
-  --allow KIND             a warning in place of a fault of this kind, for exe and
-                           com: group (more than 64 KB), near (a near call or jump
-                           into another frame), twice (a name that two modules
-                           define and none asks for); for image, bin, hex and srec
-                           also overlap, align and frame
+  --allow KIND             a warning in place of a fault of this kind, for exe
+                           and com: group (more than 64 KB), near (a near call
+                           or jump into another frame), twice (a name that two
+                           modules define and none asks for); for image, bin,
+                           hex and srec also overlap, align and frame
   --ignore-case            ignore the case of publics, externals and communals,
                            and show them in lower case
-  --base ADDRESS           bin: the address of the first byte; draft: of the first
-                           segment (default 10000)
+  --base ADDRESS           bin: the address of the first byte; draft: of the
+                           first segment (default 10000)
   --size SIZE              bin: the number of bytes, hexadecimal, or as 64K
   --fill BYTE              bin: the byte where no module has one (default FF)
   --addresses linear|segment, --addresses 16|24|32
                            hex, srec: the kind of addresses in the file
-  --real                   draft: addresses for real mode; the default for modules
-                           without 32-bit segments
+  --real                   draft: addresses for real mode; the default for
+                           modules without 32-bit segments
   --flat SELECTOR          draft: one frame with base 0 and this selector; the
                            default for other modules, with selector 0
 
 Numbers are hexadecimal, but for BYTES: 1000, 0x1000 and 1000H are one. @FILE
 is the words of a file, and -- ends the options.
 
-Where a file is -, omf-link reads the standard input; without files also, but for
-exe and com. omf-link(1), docs/DOS.md and docs/ADDRESSES.md show examples, and
-explain each line that is printed.
+Where a file is -, omf-link reads the standard input; without files also, but
+for exe and com. omf-link(1), docs/DOS.md and docs/ADDRESSES.md show examples,
+and explain each line that is printed.
 ",
 };

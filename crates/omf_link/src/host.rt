@@ -11,7 +11,9 @@ use omf_host::{
 };
 use omf_linker::asked::{Asked, sorted};
 use omf_linker::host::{perform_on_input, read_or_tell, tell_fault, write_output_or_tell};
-use omf_linker::link::{FilesFault, ImageFault, InputFile, Link, Output, Task, case_in, task_of};
+use omf_linker::link::{
+    FilesFault, ImageFault, InputFile, Link, Output, Task, TextFault, case_in, task_of,
+};
 use omf_linker::seen::{
     Allowed, Request, SeenText, allowed_in, files_folded, files_seen, input_folded, input_seen,
     is_looked_at,
@@ -183,6 +185,24 @@ fn refuse_output<K, E: Sink>(
     refuse_clash(rt, streams, files)
 }
 
+/// Writes the line of a fault; of one in the link text with the name of the text's file, if there is one. Returns the status.
+fn tell_files_fault<K, E: Sink>(
+    alloc: Global,
+    name: Option<&str>,
+    fault: FilesFault,
+    streams: &mut Streams<K, E>,
+) -> Result<Status, AllocError> {
+    let status = Status::of_code(fault.status());
+    match name {
+        Some(name) => {
+            let fault = TextFault::new(alloc, name, fault)?;
+            tell_fault(alloc, streams, &fault)?;
+        }
+        None => tell_fault(alloc, streams, &fault)?,
+    }
+    Ok(status)
+}
+
 /// Writes the map of the files that are not refused. Returns the status.
 fn on_map<K: Sink, E: Sink>(
     rt: &HostRuntime,
@@ -202,13 +222,10 @@ fn on_map<K: Sink, E: Sink>(
     match manner.seen(rt.alloc(), files, &text) {
         Ok(seen) => {
             let shown = kept.with_lines(rt.alloc(), &seen.shown)?;
-            let name = asked.output.as_ref().map(|name| name.as_str());
-            Ok(written(rt, name, &shown, streams)?.worst(kept.status))
+            let output = asked.output.as_ref().map(|name| name.as_str());
+            Ok(written(rt, output, &shown, streams)?.worst(kept.status))
         }
-        Err(fault) => {
-            tell_fault(rt.alloc(), streams, &fault)?;
-            Ok(Status::of_code(fault.status()).worst(kept.status))
-        }
+        Err(fault) => Ok(tell_files_fault(rt.alloc(), name, fault, streams)?.worst(kept.status)),
     }
 }
 
@@ -235,8 +252,8 @@ fn on_files<K: Sink, E: Sink>(
             written_or_told(rt, name, &seen, streams)
         }
         Some(Err(fault)) => {
-            tell_fault(rt.alloc(), streams, &fault)?;
-            Ok(Status::of_code(fault.status()))
+            let name = asked.text.as_ref().map(|name| name.as_str());
+            tell_files_fault(rt.alloc(), name, fault, streams)
         }
         None => Ok(Status::Failed),
     }

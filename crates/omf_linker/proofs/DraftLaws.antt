@@ -1,5 +1,5 @@
 -- A draft is the text of a link, which gives the modules their places.
-use Rattle.std.proofs.Common.{◌≡◌, ℕ, suc, ◌+◌, ◌<◌, ◌^◌, false, List, [], ◌∷◌, ◌++◌, length, refl, sym, ap, ap₂, ◌∙◌, append-nil, arith}
+use Rattle.std.proofs.Common.{◌≡◌, ℕ, suc, ◌+◌, ◌<◌, ◌^◌, List, [], ◌∷◌, ◌++◌, length, refl, sym, ap, ap₂, ◌∙◌, append-nil, arith}
 use Rattle.std.specs.Prelude.{flat_map, filter_map, map, zip, All, Some, None, Ok}
 use Rattle.std.specs.List.{AllZip, enumerate_from}
 use Rattle.std.proofs.lemmas.List.Elements.{All-head, All-tail}
@@ -13,12 +13,13 @@ use Rattle.omf_layout.specs.declared.options.Frames.{Frames}
 use Rattle.omf_layout.specs.Reading.{AreShort}
 use Rattle.omf_layout.proofs.TextLaws.{no-lines, more-lines}
 use Rattle.omf_placement.proofs.ListLaws.{told-append}
-use Rattle.omf_linking.specs.Locator.Drafted.{HasEntries, all_lines, labels, labels_from, module_lines, told_from, told_places}
+use Rattle.omf_linking.specs.Locator.Drafted.{HasEntries, all_lines, labels, labels_from, module_lines, sharing_of, told_from, told_places}
 use Rattle.omf_linking.specs.Locator.Items.{items_after}
 use Rattle.omf_linking.specs.Locator.LinkEntries.{Blank, LinkEntry, bad_line, link_entry_on, link_lines}
 use Rattle.omf_linking.specs.Locator.Sparse.{sparse_all, unless_bad}
 use Rattle.omf_linking.specs.Placing.{all_given, frame_given, given_as, given_in, in_front, or_missing, placed_by, places_given, places_of, with_segments}
 use Rattle.omf_linking.proofs.ItemLaws.{drafted-told}
+use Rattle.omf_linking.proofs.SharingLaws.{drafts-share-frames}
 use Rattle.omf_reloc.specs.declared.fault.Kind.TheVariants as kinds
 use Rattle.omf_linker.specs.Drafting.Reading.{HasFew, IsReadBack}
 use Rattle.omf_linker.specs.Drafting.Text.{link_text, module_text}
@@ -61,7 +62,7 @@ none-given j (m ∷ ms) (pl ∷ pls) = ap₂ (λ a b. a ++ b) (none-of j 1 (exte
 record AreTold (frames : Frames) (all : List (List Rec)) (whole : List Places) (a : ℕ) (ns : List (List Rec)) (pls : List Places) : Type 0 where
   pub comments : List ℕ
   pub as_many : length comments ≡ length ns
-  pub told : Told (flat_map (module_text frames all) (enumerate_from a (zip ns pls))) (all_lines pls (labels_from false all whole a ns comments))
+  pub told : Told (flat_map (module_text frames all whole) (enumerate_from a (zip ns pls))) (all_lines pls (labels_from (sharing_of all whole) all a ns comments))
 
 all-told : (frames : Frames) (all : List (List Rec)) (whole : List Places) (a : ℕ) (ns : List (List Rec)) (pls : List Places) → a + length ns < 2 ^ 32 → AllZip HasEntries ns pls → All HasFew ns → All AreShort pls → AreTold frames all whole a ns pls
 all-told frames all whole a [] [] low has few short = record { comments = []; as_many = refl; told = no-lines link_entry_on }
@@ -73,7 +74,7 @@ all-told frames all whole a (m ∷ ns) (pl ∷ pls) low has few short =
     record {
       comments = here.count ∷ rest.comments;
       as_many = ap suc rest.as_many;
-      told = more-lines link_entry_on (module_text frames all (a, (m, pl))) (flat_map (module_text frames all) (enumerate_from (a + 1) (zip ns pls))) (module_lines (labels false all whole a m here.count) pl) (all_lines pls (labels_from false all whole (a + 1) ns rest.comments)) here.told rest.told;
+      told = more-lines link_entry_on (module_text frames all whole (a, (m, pl))) (flat_map (module_text frames all whole) (enumerate_from (a + 1) (zip ns pls))) (module_lines (labels (sharing_of all whole) all a m here.count) pl) (all_lines pls (labels_from (sharing_of all whole) all (a + 1) ns rest.comments)) here.told rest.told;
     }
 
 none-bad : (n : ℕ) (es : List LinkEntry) → filter_map bad_line (told_from n es) ≡ []
@@ -84,13 +85,13 @@ pub link-text-read : (frames : Frames) (ms : List (List Rec)) (pls : List Places
 link-text-read frames ms pls low has few short =
     let t = all-told frames ms pls 0 ms pls (omega (arith, low)) has few short in
     let text = link_text frames ms pls in
-    let es = all_lines pls (labels_from false ms pls 0 ms t.comments) in
+    let es = all_lines pls (labels_from (sharing_of ms pls) ms 0 ms t.comments) in
     let whole : List LinkEntry = es ++ Blank ∷ [] in
     let lines : link_lines text ≡ told_from 1 whole = ap link_lines (sym (append-nil text)) ∙ t.told 1 [] ∙ sym (told-append 1 es (Blank ∷ [])) in
     record {
       given = map told_places (zip ms pls);
       reads = ap (λ ls. unless_bad (filter_map bad_line ls) (map_ok (sparse_all ms) (items_after ms [] ls))) lines
-          ∙ ap (λ ns. unless_bad ns (map_ok (sparse_all ms) (items_after ms [] (told_from 1 whole)))) (none-bad 1 whole) ∙ drafted-told false ms pls t.comments has t.as_many;
+          ∙ ap (λ ns. unless_bad ns (map_ok (sparse_all ms) (items_after ms [] (told_from 1 whole)))) (none-bad 1 whole) ∙ drafted-told (sharing_of ms pls) ms pls t.comments (drafts-share-frames ms pls has) has t.as_many;
       places = all-given 0 ms pls has;
       none_given = none-given 0 ms pls;
     }

@@ -28,10 +28,10 @@ use Rattle.omf_text.proofs.PrintedLaws.{printed-decimal, printed-quoted, Passes,
 use Rattle.omf_layout.proofs.SaidLaws.{IsWord, tight-two, tight-word}
 use Rattle.omf_layout.proofs.TableLaws.{length-alignments}
 use Rattle.omf_layout.proofs.TextLaws.{IsLineOf, SpellsLines, no-lines, one-line, more-lines, each-line}
-use Rattle.omf_linking.specs.Locator.Drafted.{HasEntries, Labels, blanks, group_lines_of, labels, module_lines, segment_lines_of}
+use Rattle.omf_linking.specs.Locator.Drafted.{HasEntries, Sharing, blanks, group_lines_of, group_told, labels, module_lines, segment_lines_of, segment_told, sharing_of}
 use Rattle.omf_linking.specs.Locator.KeyForms.{class_of, is_repeated, key_form, key_of, key_text, key_words, module_key, module_key_by, module_texts, spelled}
 use Rattle.omf_linking.specs.Locator.Keys.{entry_name, module_name}
-use Rattle.omf_linking.specs.Locator.LinkEntries.{Blank, Gives, GroupFrame, Key, LinkEntry, Opens, Own, SegmentPlace, frame_in, link_entry_on, own_or, place_in, shared_place, shared_word}
+use Rattle.omf_linking.specs.Locator.LinkEntries.{Blank, Gives, GroupFrame, Key, LinkEntry, Opens, SegmentPlace, SharedPlace, Told as Given, frame_in, group_in, link_entry_on, own_or, place_in, segment_in, shared_place, shared_word}
 use Rattle.omf_linking.specs.declared.locator.forms.KeyForm.{KeyForm}
 use Rattle.omf_linking.specs.declared.locator.forms.KeyForm.TheVariants as form
 use Rattle.omf_linking.proofs.KeyNames.{keys-written}
@@ -39,7 +39,7 @@ use Rattle.omf_reloc.specs.declared.fault.Kind.{Kind}
 use Rattle.omf_reloc.specs.declared.fault.Kind.TheVariants as kinds
 use Rattle.omf_linker.specs.Drafting.Names.{has_name, seen_names}
 use Rattle.omf_linker.specs.Drafting.Reading.{HasFew}
-use Rattle.omf_linker.specs.Drafting.Text.{external_text, full_place, group_line, group_lines, module_text, opening_line, place_text, segment_comment, segment_line, segment_lines, wanted_line_by, wanted_lines}
+use Rattle.omf_linker.specs.Drafting.Text.{external_text, frame_text, full_place, group_line, group_lines, module_text, opening_line, own_place, place_text, segment_comment, segment_line, segment_lines, wanted_line_by, wanted_lines}
 use Rattle.omf_linker.proofs.KeyLines.{AreWords, IsKey, IsLetter, IsName, Quoteless, Spaceless, comment-end, comment-read, glyphs-decimal, glyphs-number, glyphs-printed, in-quotes, key-alone, key-words, no-end, no-name, quoteless-both, quoteless-glyphs, spaceless-glyphs, spelled-name}
 
 -- ---- words
@@ -60,6 +60,17 @@ real-part = record {
   word = record { some = omega arith; marks = refl };
   quoteless = four-all (λ c. eqb c 34 ≡ false) 114 101 97 108 refl refl refl refl;
   spaceless = four-all (λ c. eqb c 32 ≡ false) 114 101 97 108 refl refl refl refl;
+}
+
+shared-part : IsPart (codes "shared")
+shared-part = record {
+  word = record { some = omega arith; marks = refl };
+  quoteless =
+      let no : ℕ → Type 0 = λ c. eqb c 34 ≡ false in
+      All-cons no 115 (codes "hared") refl (All-cons no 104 (codes "ared") refl (four-all no 97 114 101 100 refl refl refl refl));
+  spaceless =
+      let no : ℕ → Type 0 = λ c. eqb c 32 ≡ false in
+      All-cons no 115 (codes "hared") refl (All-cons no 104 (codes "ared") refl (four-all no 97 114 101 100 refl refl refl refl));
 }
 
 last-of : (w : List ℕ) → IsPart w → AreWords w (w ∷ [])
@@ -114,9 +125,25 @@ real-place p k h = record {
       ∙ ap (option_map (at_address p.address)) (same-frame (real_frame p.address) p.frame h);
 }
 
-place-is : (frames : Frames) (p : Placed) → IsShortPlace p → IsPlace (place_text frames p) p
+place-is : (frames : Frames) (p : Placed) → IsShortPlace p → IsPlace (own_place frames p) p
 place-is Real p k = cond_both (is_same_frame (real_frame p.address) p.frame) (in_words (number p.address ∷ codes "real" ∷ [])) (full_place p) (λ t. IsPlace t p) (real-place p k) (λ e. full-place p k)
 place-is (Flat selector) p k = full-place p k
+
+-- Words that give an entry a place or a frame, of its own or a shared one.
+record AreGiven (say : List (List ℕ) → Option Given) (text : List ℕ) (t : Given) : Type 0 where
+  pub words : List (List ℕ)
+  pub are : AreWords text words
+  pub gives : say words ≡ Some t
+
+place-given : (frames : Frames) (shared : Bool) (p : Placed) → IsShortPlace p → AreGiven segment_in (place_text frames shared p) (segment_told shared p)
+place-given frames true p k = record {
+  words = number p.address ∷ codes "shared" ∷ [];
+  are = and-more (number p.address) _ _ (number-part 8 p.address (eight-digits p.address k.address)) (last-of (codes "shared") shared-part);
+  gives = ap (option_map SharedPlace) (hexadecimal-to 8 (number p.address) p.address (eight-digits p.address k.address));
+}
+place-given frames false p k =
+    let is = place-is frames p k in
+    record { words = is.words; are = is.are; gives = ap (λ o. own_or (option_map SegmentPlace o) (shared_place is.words)) is.gives }
 
 abbrev in_frame : ℕ → ℕ → Frame
 in_frame b s = record { base = b; selector = s }
@@ -128,6 +155,12 @@ frame-gives : (f : Frame) → IsShortFrame f → frame_in (number f.base ∷ num
 frame-gives f k =
     ap (option_map Some) (ap (option_and_then (λ b. option_map (in_frame b) (hexadecimal 4 (number f.selector)))) (hexadecimal-to 8 (number f.base) f.base (eight-digits f.base k.base))
     ∙ ap (option_map (in_frame f.base)) (hexadecimal-to 4 (number f.selector) f.selector (four-digits f.selector k.selector)))
+
+frame-given : (shared : Bool) (f : Frame) → IsShortFrame f → AreGiven group_in (frame_text shared f) (group_told shared f)
+frame-given true f k = record { words = codes "shared" ∷ []; are = last-of (codes "shared") shared-part; gives = refl }
+frame-given false f k =
+    let ws : List (List ℕ) = number f.base ∷ number f.selector ∷ [] in
+    record { words = ws; are = frame-words f k; gives = ap (λ o. own_or (option_map GroupFrame o) (shared_word ws)) (frame-gives f k) }
 
 -- ---- keys
 
@@ -199,11 +232,12 @@ printed-comment m s a =
     (both-pass is_printed (codes "class " ++ name) (32 ∷ room) (both-pass is_printed (codes "class ") name refl (printed-named (names m) s.class)) (printed-alignment s.absolute a)) refl)
     (printed-decimal s.length)
 
-segment-is-line : (frames : Frames) (m : List Rec) (s : ℕ × ((SegInfo × Alignment) × Placed)) → s.0 < 2 ^ 32 → IsShortPlace s.1.1 → IsLineOf link_entry_on (segment_line frames m s) (Gives (key m kinds.Segment s.0) (Own (SegmentPlace s.1.1)))
-segment-is-line frames m s low short =
+segment-is-line : (frames : Frames) (shares : ℕ → Frame → Bool) (m : List Rec) (s : ℕ × ((SegInfo × Alignment) × Placed)) → s.0 < 2 ^ 32 → IsShortPlace s.1.1 → IsLineOf link_entry_on (segment_line frames shares m s) (Gives (key m kinds.Segment s.0) (segment_told (shares s.0 s.1.1.frame) s.1.1))
+segment-is-line frames shares m s low short =
     let k = key m kinds.Segment s.0 in
-    let place = place_text frames s.1.1 in
-    let is = place-is frames s.1.1 short in
+    let shared = shares s.0 s.1.1.frame in
+    let place = place_text frames shared s.1.1 in
+    let is = place-given frames shared s.1.1 short in
     let comment = segment_comment m s.1.0.0 s.1.0.1 in
     let tail : List ℕ = codes " ; " ++ comment in
     let shape : (key_words k ++ (32 ∷ place)) ++ codes " ; " ++ comment ≡ key_words k ++ (32 ∷ (place ++ tail))
@@ -214,21 +248,22 @@ segment-is-line frames m s low short =
       unbroken = both-pass is_printed (key_words k) (32 ∷ (place ++ tail)) (form-printed m kinds.Segment (key_form m kinds.Segment s.0) s.0)
           (both-pass is_printed place tail is.are.tight.printed (printed-comment m s.1.0.0 s.1.0.1));
       says = key-words 83 s-letter k place tail is.words (form-key m kinds.Segment (key_form m kinds.Segment s.0) s.0 low) is.are (comment-end comment)
-          ∙ ap (λ o. option_map (Gives k) (own_or (option_map SegmentPlace o) (shared_place is.words))) is.gives;
+          ∙ ap (option_map (Gives k)) is.gives;
     }
 
-group-is-line : (m : List Rec) (g : ℕ × Frame) → g.0 < 2 ^ 32 → IsShortFrame g.1 → IsLineOf link_entry_on (group_line m g) (Gives (key m kinds.Group g.0) (Own (GroupFrame (Some g.1))))
-group-is-line m g low short =
+group-is-line : (shares : ℕ → Frame → Bool) (m : List Rec) (g : ℕ × Frame) → g.0 < 2 ^ 32 → IsShortFrame g.1 → IsLineOf link_entry_on (group_line shares m g) (Gives (key m kinds.Group g.0) (group_told (shares g.0 g.1) g.1))
+group-is-line shares m g low short =
     let k = key m kinds.Group g.0 in
-    let frame = in_words (number g.1.base ∷ number g.1.selector ∷ []) in
-    let are = frame-words g.1 short in
+    let shared = shares g.0 g.1 in
+    let frame = frame_text shared g.1 in
+    let is = frame-given shared g.1 short in
     record {
       body = 71 ∷ 32 ∷ (key_words k ++ (32 ∷ frame));
       is = ap (λ t. codes "G " ++ t ++ 32 ∷ frame ++ 10 ∷ []) (keys-written m kinds.Group g.0);
-      unbroken = both-pass is_printed (key_words k) (32 ∷ frame) (form-printed m kinds.Group (key_form m kinds.Group g.0) g.0) are.tight.printed;
+      unbroken = both-pass is_printed (key_words k) (32 ∷ frame) (form-printed m kinds.Group (key_form m kinds.Group g.0) g.0) is.are.tight.printed;
       says = ap (λ t. link_entry_on (71 ∷ 32 ∷ (key_words k ++ (32 ∷ t)))) (sym (append-nil frame))
-          ∙ key-words 71 g-letter k frame [] (number g.1.base ∷ number g.1.selector ∷ []) (form-key m kinds.Group (key_form m kinds.Group g.0) g.0 low) are no-end
-          ∙ ap (λ o. option_map (Gives k) (own_or (option_map GroupFrame o) (shared_word (number g.1.base ∷ number g.1.selector ∷ [])))) (frame-gives g.1 short);
+          ∙ key-words 71 g-letter k frame [] is.words (form-key m kinds.Group (key_form m kinds.Group g.0) g.0 low) is.are no-end
+          ∙ ap (option_map (Gives k)) is.gives;
     }
 
 wanted-is-line : (m : List Rec) (i : ℕ) (room : Option ℕ) → IsLineOf link_entry_on (wanted_line_by m (key_form m kinds.External i) i room) Blank
@@ -290,40 +325,40 @@ all-numbered P Q n f j [] low h = All-nil Q
 all-numbered P Q n f j (y ∷ ys) low h =
     All-cons Q (j, y) (enumerate_from (j + 1) ys) (f (j, y) (omega (arith, low)) (All-head P y ys h)) (all-numbered P Q n f (j + 1) ys (omega (arith, low)) (All-tail P y ys h))
 
--- no line shares a frame
-abbrev own_labels : List (List Rec) → List Places → ℕ → List Rec → ℕ → Labels
-own_labels all whole j m c = labels false all whole j m c
-
-told-segments : (all : List (List Rec)) (whole : List Places) (j c : ℕ) (frames : Frames) (m : List Rec) (xs : List Placed) → length xs ≡ length (segments m) → length (segments m) < 2 ^ 32 → All IsShortPlace xs → Told (segment_lines frames m xs) (segment_lines_of (own_labels all whole j m c) 1 xs)
-told-segments all whole j c frames m xs count few short =
+told-segments : (sh : ℕ → List Rec → Sharing) (all : List (List Rec)) (j c : ℕ) (frames : Frames) (m : List Rec) (xs : List Placed) → length xs ≡ length (segments m) → length (segments m) < 2 ^ 32 → All IsShortPlace xs → Told (segment_lines frames (sh j m).segment m xs) (segment_lines_of (labels sh all j m c) 1 xs)
+told-segments sh all j c frames m xs count few short =
+    let shares = (sh j m).segment in
     let told : List (SegInfo × Alignment) = zip (segments m) (alignments m) in
-    let say : ℕ → Placed → LinkEntry = λ i p. Gives (key m kinds.Segment i) (Own (SegmentPlace p)) in
-    subst (Told (segment_lines frames m xs)) (second-of say 1 told xs (count ∙ sym (length-pairs (segments m) (alignments m) (length-alignments m))))
-    (each-line link_entry_on (segment_line frames m) (λ s. say s.0 s.1.1) (enumerate_from 1 (zip told xs))
-    (all-pairs IsShortPlace (λ s. IsLineOf link_entry_on (segment_line frames m s) (say s.0 s.1.1)) (2 ^ 32) (segment-is-line frames m) 1 told xs (omega (arith, count, few)) short))
+    let say : ℕ → Placed → LinkEntry = λ i p. Gives (key m kinds.Segment i) (segment_told (shares i p.frame) p) in
+    subst (Told (segment_lines frames shares m xs)) (second-of say 1 told xs (count ∙ sym (length-pairs (segments m) (alignments m) (length-alignments m))))
+    (each-line link_entry_on (segment_line frames shares m) (λ s. say s.0 s.1.1) (enumerate_from 1 (zip told xs))
+    (all-pairs IsShortPlace (λ s. IsLineOf link_entry_on (segment_line frames shares m s) (say s.0 s.1.1)) (2 ^ 32) (segment-is-line frames shares m) 1 told xs (omega (arith, count, few)) short))
 
-told-groups : (all : List (List Rec)) (whole : List Places) (j c : ℕ) (m : List Rec) (fs : List Frame) → length fs ≡ length (groups m) → length (groups m) < 2 ^ 32 → All IsShortFrame fs → Told (group_lines m fs) (group_lines_of (own_labels all whole j m c) 1 fs)
-told-groups all whole j c m fs count few short =
-    each-line link_entry_on (group_line m) (λ g. Gives (key m kinds.Group g.0) (Own (GroupFrame (Some g.1)))) (enumerate_from 1 fs)
-    (all-numbered IsShortFrame (λ g. IsLineOf link_entry_on (group_line m g) (Gives (key m kinds.Group g.0) (Own (GroupFrame (Some g.1))))) (2 ^ 32) (group-is-line m) 1 fs (omega (arith, count, few)) short)
+told-groups : (sh : ℕ → List Rec → Sharing) (all : List (List Rec)) (j c : ℕ) (m : List Rec) (fs : List Frame) → length fs ≡ length (groups m) → length (groups m) < 2 ^ 32 → All IsShortFrame fs → Told (group_lines (sh j m).group m fs) (group_lines_of (labels sh all j m c) 1 fs)
+told-groups sh all j c m fs count few short =
+    let shares = (sh j m).group in
+    let say : ℕ × Frame → LinkEntry = λ g. Gives (key m kinds.Group g.0) (group_told (shares g.0 g.1) g.1) in
+    each-line link_entry_on (group_line shares m) say (enumerate_from 1 fs)
+    (all-numbered IsShortFrame (λ g. IsLineOf link_entry_on (group_line shares m g) (say g)) (2 ^ 32) (group-is-line shares m) 1 fs (omega (arith, count, few)) short)
 
 -- ---- the lines of a module
 
-pub record IsToldModule (all : List (List Rec)) (whole : List Places) (j : ℕ) (m : List Rec) (pl : Places) (text : List ℕ) : Type 0 where
+pub record IsToldModule (sh : ℕ → List Rec → Sharing) (all : List (List Rec)) (j : ℕ) (m : List Rec) (pl : Places) (text : List ℕ) : Type 0 where
   pub count : ℕ
-  pub told : Told text (module_lines (own_labels all whole j m count) pl)
+  pub told : Told text (module_lines (labels sh all j m count) pl)
 
-pub module-is-told : (frames : Frames) (all : List (List Rec)) (whole : List Places) (j : ℕ) (m : List Rec) (pl : Places) → j + 1 < 2 ^ 32 → HasEntries m pl → HasFew m → AreShort pl → IsToldModule all whole j m pl (module_text frames all (j, (m, pl)))
+pub module-is-told : (frames : Frames) (all : List (List Rec)) (whole : List Places) (j : ℕ) (m : List Rec) (pl : Places) → j + 1 < 2 ^ 32 → HasEntries m pl → HasFew m → AreShort pl → IsToldModule (sharing_of all whole) all j m pl (module_text frames all whole (j, (m, pl)))
 module-is-told frames all whole j m pl low has few short =
+    let sh : ℕ → List Rec → Sharing = sharing_of all whole in
     let among = seen_names all m in
     let a = opening_line all j m in
-    let b = segment_lines frames m pl.segments in
-    let g = group_lines m pl.groups in
+    let b = segment_lines frames (sh j m).segment m pl.segments in
+    let g = group_lines (sh j m).group m pl.groups in
     let w = wanted_lines among m in
     let left = blank-wanted among m (enumerate_from 1 (zip (named_externals m) (rooms m))) in
-    let segs = segment_lines_of (own_labels all whole j m left.count) 1 pl.segments in
-    let grps = group_lines_of (own_labels all whole j m left.count) 1 pl.groups in
-    let placed = more-lines link_entry_on b g segs grps (told-segments all whole j left.count frames m pl.segments has.segments few.segments short.segments) (told-groups all whole j left.count m pl.groups has.groups few.groups short.groups) in
+    let segs = segment_lines_of (labels sh all j m left.count) 1 pl.segments in
+    let grps = group_lines_of (labels sh all j m left.count) 1 pl.groups in
+    let placed = more-lines link_entry_on b g segs grps (told-segments sh all j left.count frames m pl.segments has.segments few.segments short.segments) (told-groups sh all j left.count m pl.groups has.groups few.groups short.groups) in
     let part : Told (b ++ g ++ w) (segs ++ (grps ++ blanks left.count)) = subst (Told (b ++ g ++ w)) (append_assoc segs grps (blanks left.count)) (more-lines link_entry_on (b ++ g) w (segs ++ grps) (blanks left.count) placed left.told) in
     record {
       count = left.count;

@@ -6,6 +6,7 @@ use Rattle.omf_check.specs.Module.{Module, typed_modules}
 use Rattle.omf_linking.proofs.FoldLaws.{typed-folded}
 use Rattle.omf_linking.specs.Folded.{IsFolded, folded}
 use Rattle.omf_linking.specs.FoldedText.{folded_text}
+use Rattle.omf_linking.specs.PlainText.{plain_text}
 use Rattle.omf_records.specs.Values.{Rec}
 use Rattle.omf_linking.specs.File.{InputFile}
 use Rattle.omf_linker.specs.Link.Files.{AreLabeled, IsFileRefused}
@@ -21,7 +22,7 @@ not-folded t files text (fault.File f front) h = h
 not-folded t files text (fault.Link f) h = inr h
 
 -- the result for folded modules and a folded text
-pub shown-folded : (t : Task) (labels : List (List ℕ)) (ms ns : List Module) (text lower : List ℕ) (r : Result (List ℕ) ImageFault) → AllZip IsFolded ms ns → lower ≡ folded_text text → AreShown t labels (typed_modules ns) lower r
+pub shown-folded : (t : Task) (labels : List (List ℕ)) (ms ns : List Module) (text lower : List ℕ) (r : Result (List ℕ) ImageFault) → AllZip IsFolded ms ns → lower ≡ folded_text (plain_text text) → AreShown t labels (typed_modules ns) lower r
     → IsShownFolded t labels ms text r
 shown-folded t labels ms ns text lower r h e s =
     subst (λ (x : List ℕ). AreShown t labels (map folded (typed_modules ms)) x r) e (subst (λ (m : List (List Rec)). AreShown t labels m lower r) (typed-folded ms ns h) s)

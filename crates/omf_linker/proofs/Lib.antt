@@ -2,6 +2,7 @@ pub mod BlockLaws
 pub mod ArgLaws
 pub mod AskedLaws
 pub mod LinkLines
+pub mod TextLineLaws
 pub mod LinkFiles
 pub mod FoldedRuns
 pub mod LinkRuns
@@ -40,3 +41,4 @@ pub mod CommunalFinds
 pub mod OriginLaws
 pub mod AddingLaws
 pub mod MapAddresses
+pub mod MovedMembers

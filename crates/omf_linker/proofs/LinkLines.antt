@@ -4,12 +4,11 @@ use Rattle.std.specs.Prelude.{flat_map}
 use Rattle.omf_frame.specs.declared.fault.Place.{Place}
 use Rattle.omf_frame.specs.declared.fault.Reason.{Reason}
 use Rattle.omf_linking.specs.declared.fault.LinkFault.TheVariants as link
-use Rattle.omf_linking.specs.declared.locator.fault.LineFault.{LineFault}
 use Rattle.omf_cmd.specs.FaultLine.{fault_text, fault_words as run_words}
 use Rattle.omf_cmd.specs.Printed.{line, spaced}
 use Rattle.omf_cmd.specs.declared.fault.RunFault.TheVariants as run
 use Rattle.omf_cmd.proofs.Written.{front_words}
-use Rattle.omf_linker.specs.Link.Faults.{input_at, link_words, module_words, text_line, why_text}
+use Rattle.omf_linker.specs.Link.Faults.{input_at, link_words, module_words}
 
 after_front : (front ws : List (List ℕ)) → 0 < length ws → line (front ++ ws) ≡ flat_map spaced front ++ line ws
 after_front front [] some = absurd (omega (arith, some))
@@ -22,7 +21,3 @@ refused_line j why at = after_front (module_words j) (run_words (run.Refused why
 -- an offset in the input, and why
 pub no_text_line : (at : ℕ) → line (link_words (link.NoText at)) ≡ input_at at ++ line (codes ": no module and no text" ∷ [])
 no_text_line at = append_assoc (input_at at) (codes ": no module and no text") (10 ∷ [])
-
--- a line of the text, and why it does not fit
-pub text_fault_line : (n : ℕ) (why : LineFault) → line (link_words (link.Line n why)) ≡ text_line n ++ line (why_text why ∷ [])
-text_fault_line n why = append_assoc (text_line n) (why_text why) (10 ∷ [])

@@ -1,5 +1,5 @@
 -- A run of `omf-link`, from its steps.
-use Rattle.std.proofs.Common.{◌≡◌, ℕ, ◌+◌, List, [], ◌∷◌, Result, Ok, Err, sym, ap, subst, ◌∙◌, inl, inr}
+use Rattle.std.proofs.Common.{◌≡◌, ℕ, ◌+◌, List, [], ◌∷◌, Result, Ok, Err, refl, sym, ap, subst, ◌∙◌, inl, inr}
 use Rattle.std.specs.Io.KnownBytes.{Consumes, IsAtEnd}
 use Rattle.std.specs.Prelude.{⊤, Option, Some, None, IfSome, filter_map, option_map, slice_get, zip}
 use Rattle.std.proofs.KnownBytes.{Consumes-whole}
@@ -26,6 +26,7 @@ use Rattle.omf_records.specs.Inner.Seen.{map_ok}
 use Rattle.omf_reloc.specs.declared.fault.Kind.{Kind}
 use Rattle.omf_reloc.specs.declared.fault.Kind.TheVariants as kinds
 use Rattle.omf_check.specs.Module.{typed_modules}
+use Rattle.omf_linking.specs.PlainText.{plain_text}
 use Rattle.omf_linking.specs.Reading.{AreModules, IsPartRead, IsReadCause}
 use Rattle.omf_linking.specs.Relocated.{first_fault}
 use Rattle.omf_linking.specs.Starts.{main_starts, one_start}
@@ -39,7 +40,7 @@ use Rattle.omf_linker.specs.Link.Linked.{any, IsFirstFault, IsLinked}
 use Rattle.omf_linker.specs.Link.Mapped.{IsMapped}
 use Rattle.omf_linker.specs.Link.Rom.{IsRom}
 use Rattle.omf_linker.specs.Link.Runs.{IsShowCause, Shows}
-use Rattle.omf_linker.specs.Link.Shown.{AreShown, AreShownIn, IsNamedAs, IsNoModule, IsShownOf}
+use Rattle.omf_linker.specs.Link.Shown.{AreShownAt, AreShownIn, IsNamedAs, IsNoModule, IsShownOf}
 use Rattle.omf_linker.specs.Suiting.{options_for}
 use Rattle.omf_linker.specs.declared.link.fault.ImageFault.{ImageFault}
 use Rattle.omf_linker.specs.declared.link.fault.ImageFault.TheVariants as fault
@@ -186,11 +187,17 @@ not_filed f labels ms text (Err (fault.Outside a o lines)) h = tt
 not_filed f labels ms text (Err fault.NoRoom) h = tt
 not_filed f labels ms text (Err fault.Write) h = h
 
-not_shown : (t : Task) (labels : List (List ℕ)) (ms : List (List Rec)) (text : List ℕ) (r : Result (List ℕ) ImageFault) → AreShown t labels ms text r → IsNoDevice r
-not_shown task.Image labels ms text r h = not_told (IsLinked ms text) labels ms text r (not_first ms text) h
-not_shown (task.Rom f) labels ms text r h = not_filed f labels ms text r h
-not_shown task.Map labels ms text r h = not_told (IsMapped labels ms text) labels ms text r (λ read. read) h
-not_shown (task.Draft o) labels ms text r h = not_drafted (options_for ms o) ms r h
+not_shown_at : (t : Task) (labels : List (List ℕ)) (ms : List (List Rec)) (text : List ℕ) (r : Result (List ℕ) ImageFault) → AreShownAt t labels ms text r → IsNoDevice r
+not_shown_at task.Image labels ms text r h = not_told (IsLinked ms text) labels ms text r (not_first ms text) h
+not_shown_at (task.Rom f) labels ms text r h = not_filed f labels ms text r h
+not_shown_at task.Map labels ms text r h = not_told (IsMapped labels ms text) labels ms text r (λ read. read) h
+not_shown_at (task.Draft o) labels ms text r h = not_drafted (options_for ms o) ms r h
+
+pub no_memory : (t : Task) (labels : List (List ℕ)) (ms : List (List Rec)) (text : List ℕ) → AreShownAt t labels ms text (Err (fault.Link link.Memory))
+no_memory task.Image labels ms text = inr refl
+no_memory (task.Rom f) labels ms text = inr refl
+no_memory task.Map labels ms text = inr refl
+no_memory (task.Draft o) labels ms text = tt
 
 not_refused : (input : List ℕ) (r : Result (List ℕ) ImageFault) → IsNoModule input r → IsNoDevice r
 not_refused input (Ok shown) h = tt
@@ -211,7 +218,7 @@ not_refused input (Err fault.Write) h = h
 
 no_device : (t : Task) (input : List ℕ) (r : Result (List ℕ) ImageFault) → IsShownOf t input r → IsNoDevice r
 no_device t input r (inl h) = not_refused input r h
-no_device t input r (inr h) = not_shown t [] (typed_modules h.modules) h.text r h.shown
+no_device t input r (inr h) = not_shown_at t [] (typed_modules h.modules) (plain_text h.text) r h.shown
 
 -- ---- an input that is read
 

@@ -5,6 +5,8 @@ pub mod Rom
 pub mod Drafted
 pub mod Unresolved
 pub mod Repeated
+pub mod Near
+pub mod TextLines
 pub mod Named
 pub mod Faults
 pub mod Shown

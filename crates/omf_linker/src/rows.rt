@@ -1,6 +1,6 @@
 //! Worked examples, each evaluated by the check.
 
-ghost use Rattle.std.specs.Prelude.{◌≡◌, [], ◌∷◌, codes, true, false, None, replicate, Some};
+ghost use Rattle.std.specs.Prelude.{◌≡◌, [], ◌++◌, ◌∷◌, codes, true, false, None, replicate, Some};
 ghost use Rattle.clap.specs.Words.{Text, fault_of, subcommand_of};
 ghost use Rattle.omf_frame.specs.declared.fault.Reason.TheVariants as reason;
 ghost use Rattle.omf_check.specs.Rows.{place};
@@ -16,6 +16,8 @@ ghost use Rattle.omf_linking.specs.declared.locator.fault.LineFault.TheVariants 
 ghost use Rattle.omf_linker.specs.Options.{options_named};
 ghost use Rattle.omf_linker.specs.Suiting.{options_for};
 ghost use Rattle.omf_linker.specs.Link.Files.{module_labels};
+ghost use Rattle.omf_linker.specs.Link.Near.{near_name};
+ghost use Rattle.omf_linker.specs.Link.TextLines.{text_lines};
 ghost use Rattle.omf_linker.specs.Link.Named.{beyond_line, far_line, high_line, outside_line, overlap_line, starts_line};
 ghost use Rattle.omf_linker.specs.Link.Rows.{bytes_at, line_of, names_of, one_label, reach_shown, segment_of, spot_of, started_text, text_of, two_modules};
 ghost use Rattle.omf_linker.specs.Link.Words.{IsAsked as AsksLink, link_app};
@@ -60,19 +62,39 @@ pub fn texts_with_a_start()
     ensures none { started_text (bytes_at 0x7C00 (0xF4 ∷ []) ∷ []) None ≡ codes "00007C00: F4\n" }
 {}
 
-/// The line of each fault that is not about a module and its parts. Modules are counted from 1. Another fault has lines of its own.
+/// Near names: the first that differs in case, in what compilers put around names, or by one edit.
+pub fn near_names()
+    ensures around { near_name (codes "gets") (codes "puts" ∷ codes "_gets" ∷ codes "get" ∷ []) ≡ Some (codes "_gets") }
+    ensures after { near_name (codes "_WinMain") (codes "WinMain@16" ∷ codes "winmain_" ∷ []) ≡ Some (codes "winmain_") }
+    ensures case { near_name (codes "\"_text\" \"CODE\"") (codes "\"_TEXT\" -" ∷ codes "\"_TEXT\" \"CODE\"" ∷ []) ≡ Some (codes "\"_TEXT\" \"CODE\"") }
+    ensures less { near_name (codes "_TXT") (codes "_DATA" ∷ codes "_TEXT" ∷ []) ≡ Some (codes "_TEXT") }
+    ensures more { near_name (codes "mainn") (codes "main" ∷ []) ≡ Some (codes "main") }
+    ensures other { near_name (codes "mein") (codes "main" ∷ []) ≡ Some (codes "main") }
+    ensures swapped { near_name (codes "\"strat.asm\"") (codes "\"stat.asm\"" ∷ codes "\"start.asm\"" ∷ []) ≡ Some (codes "\"stat.asm\"") }
+    ensures swapped_alone { near_name (codes "\"DGRUOP\"") (codes "\"DGROUP\"" ∷ []) ≡ Some (codes "\"DGROUP\"") }
+    ensures none { near_name (codes "_TXT") (codes "_DATA" ∷ codes "_BSS" ∷ []) ≡ None }
+{}
+
+/// The lines of a fault of a line of a text. What is wrong with it follows from the line, and from the `M` line before it.
+pub fn text_fault_lines()
+    ensures number { text_lines [] (codes "M \"A\"\nS \"T\" 1G 0 0\n") 2 why.NotUnderstood ≡ codes "line 2: expected S KEY ADDRESS (BASE SELECTOR|real|shared)\n  S \"T\" 1G 0 0\n" }
+    ensures letter { text_lines [] (codes "Q\r\n") 1 why.NotUnderstood ≡ codes "line 1: expected M, S, G, X or ;\n  Q\n" }
+    ensures foreign { text_lines [] (codes "M \"" ++ 0x84 ∷ codes "\"") 1 why.NotUnderstood ≡ codes "line 1: a byte that is not ASCII\n  M \"\\x84\"\n" }
+    ensures before { text_lines [] (codes "S \"T\" 0 0 0") 1 why.NoModule ≡ codes "line 1: no M line before it for segment \"T\"\n  S \"T\" 0 0 0\n" }
+    ensures unknown { text_lines [] (codes "; one\nM \"A\"\nG \"D\" real\n") 3 why.Unknown ≡ codes "line 3: no group \"D\" in module \"A\"\n  G \"D\" real\n" }
+    ensures numbered { text_lines [] (codes "M #3") 1 why.Unknown ≡ codes "line 1: no module #3\n  M #3\n" }
+    ensures several { text_lines [] (codes "M \"A\"\nS \"T\" \"C\" 0 0 0") 2 why.Several ≡ codes "line 2: more than one segment \"T\" \"C\" in module \"A\"\n  S \"T\" \"C\" 0 0 0\n" }
+    ensures again { text_lines [] (codes "M #1\nX #1 0 0 0\nM \"B\"\nX \"f\" 0 0 0\nX \"f\" 1 0 0") 5 why.Twice ≡ codes "line 5: a second line for external \"f\" in module \"B\"\n  X \"f\" 1 0 0\n" }
+    ensures unshared { text_lines [] (codes "M #1\nG #1 shared") 2 why.Unshared ≡ codes "line 2: no line before it gives the frame of group #1 in module #1\n  G #1 shared\n" }
+{}
+
+/// The line of each fault that is about no module and its parts, and about no line of a text. Modules are counted from 1. Another fault has lines of its own.
 pub fn fault_lines()
     ensures memory { line_of link.Memory ≡ codes "memory" }
     ensures read { line_of link.Read ≡ codes "read" }
     ensures refused { line_of (link.Refused 1 reason.Cut (place 4 34 2)) ≡ codes "module 2 refused 2 Cut record 4 at 34 within 2" }
     ensures no_text { line_of (link.NoText 153) ≡ codes "input at 153: no module and no text" }
     ensures no_modules { line_of link.NoModules ≡ codes "no modules" }
-    ensures text { line_of (link.Line 3 why.NotUnderstood) ≡ codes "text line 3: not understood" }
-    ensures before { line_of (link.Line 1 why.NoModule) ≡ codes "text line 1: no M line before it" }
-    ensures unknown { line_of (link.Line 12 why.Unknown) ≡ codes "text line 12: names nothing" }
-    ensures several { line_of (link.Line 2 why.Several) ≡ codes "text line 2: names more than one" }
-    ensures again { line_of (link.Line 4 why.Twice) ≡ codes "text line 4: a second line for the same" }
-    ensures unshared { line_of (link.Line 4 why.Unshared) ≡ codes "text line 4: no line before it gives the frame" }
     ensures external { line_of (link.External (derive.Undefined 0 2)) ≡ codes "not linked" }
     ensures starts { line_of (link.Starts 0 2) ≡ codes "not linked" }
 {}

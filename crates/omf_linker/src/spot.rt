@@ -3,7 +3,7 @@
 use omf_check::{Checked, Data, Undecoded};
 use omf_frame::{Name, Place};
 use omf_records::Kind;
-use omf_reloc::{Piece, pieces_of};
+use omf_reloc::{Piece, PlainReference, pieces_of};
 
 /// Where a part of a module is: the index of the segment of its data, and its offset there.
 #[derive(Clone, Copy)]
@@ -68,19 +68,29 @@ pub(crate) fn spot_of(module: &Checked, place: Place) -> Option<Spot> {
     None
 }
 
-/// The name of the external that a piece refers to; none if it refers to none.
-fn external_of<'a>(module: &'a Checked, piece: &Piece<'_>) -> Option<Name<'a>> {
-    let Piece::Fixed { fixup, .. } = piece else {
-        return None;
-    };
-    match fixup.reference.target.kind {
-        Kind::External => module.external(fixup.reference.target.index.0),
+/// The name of the external that a reference is to; none if it is to none.
+fn target_of<'a>(module: &'a Checked, reference: &PlainReference) -> Option<Name<'a>> {
+    match reference.target.kind {
+        Kind::External => module.external(reference.target.index.0),
         Kind::Segment => None,
         Kind::Group => None,
     }
 }
 
-/// The name of the external that the fixup at a place of a module refers to; none if it refers to none.
+/// The name of the external that a piece, a fixup or a start, refers to; none if it refers to none.
+fn external_of<'a>(module: &'a Checked, piece: &Piece<'_>) -> Option<Name<'a>> {
+    match piece {
+        Piece::Kept(_) => None,
+        Piece::Fixed { fixup, .. } => target_of(module, &fixup.reference),
+        Piece::End {
+            start: Some(start),
+            ..
+        } => target_of(module, start),
+        Piece::End { start: None, .. } => None,
+    }
+}
+
+/// The name of the external that the fixup or the start at a place of a module refers to; none if it refers to none.
 pub(crate) fn external_at(module: &Checked, place: Place) -> Option<Name<'_>> {
     for (here, piece) in pieces_of(module) {
         if here.number == place.number && here.within == place.within {

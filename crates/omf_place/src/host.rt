@@ -19,14 +19,14 @@ const ABOUT: About = About {
     usage: "usage: omf-place [--base ADDRESS] [--real | --flat SELECTOR] [FILE]\n",
     details: "
 Drafts a placement for an object module (.OBJ): the text with addresses that omf
-reloc reads after the module. Without a file, or where it is -, it reads the standard
-input.
+reloc reads after the module. Without a file, or where it is -, it reads the
+standard input.
 
   --base ADDRESS   the address of the first segment, hexadecimal (default 10000)
-  --real           addresses for real mode; the default for a module without 32-bit
-                   segments
-  --flat SELECTOR  one frame with base 0 and this selector, hexadecimal; the default
-                   for other modules, with selector 0
+  --real           addresses for real mode; the default for a module without
+                   32-bit segments
+  --flat SELECTOR  one frame with base 0 and this selector, hexadecimal; the
+                   default for other modules, with selector 0
 
 1000, 0x1000 and 1000H are one number. @FILE is the words of a file, and
 -- ends the options. omf-place(1) and docs/PLACEMENT.md have more.

@@ -17,6 +17,7 @@ use Rattle.omf_layout.specs.declared.options.Options.{Options}
 use Rattle.omf_layout.specs.Draft.{alignment_text, is_same_frame, room_text}
 use Rattle.omf_layout.specs.Wants.{alignments, rooms}
 use Rattle.omf_layout.specs.Several.Placing.{arranged_places}
+use Rattle.omf_linking.specs.Locator.Drafted.{Sharing, sharing_of}
 use Rattle.omf_linking.specs.Locator.KeyForms.{is_repeated, key_form, key_text, key_words, module_key_by, module_texts}
 use Rattle.omf_linking.specs.Locator.Keys.{module_name}
 use Rattle.omf_linking.specs.declared.locator.forms.KeyForm.{KeyForm}
@@ -31,36 +32,43 @@ opening_by repeated j m = codes "M " ++ key_words (module_key_by repeated j m) +
 abbrev pub opening_line : List (List Rec) → ℕ → List Rec → List ℕ
 opening_line ms j m = opening_by (is_repeated (module_texts ms) (quoted (module_name m))) j m
 
--- A place: in real mode a segment in the frame of its paragraph has its address and `real`; any other its address, base and selector.
+-- A place of its own: in real mode a segment in the frame of its paragraph has its address and `real`; any other its address, base and selector.
 abbrev pub full_place : Placed → List ℕ
 full_place p = in_words (number p.address ∷ number p.frame.base ∷ number p.frame.selector ∷ [])
 
-abbrev pub place_text : Frames → Placed → List ℕ
-place_text Real p = if is_same_frame (real_frame p.address) p.frame then in_words (number p.address ∷ codes "real" ∷ []) else full_place p
-place_text (Flat selector) p = full_place p
+abbrev pub own_place : Frames → Placed → List ℕ
+own_place Real p = if is_same_frame (real_frame p.address) p.frame then in_words (number p.address ∷ codes "real" ∷ []) else full_place p
+own_place (Flat selector) p = full_place p
+
+-- A segment that shares the frame of its name has its address and `shared`.
+abbrev pub place_text : Frames → Bool → Placed → List ℕ
+place_text frames shared p = if shared then in_words (number p.address ∷ codes "shared" ∷ []) else own_place frames p
 
 -- A line for each segment: its key, its place, and in a comment its class, its alignment in bytes and its length. Numbers in comments are decimal.
 abbrev pub segment_comment : List Rec → SegInfo → Alignment → List ℕ
 segment_comment m s a = codes "class " ++ named (names m) s.class ++ 32 ∷ alignment_text s.absolute a ++ codes " length " ++ decimal s.length
 
-abbrev pub segment_line_by : Frames → List Rec → KeyForm → ℕ × ((SegInfo × Alignment) × Placed) → List ℕ
-segment_line_by frames m form s = codes "S " ++ key_text m kinds.Segment form s.0 ++ 32 ∷ place_text frames s.1.1 ++ codes " ; " ++ segment_comment m s.1.0.0 s.1.0.1 ++ 10 ∷ []
+abbrev pub segment_line_by : Frames → List Rec → KeyForm → Bool → ℕ × ((SegInfo × Alignment) × Placed) → List ℕ
+segment_line_by frames m form shared s = codes "S " ++ key_text m kinds.Segment form s.0 ++ 32 ∷ place_text frames shared s.1.1 ++ codes " ; " ++ segment_comment m s.1.0.0 s.1.0.1 ++ 10 ∷ []
 
-abbrev pub segment_line : Frames → List Rec → ℕ × ((SegInfo × Alignment) × Placed) → List ℕ
-segment_line frames m s = segment_line_by frames m (key_form m kinds.Segment s.0) s
+abbrev pub segment_line : Frames → (ℕ → Frame → Bool) → List Rec → ℕ × ((SegInfo × Alignment) × Placed) → List ℕ
+segment_line frames shares m s = segment_line_by frames m (key_form m kinds.Segment s.0) (shares s.0 s.1.1.frame) s
 
-abbrev pub segment_lines : Frames → List Rec → List Placed → List ℕ
-segment_lines frames m xs = flat_map (segment_line frames m) (enumerate_from 1 (zip (zip (segments m) (alignments m)) xs))
+abbrev pub segment_lines : Frames → (ℕ → Frame → Bool) → List Rec → List Placed → List ℕ
+segment_lines frames shares m xs = flat_map (segment_line frames shares m) (enumerate_from 1 (zip (zip (segments m) (alignments m)) xs))
 
--- A line for each group: its key and its frame, which groups of that name in other modules share.
-abbrev pub group_line_by : List Rec → KeyForm → ℕ → Frame → List ℕ
-group_line_by m form i f = codes "G " ++ key_text m kinds.Group form i ++ 32 ∷ in_words (number f.base ∷ number f.selector ∷ []) ++ 10 ∷ []
+-- A line for each group: its key and its frame, or `shared`.
+abbrev pub frame_text : Bool → Frame → List ℕ
+frame_text shared f = if shared then codes "shared" else in_words (number f.base ∷ number f.selector ∷ [])
 
-abbrev pub group_line : List Rec → ℕ × Frame → List ℕ
-group_line m g = group_line_by m (key_form m kinds.Group g.0) g.0 g.1
+abbrev pub group_line_by : List Rec → KeyForm → Bool → ℕ → Frame → List ℕ
+group_line_by m form shared i f = codes "G " ++ key_text m kinds.Group form i ++ 32 ∷ frame_text shared f ++ 10 ∷ []
 
-abbrev pub group_lines : List Rec → List Frame → List ℕ
-group_lines m fs = flat_map (group_line m) (enumerate_from 1 fs)
+abbrev pub group_line : (ℕ → Frame → Bool) → List Rec → ℕ × Frame → List ℕ
+group_line shares m g = group_line_by m (key_form m kinds.Group g.0) (shares g.0 g.1) g.0 g.1
+
+abbrev pub group_lines : (ℕ → Frame → Bool) → List Rec → List Frame → List ℕ
+group_lines shares m fs = flat_map (group_line shares m) (enumerate_from 1 fs)
 
 -- The line that would give an external its place, in a comment, followed by a communal's length.
 abbrev pub wanted_line_by : List Rec → KeyForm → ℕ → Option ℕ → List ℕ
@@ -77,15 +85,15 @@ abbrev pub wanted_lines : (Bool → List (List ℕ)) → List Rec → List ℕ
 wanted_lines among m = flat_map (external_text among m) (enumerate_from 1 (zip (named_externals m) (rooms m)))
 
 -- The lines of a module, and the line before them, by the module's number from 0.
-abbrev pub part_text : Frames → (Bool → List (List ℕ)) → List Rec → Places → List ℕ
-part_text frames among m pl = segment_lines frames m pl.segments ++ group_lines m pl.groups ++ wanted_lines among m
+abbrev pub part_text : Frames → Sharing → (Bool → List (List ℕ)) → List Rec → Places → List ℕ
+part_text frames shares among m pl = segment_lines frames shares.segment m pl.segments ++ group_lines shares.group m pl.groups ++ wanted_lines among m
 
-abbrev pub module_text : Frames → List (List Rec) → ℕ × (List Rec × Places) → List ℕ
-module_text frames ms m = opening_line ms m.0 m.1.0 ++ part_text frames (seen_names ms m.1.0) m.1.0 m.1.1
+abbrev pub module_text : Frames → List (List Rec) → List Places → ℕ × (List Rec × Places) → List ℕ
+module_text frames ms pls m = opening_line ms m.0 m.1.0 ++ part_text frames (sharing_of ms pls m.0 m.1.0) (seen_names ms m.1.0) m.1.0 m.1.1
 
 -- The text of modules at these places.
 abbrev pub link_text : Frames → List (List Rec) → List Places → List ℕ
-link_text frames ms pls = flat_map (module_text frames ms) (enumerate_from 0 (zip ms pls))
+link_text frames ms pls = flat_map (module_text frames ms pls) (enumerate_from 0 (zip ms pls))
 
 -- The draft of modules; none if a segment does not fit.
 abbrev pub drafted : Options → List (List Rec) → Option (List ℕ)

@@ -1,6 +1,8 @@
--- Laws of the modules that a linker adds to a program, and of its map, each the contract of a function of the same name.
-use Rattle.std.specs.Prelude.{◌≡◌, ℕ, List, [], ◌∷◌, ◌++◌, filter_map, map, zip, Some, None, Bool, true, false}
+-- Laws of the modules that a linker adds to a program, of its map, and of its externals, each the contract of a function of the same name.
+use Rattle.std.specs.Prelude.{◌≡◌, ◌↔◌, ℕ, All, List, [], ◌∷◌, ◌++◌, filter_map, map, zip, Some, None, Ok, Bool, true, false}
+use Rattle.omf_image.specs.Limits.{profile_limits}
 use Rattle.omf_check.specs.Module.{Module, typed_modules}
+use Rattle.omf_check.specs.Sound.{ModuleHolds}
 use Rattle.omf_records.specs.Values.{Rec}
 use Rattle.omf_placement.specs.Derive.{PlacedModule, all_publics, publics, seen_publics}
 -- computed: derived_is_taken of omf_placement.
@@ -14,9 +16,10 @@ use Rattle.omf_layout.specs.Own.Communals.{communals_of, is_communal}
 use Rattle.omf_layout.specs.Own.Order.{has_claim, order_records}
 use Rattle.omf_layout.specs.Own.Stack.{stack_records}
 use Rattle.omf_layout.specs.Several.Gathered.{of_name as claims_of}
-use Rattle.omf_output.specs.Exe.Members.{Member}
+use Rattle.omf_output.specs.Exe.Laws.{AreLow, all_moved, derived_at}
+use Rattle.omf_output.specs.Exe.Members.{Member, member_at}
 use Rattle.omf_linker.specs.Drafting.Laws.{HasBases}
-use Rattle.omf_linker.specs.Exe.Program.{IsComOf, IsMapOf, IsProgramOf}
+use Rattle.omf_linker.specs.Exe.Program.{AreMade, IsComOf, IsMapOf, IsProgramOf}
 use Rattle.omf_linker.specs.Map.Addresses.{addressed}
 use Rattle.omf_linker.specs.Map.MapText.{map_text}
 
@@ -62,3 +65,13 @@ pub record ShowsAddresses (ms : List Module) (text : List ℕ) : Type 0 where
 
 abbrev pub MapsShowPrograms : Type 0
 MapsShowPrograms = (ms : List Module) (text : List ℕ) → IsMapOf ms text → ShowsAddresses ms text
+
+-- The placements of members of a program, moved by k paragraphs.
+abbrev pub placements_at : ℕ → List Member → List Places
+placements_at k members = map (λ m. (member_at k m).places) members
+
+-- Well-formed modules of a program, loaded at any paragraph: their externals are where they are derived at the modules' segments and groups moved by as many
+-- paragraphs, if and only if each of these is below 2^32.
+abbrev pub ExternalsAreLoaded : Type 0
+ExternalsAreLoaded = (ms : List Module) (members : List Member) (made : AreMade ms members) (k : ℕ) → All (ModuleHolds profile_limits) (typed_modules ms)
+    → (derived_at (typed_modules ms) (all_moved k made.movers made.places) ≡ Ok (placements_at k members)) ↔ AreLow (placements_at k members)

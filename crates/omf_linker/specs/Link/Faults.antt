@@ -6,8 +6,6 @@ use Rattle.omf_placement.specs.Entries.{in_words}
 use Rattle.omf_records.specs.Values.{Rec}
 use Rattle.omf_linking.specs.declared.fault.LinkFault.{LinkFault}
 use Rattle.omf_linking.specs.declared.fault.LinkFault.TheVariants as link
-use Rattle.omf_linking.specs.declared.locator.fault.LineFault.{LineFault}
-use Rattle.omf_linking.specs.declared.locator.fault.LineFault.TheVariants as why
 use Rattle.omf_cmd.specs.FaultLine.{fault_words as run_words}
 use Rattle.omf_cmd.specs.Programs.{FaultReport}
 use Rattle.omf_cmd.specs.declared.fault.RunFault.TheVariants as run
@@ -17,7 +15,7 @@ use Rattle.omf_linker.specs.declared.link.fault.ImageFault.TheVariants as fault
 
 -- ---- the fault with its lines
 
--- The fault is about a module and its parts: it has lines by their names.
+-- The fault is about a module and its parts, or about a line of the text: it has lines by their names.
 abbrev pub is_of_modules : LinkFault → Bool
 is_of_modules (link.External (derive.Undefined j i)) = true
 is_of_modules (link.External (derive.Twice j i)) = true
@@ -26,9 +24,10 @@ is_of_modules (link.Reach j f) = true
 is_of_modules (link.Starts j k) = true
 is_of_modules (link.Space (space.Beyond o)) = true
 is_of_modules (link.Space (space.Overlap a s t)) = true
+is_of_modules (link.Line n w) = true
 is_of_modules _ = false
 
--- A link fault at the placements of a text: with its lines, if it is about a module and its parts; or out of memory for these.
+-- A link fault at the placements of a text: with its lines, if it has some; or out of memory for these.
 abbrev pub IsNamed : List (List ℕ) → List (List Rec) → List ℕ → LinkFault → ImageFault → Type 0
 IsNamed labels ms text f (fault.Link g) = ((g ≡ f) × (is_of_modules f ≡ false)) ⊎ (g ≡ link.Memory)
 IsNamed labels ms text f (fault.Lines g lines) = (g ≡ f) × (is_of_modules f ≡ true) × HasLines labels ms text f lines.items
@@ -44,19 +43,7 @@ module_words j = codes "module" ∷ decimal (j + 1) ∷ []
 abbrev pub input_at : ℕ → List ℕ
 input_at at = codes "input at " ++ decimal at
 
--- A line of the text that does not fit: its number, and why.
-abbrev pub text_line : ℕ → List ℕ
-text_line n = codes "text line " ++ decimal n
-
-abbrev pub why_text : LineFault → List ℕ
-why_text why.NotUnderstood = codes ": not understood"
-why_text why.NoModule = codes ": no M line before it"
-why_text why.Unknown = codes ": names nothing"
-why_text why.Several = codes ": names more than one"
-why_text why.Twice = codes ": a second line for the same"
-why_text why.Unshared = codes ": no line before it gives the frame"
-
--- A fault about a module and its parts has lines of its own, by their names.
+-- A fault about a module and its parts, or about a line of the text, has lines of its own, by their names.
 abbrev pub not_linked : List (List ℕ)
 not_linked = codes "not linked" ∷ []
 
@@ -67,7 +54,7 @@ link_words link.Read = run_words run.Read
 link_words (link.Refused j why at) = module_words j ++ run_words (run.Refused why at)
 link_words (link.NoText at) = (input_at at ++ codes ": no module and no text") ∷ []
 link_words link.NoModules = codes "no modules" ∷ []
-link_words (link.Line n why) = (text_line n ++ why_text why) ∷ []
+link_words (link.Line n why) = not_linked
 link_words (link.External f) = not_linked
 link_words (link.Reach j f) = not_linked
 link_words (link.Starts j k) = not_linked
@@ -85,10 +72,15 @@ link_status link.Memory = 3
 link_status link.Read = 3
 link_status _ = 1
 
+-- A line of a text is one of the text that follows the modules, where no file is named.
+abbrev pub text_front : LinkFault → List ℕ
+text_front (link.Line n w) = codes "text "
+text_front _ = []
+
 -- What is reported of a fault: the exit status, and the line and its line feed. Nothing is printed if the writer failed.
 abbrev pub report : ImageFault → FaultReport
 report (fault.Link f) = record { status = link_status f; text = in_words (link_words f) ++ 10 ∷ [] }
-report (fault.Lines f lines) = record { status = 1; text = lines.items }
+report (fault.Lines f lines) = record { status = 1; text = text_front f ++ lines.items }
 report (fault.Outside a o lines) = record { status = 1; text = lines.items }
 report fault.NoRoom = record { status = 1; text = no_room ++ 10 ∷ [] }
 report fault.Write = record { status = 3; text = [] }

@@ -1,8 +1,9 @@
 -- What a task of `omf-link` shows of files (a rule of this profile).
-use Rattle.std.specs.Prelude.{◌≡◌, ◌⊎◌, ℕ, zero, suc, List, [], ◌∷◌, ◌++◌, length, Result, Ok, Err, codes, decimal, string_bytes}
+use Rattle.std.specs.Prelude.{◌≡◌, ◌⊎◌, ℕ, zero, suc, List, [], ◌∷◌, ◌++◌, length, Option, Some, None, Result, Ok, Err, codes, decimal, string_bytes}
 use Rattle.omf_check.specs.Module.{Module, typed_modules}
 use Rattle.omf_cmd.specs.Printed.{line}
 use Rattle.omf_cmd.specs.Programs.{FaultReport}
+use Rattle.omf_host.specs.Lines.{shown_name}
 use Rattle.omf_placement.specs.Quoted.{quoted}
 use Rattle.omf_records.specs.Values.{Rec}
 use Rattle.omf_linking.specs.File.{InputFile}
@@ -16,6 +17,7 @@ use Rattle.omf_linker.specs.declared.link.fault.ImageFault.{ImageFault}
 use Rattle.omf_linker.specs.declared.link.fault.ImageFault.TheVariants as image
 use Rattle.omf_linker.specs.declared.link.files_fault.FilesFault.{FilesFault}
 use Rattle.omf_linker.specs.declared.link.files_fault.FilesFault.TheVariants as fault
+use Rattle.omf_linker.specs.declared.link.text_fault.TextFault.{TextFault}
 use Rattle.omf_linker.specs.declared.link.words.Task.{Task}
 
 -- ---- the line
@@ -37,6 +39,23 @@ file_line f = line (link_words f)
 abbrev pub files_report : FilesFault → FaultReport
 files_report (fault.File f front) = record { status = link_status f; text = string_bytes front ++ file_line f }
 files_report (fault.Link f) = report f
+
+-- The lines of a fault of a line of the link text, without the text's name.
+abbrev pub lines_of_text : FilesFault → Option (List ℕ)
+lines_of_text (fault.Link (image.Lines (link.Line n w) lines)) = Some lines.items
+lines_of_text _ = None
+
+-- What is before these: the name of the text's file and a colon.
+abbrev pub text_front : List ℕ → List ℕ
+text_front name = shown_name name ++ codes ": "
+
+-- What is reported of a fault, if the link text is a file: the lines of a fault of the text are after the file's name.
+abbrev pub named_text : List ℕ → List ℕ → Option (List ℕ) → List ℕ
+named_text front other None = other
+named_text front other (Some lines) = front ++ lines
+
+abbrev pub named_report : TextFault → FaultReport
+named_report t = record { status = (files_report t.fault).status; text = named_text (string_bytes t.front) (files_report t.fault).text (lines_of_text t.fault) }
 
 -- ---- the modules and their labels
 

@@ -6,6 +6,7 @@ use Rattle.omf_linking.specs.Reading.{AreModules}
 use Rattle.omf_linking.specs.declared.fault.LinkFault.TheVariants as link
 use Rattle.omf_linking.specs.Folded.{folded}
 use Rattle.omf_linking.specs.FoldedText.{folded_text}
+use Rattle.omf_linking.specs.PlainText.{plain_text}
 use Rattle.omf_linker.specs.Link.Files.{AreLabeled, IsFileRefused}
 use Rattle.omf_linker.specs.Link.Linked.{any}
 use Rattle.omf_linker.specs.Link.Shown.{AreShown, IsNoModule}
@@ -17,7 +18,7 @@ use Rattle.omf_linker.specs.declared.link.words.Task.{Task}
 
 -- The result of a task for these modules, by their labels, and this text, all folded.
 abbrev pub IsShownFolded : Task → List (List ℕ) → List Module → List ℕ → Result (List ℕ) ImageFault → Type 0
-IsShownFolded t labels ms text r = AreShown t labels (map folded (typed_modules ms)) (folded_text text) r
+IsShownFolded t labels ms text r = AreShown t labels (map folded (typed_modules ms)) (folded_text (plain_text text)) r
 
 -- The same, where the fault is one of a link.
 abbrev pub IsShownFoldedAs : Task → List (List ℕ) → List Module → List ℕ → Result (List ℕ) FilesFault → Type 0

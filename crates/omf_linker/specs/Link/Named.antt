@@ -16,6 +16,7 @@ use Rattle.omf_linking.specs.declared.space.fault.MemoryFault.TheVariants as spa
 use Rattle.omf_linking.specs.declared.space.stretch.Owner.{Owner}
 use Rattle.omf_cmd.specs.FaultLine.{cause_name, fault_line as run_line}
 use Rattle.omf_cmd.specs.declared.fault.RunFault.TheVariants as run
+use Rattle.omf_linker.specs.Link.TextLines.{text_lines}
 use Rattle.omf_linker.specs.Link.Unresolved.{AreLines, label_of}
 use Rattle.omf_linker.specs.declared.spot.Spot.{Spot}
 
@@ -72,6 +73,12 @@ abbrev pub IsReachLine : List (List ℕ) → List (List Rec) → ℕ → ReachFa
 IsReachLine labels ms j (reach.TooFar number within cause) line = (s : Option Spot) × (to : Option (List ℕ)) × (line ≡ far_line labels ms j number cause s to)
 IsReachLine labels ms j f line = line ≡ label_of labels j ++ reach_text ms j f ++ 10 ∷ []
 
+-- What is before the line of a fault of a module's placement: the lines of names, if a text has no line for a segment or no frame for a group. A name is
+-- wrong whatever the addresses are.
+abbrev pub AreBefore : List (List ℕ) → List (List Rec) → List ℕ → ReachFault → List ℕ → Type 0
+AreBefore labels ms text (reach.Missing kind i) lines = AreLines labels ms text lines
+AreBefore labels ms text f lines = lines ≡ []
+
 -- Two modules with a start address.
 abbrev pub starts_line : List (List ℕ) → ℕ → ℕ → List ℕ
 starts_line labels j k = codes "two starts: " ++ label_of labels j ++ codes " and " ++ label_of labels k ++ 10 ∷ []
@@ -93,13 +100,14 @@ abbrev pub outside_line : List (List ℕ) → List (List Rec) → ℕ → Option
 outside_line labels ms a o = outside_front labels ms o ++ codes "outside the range at " ++ hex 8 a ++ 10 ∷ []
 
 -- The lines of a fault of modules at the placements of a link text: a line for each name without a public or with more than one, if it is about such a name; one
--- line for any other. Other faults are not about modules, and have none.
+-- line for any other of modules; two for one of a line of the text. Other faults have none.
 abbrev pub HasLines : List (List ℕ) → List (List Rec) → List ℕ → LinkFault → List ℕ → Type 0
 HasLines labels ms text (link.External (derive.Undefined j i)) lines = AreLines labels ms text lines
 HasLines labels ms text (link.External (derive.Twice j i)) lines = AreLines labels ms text lines
 HasLines labels ms text (link.External (derive.TooHigh j i)) lines = lines ≡ high_line labels ms j i
-HasLines labels ms text (link.Reach j f) lines = IsReachLine labels ms j f lines
+HasLines labels ms text (link.Reach j f) lines = (names line : List ℕ) × AreBefore labels ms text f names × IsReachLine labels ms j f line × (lines ≡ names ++ line)
 HasLines labels ms text (link.Starts j k) lines = lines ≡ starts_line labels j k
 HasLines labels ms text (link.Space (space.Beyond o)) lines = lines ≡ beyond_line labels ms o
 HasLines labels ms text (link.Space (space.Overlap a s t)) lines = lines ≡ overlap_line labels ms a s t
+HasLines labels ms text (link.Line n w) lines = lines ≡ text_lines ms text n w
 HasLines labels ms text f lines = lines ≡ []

@@ -14,11 +14,12 @@ ghost use Rattle.omf_linker.specs.Drafting.Reading.{HasFew, IsReadBack};
 ghost use Rattle.omf_linker.specs.Drafting.Text.{drafted, link_text};
 
 use crate::drafting::names::NameTable;
-use crate::drafting::part::{print_opening, print_part};
+use crate::drafting::part::{Part, print_opening, print_part};
 use omf_check::Checked;
 use omf_layout::several::place_segments;
 use omf_layout::{Frames, LayoutFault, Options};
 use omf_linking::locator::forms::{TextTable, module_texts};
+use omf_linking::locator::{Shares, shares_of};
 use omf_placement::Placement;
 use std::alloc::{AllocError, Global};
 
@@ -39,18 +40,26 @@ fn text_of(
     let kept = module_texts(alloc, modules)?;
     let names: &[String] = &kept;
     let table = TextTable::of(alloc, names)?;
+    let shared = shares_of(alloc, modules, placements)?;
+    let shares: &[Shares] = &shared;
     let mut text = String::new(alloc);
     for (number, module) in modules.iter().enumerate() {
         let repeated = table.is_repeated(names[number].as_bytes());
         print_opening(&mut text, module, number as u32, repeated)?;
-        print_part(alloc, &mut text, module, frames, &placements[number], &all)?;
+        let part = Part {
+            frames,
+            placement: &placements[number],
+            shares: &shares[number],
+        };
+        print_part(alloc, &mut text, module, &part, &all)?;
     }
     Ok(text)
 }
 
 /// Returns a first text for a link. For each module it has a line `M` with the module's key; a line for each segment at its place from
 /// `place_segments`, with its class, alignment and length in a comment; a line for each group with its frame; and for each external that
-/// sees no public of its name an `X` line in a comment, where its place is to be filled in, with a communal's length. A local external
+/// sees no public of its name an `X` line in a comment, where its place is to be filled in, with a communal's length. A later part of a segment,
+/// and a later group of a name, share the frame of the first by `shared`, as `shares_of` of `omf_linking::locator` has it. A local external
 /// sees the local publics of its module, any other the publics of all modules. Each line names its module or entry by a key of
 /// `omf_linking::locator::forms`: a name that no other has, else a segment's name and class, else its number.
 ///

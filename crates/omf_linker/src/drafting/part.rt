@@ -1,21 +1,24 @@
 //! The lines of a module.
 
-ghost use Rattle.std.specs.Prelude.{◌≡◌, ◌<◌, ◌^◌, ◌∷◌, ◌++◌, [], All, Bool, List, ℕ, OnOk, IfOk, codes, decimal, flat_map, length, string_bytes, true, false, zip};
+ghost use Rattle.std.specs.Prelude.{◌≡◌, ◌<◌, ◌^◌, ◌∷◌, ◌++◌, [], All, Bool, List, ℕ, OnOk, IfOk, codes, decimal, flat_map, length, map, string_bytes, true, false, zip};
 ghost use Rattle.std.specs.List.{enumerate_from};
 ghost use Rattle.omf_frame.specs.Bytes.{AddsText};
 ghost use Rattle.omf_check.specs.Module.{recs_of};
 ghost use Rattle.omf_check.specs.Tables.{externals, groups, names, segments};
 ghost use Rattle.omf_placement.specs.Derive.{named_externals};
 ghost use Rattle.omf_placement.specs.Placement.{real_frame};
+ghost use Rattle.omf_placement.specs.declared.frame.Frame.{Frame as Base};
 ghost use Rattle.omf_placement.specs.Quoted.{named};
 ghost use Rattle.omf_layout.specs.Draft.{alignment_text, is_same_frame};
 ghost use Rattle.omf_layout.specs.Reading.{IsShortFrame, IsShortPlace};
 ghost use Rattle.omf_layout.specs.Wants.{rooms};
 ghost use Rattle.omf_linking.specs.Inner.Forms.{AreKeys};
+ghost use Rattle.omf_linking.specs.Inner.Sharing.{shares_seen};
+ghost use Rattle.omf_linking.specs.Locator.Drafted.{Sharing, shared_by};
 ghost use Rattle.omf_linking.specs.Locator.KeyForms.{key_words, module_key_by};
 ghost use Rattle.omf_reloc.specs.declared.fault.Kind.TheVariants.{External as Externals, Segment as Segments};
 ghost use Rattle.omf_linker.specs.Drafting.Names.{IsNameTable, has_name, public_names};
-ghost use Rattle.omf_linker.specs.Drafting.Text.{external_by, full_place, group_line_by, group_lines, opening_by, part_text, place_text, segment_line, segment_line_by, segment_lines, wanted_line_by, wanted_lines};
+ghost use Rattle.omf_linker.specs.Drafting.Text.{external_by, full_place, group_line_by, group_lines, opening_by, own_place, part_text, place_text, segment_line, segment_line_by, segment_lines, wanted_line_by, wanted_lines};
 
 use crate::drafting::names::NameTable;
 use omf_check::{Checked, SegInfo, entry_of};
@@ -23,7 +26,7 @@ use omf_layout::printing::{print_room, print_segment_room};
 use omf_layout::wants::{alignments_of, rooms_of};
 use omf_layout::{Alignment, Frames};
 use omf_linking::locator::forms::{KeyForm, Keys, print_key};
-use omf_linking::locator::module_name;
+use omf_linking::locator::{Shares, module_name};
 use omf_placement::{Frame, Placed, Placement};
 use omf_reloc::Kind;
 use omf_text::{print_name, print_quoted};
@@ -80,9 +83,9 @@ fn print_full_place(text: &mut String, place: Placed) -> Result<(), AllocError>
     write!(text, "{address:X} {base:X} {selector:X}")
 }
 
-/// Prints the place of a segment.
-fn print_place(text: &mut String, frames: Frames, place: Placed) -> Result<(), AllocError>
-    ensures { AddsText result (string_bytes text.old) (string_bytes text.new) (place_text frames place) }
+/// Prints the place of a segment that shares no frame.
+fn print_own_place(text: &mut String, frames: Frames, place: Placed) -> Result<(), AllocError>
+    ensures { AddsText result (string_bytes text.old) (string_bytes text.new) (own_place frames place) }
 {
     let address = place.address;
     match frames {
@@ -95,6 +98,34 @@ fn print_place(text: &mut String, frames: Frames, place: Placed) -> Result<(), A
         }
         Frames::Flat { .. } => print_full_place(text, place),
     }
+}
+
+/// Prints the place of a segment.
+fn print_place(
+    text: &mut String,
+    frames: Frames,
+    shared: bool,
+    place: Placed,
+) -> Result<(), AllocError>
+    ensures { AddsText result (string_bytes text.old) (string_bytes text.new) (place_text frames shared place) }
+{
+    let address = place.address;
+    if shared {
+        write!(text, "{address:X} shared")
+    } else {
+        print_own_place(text, frames, place)
+    }
+}
+
+/// Where the lines of a module put its segments and groups.
+#[derive(Clone, Copy)]
+pub struct Part<'a> {
+    /// The kind of frames.
+    pub frames: Frames,
+    /// Its places and frames.
+    pub placement: &'a Placement,
+    /// Which of its lines share a frame.
+    pub shares: &'a Shares,
 }
 
 /// A segment, and how it is named.
@@ -110,6 +141,8 @@ struct SegmentLine {
     alignment: Alignment,
     /// Its place.
     place: Placed,
+    /// Whether it shares the frame of its name.
+    shared: bool,
 }
 
 /// Prints the name of a segment's class in double quotes, or a dash for index 0.
@@ -141,12 +174,12 @@ fn print_segment(
     line: SegmentLine,
 ) -> Result<(), AllocError>
     ensures short { IsShortPlace line.place }
-    ensures line { AddsText result (string_bytes text.old) (string_bytes text.new) (segment_line_by frames (recs_of «module».now.bytes) line.form (line.index, ((line.segment, line.alignment), line.place))) }
+    ensures line { AddsText result (string_bytes text.old) (string_bytes text.new) (segment_line_by frames (recs_of «module».now.bytes) line.form line.shared (line.index, ((line.segment, line.alignment), line.place))) }
 {
     text.push_str("S ")?;
     print_key(text, module, Kind::Segment, line.form, line.index)?;
     text.push_str(" ")?;
-    print_place(text, frames, line.place)?;
+    print_place(text, frames, line.shared, line.place)?;
     print_segment_comment(text, module, line.segment, line.alignment)
 }
 
@@ -154,17 +187,17 @@ fn print_segment(
 fn print_segments(
     text: &mut String,
     module: &Checked,
-    frames: Frames,
+    part: &Part<'_>,
     keys: &Keys,
     alignments: &[Alignment],
-    placement: &Placement,
 ) -> Result<(), AllocError>
     requires keys { AreKeys (recs_of «module».now.bytes) Segments keys.now.by_name.items keys.now.by_class.items }
     requires aligned { length alignments.now ≡ length (segments (recs_of «module».now.bytes)) }
-    requires placed { length placement.now.segments ≡ length (segments (recs_of «module».now.bytes)) }
+    requires placed { length part.now.placement.now.segments ≡ length (segments (recs_of «module».now.bytes)) }
+    requires shared { length part.now.shares.now.segments.items ≡ length (segments (recs_of «module».now.bytes)) }
     ensures few { OnOk result (length (segments (recs_of «module».now.bytes)) < 2 ^ 32) }
-    ensures short { OnOk result (All IsShortPlace placement.now.segments) }
-    ensures lines { AddsText result (string_bytes text.old) (string_bytes text.new) (flat_map (segment_line frames (recs_of «module».now.bytes)) (enumerate_from 1 (zip (zip (segments (recs_of «module».now.bytes)) alignments.now) placement.now.segments))) }
+    ensures short { OnOk result (All IsShortPlace part.now.placement.now.segments) }
+    ensures lines { (shares : ℕ → Base → Bool) → part.now.shares.now.segments.items ≡ map (λ y. shares y.0 y.1.frame) (enumerate_from 1 part.now.placement.now.segments) → AddsText result (string_bytes text.old) (string_bytes text.new) (flat_map (segment_line part.now.frames shares (recs_of «module».now.bytes)) (enumerate_from 1 (zip (zip (segments (recs_of «module».now.bytes)) alignments.now) part.now.placement.now.segments))) }
 {
     for before in 0..module.segments() {
         let index = before + 1;
@@ -174,7 +207,10 @@ fn print_segments(
         let Some(alignment) = entry_of(alignments, usize::from(index)) else {
             unreachable!()
         };
-        let Some(place) = placement.segment(usize::from(index)) else {
+        let Some(place) = part.placement.segment(usize::from(index)) else {
+            unreachable!()
+        };
+        let Some(shared) = entry_of(&part.shares.segments, usize::from(index)) else {
             unreachable!()
         };
         let form = keys.form(index);
@@ -184,8 +220,9 @@ fn print_segments(
             segment,
             alignment,
             place,
+            shared,
         };
-        print_segment(text, module, frames, line)?;
+        print_segment(text, module, part.frames, line)?;
     }
     Ok(())
 }
@@ -195,55 +232,76 @@ fn print_segment_lines(
     alloc: Global,
     text: &mut String,
     module: &Checked,
-    frames: Frames,
-    placement: &Placement,
+    part: &Part<'_>,
 ) -> Result<(), AllocError>
-    requires { length placement.now.segments ≡ length (segments (recs_of «module».now.bytes)) }
+    requires placed { length part.now.placement.now.segments ≡ length (segments (recs_of «module».now.bytes)) }
+    requires shared { length part.now.shares.now.segments.items ≡ length (segments (recs_of «module».now.bytes)) }
     ensures few { OnOk result (length (segments (recs_of «module».now.bytes)) < 2 ^ 32) }
-    ensures short { OnOk result (All IsShortPlace placement.now.segments) }
-    ensures lines { AddsText result (string_bytes text.old) (string_bytes text.new) (segment_lines frames (recs_of «module».now.bytes) placement.now.segments) }
+    ensures short { OnOk result (All IsShortPlace part.now.placement.now.segments) }
+    ensures lines { (shares : ℕ → Base → Bool) → part.now.shares.now.segments.items ≡ map (λ y. shares y.0 y.1.frame) (enumerate_from 1 part.now.placement.now.segments) → AddsText result (string_bytes text.old) (string_bytes text.new) (segment_lines part.now.frames shares (recs_of «module».now.bytes) part.now.placement.now.segments) }
 {
     let alignments = alignments_of(alloc, module)?;
     let keys = Keys::of(alloc, module, Kind::Segment)?;
-    print_segments(text, module, frames, &keys, &alignments, placement)
+    print_segments(text, module, part, &keys, &alignments)
+}
+
+/// A group, and how it is named.
+#[derive(Clone, Copy)]
+struct GroupLine {
+    /// The form of its key.
+    form: KeyForm,
+    /// Its index, from 1.
+    index: u16,
+    /// Its frame.
+    frame: Frame,
+    /// Whether it shares the frame of its name.
+    shared: bool,
 }
 
 /// Prints a group's line.
-fn print_group(
-    text: &mut String,
-    module: &Checked,
-    form: KeyForm,
-    index: u16,
-    frame: Frame,
-) -> Result<(), AllocError>
-    ensures short { IsShortFrame frame }
-    ensures line { AddsText result (string_bytes text.old) (string_bytes text.new) (group_line_by (recs_of «module».now.bytes) form index frame) }
+fn print_group(text: &mut String, module: &Checked, line: GroupLine) -> Result<(), AllocError>
+    ensures short { IsShortFrame line.frame }
+    ensures line { AddsText result (string_bytes text.old) (string_bytes text.new) (group_line_by (recs_of «module».now.bytes) line.form line.shared line.index line.frame) }
 {
-    let Frame { base, selector } = frame;
+    let Frame { base, selector } = line.frame;
     text.push_str("G ")?;
-    print_key(text, module, Kind::Group, form, index)?;
-    write!(text, " {base:X} {selector:X}\n")
+    print_key(text, module, Kind::Group, line.form, line.index)?;
+    if line.shared {
+        text.push_str(" shared\n")
+    } else {
+        write!(text, " {base:X} {selector:X}\n")
+    }
 }
 
-/// Prints a line for each group with its own frame.
+/// Prints a line for each group.
 fn print_group_lines(
     alloc: Global,
     text: &mut String,
     module: &Checked,
-    placement: &Placement,
+    part: &Part<'_>,
 ) -> Result<(), AllocError>
-    requires { length placement.now.groups ≡ length (groups (recs_of «module».now.bytes)) }
+    requires placed { length part.now.placement.now.groups ≡ length (groups (recs_of «module».now.bytes)) }
+    requires shared { length part.now.shares.now.groups.items ≡ length (groups (recs_of «module».now.bytes)) }
     ensures few { OnOk result (length (groups (recs_of «module».now.bytes)) < 2 ^ 32) }
-    ensures short { OnOk result (All IsShortFrame placement.now.groups) }
-    ensures lines { AddsText result (string_bytes text.old) (string_bytes text.new) (group_lines (recs_of «module».now.bytes) placement.now.groups) }
+    ensures short { OnOk result (All IsShortFrame part.now.placement.now.groups) }
+    ensures lines { (shares : ℕ → Base → Bool) → part.now.shares.now.groups.items ≡ map (λ y. shares y.0 y.1) (enumerate_from 1 part.now.placement.now.groups) → AddsText result (string_bytes text.old) (string_bytes text.new) (group_lines shares (recs_of «module».now.bytes) part.now.placement.now.groups) }
 {
     let keys = Keys::of(alloc, module, Kind::Group)?;
     for before in 0..module.groups() {
         let index = before + 1;
-        let Some(frame) = placement.group(usize::from(index)) else {
+        let Some(frame) = part.placement.group(usize::from(index)) else {
             unreachable!()
         };
-        print_group(text, module, keys.form(index), index, frame)?;
+        let Some(shared) = entry_of(&part.shares.groups, usize::from(index)) else {
+            unreachable!()
+        };
+        let line = GroupLine {
+            form: keys.form(index),
+            index,
+            frame,
+            shared,
+        };
+        print_group(text, module, line)?;
     }
     Ok(())
 }
@@ -339,19 +397,20 @@ pub fn print_part<'a>(
     alloc: Global,
     text: &mut String,
     module: &'a Checked,
-    frames: Frames,
-    placement: &Placement,
+    part: &Part<'_>,
     all: &NameTable<'a>,
 ) -> Result<(), AllocError>
-    requires segments { length placement.now.segments ≡ length (segments (recs_of «module».now.bytes)) }
-    requires groups { length placement.now.groups ≡ length (groups (recs_of «module».now.bytes)) }
+    requires segments { length part.now.placement.now.segments ≡ length (segments (recs_of «module».now.bytes)) }
+    requires groups { length part.now.placement.now.groups ≡ length (groups (recs_of «module».now.bytes)) }
+    requires shared_segments { length part.now.shares.now.segments.items ≡ length (segments (recs_of «module».now.bytes)) }
+    requires shared_groups { length part.now.shares.now.groups.items ≡ length (groups (recs_of «module».now.bytes)) }
     ensures few_segments { OnOk result (length (segments (recs_of «module».now.bytes)) < 2 ^ 32) }
     ensures few_groups { OnOk result (length (groups (recs_of «module».now.bytes)) < 2 ^ 32) }
-    ensures segments { OnOk result (All IsShortPlace placement.now.segments) }
-    ensures groups { OnOk result (All IsShortFrame placement.now.groups) }
-    ensures text { (among : Bool → List (List ℕ)) → IsNameTable all.now (among false) → among true ≡ public_names true (recs_of «module».entry.now.bytes) → AddsText result (string_bytes text.old) (string_bytes text.new) (part_text frames among (recs_of «module».entry.now.bytes) placement.now) }
+    ensures segments { OnOk result (All IsShortPlace part.now.placement.now.segments) }
+    ensures groups { OnOk result (All IsShortFrame part.now.placement.now.groups) }
+    ensures text { (shares : Sharing) (among : Bool → List (List ℕ)) → shares_seen part.now.shares.now ≡ shared_by shares part.now.placement.now → IsNameTable all.now (among false) → among true ≡ public_names true (recs_of «module».entry.now.bytes) → AddsText result (string_bytes text.old) (string_bytes text.new) (part_text part.now.frames shares among (recs_of «module».entry.now.bytes) part.now.placement.now) }
 {
-    print_segment_lines(alloc, text, module, frames, placement)?;
-    print_group_lines(alloc, text, module, placement)?;
+    print_segment_lines(alloc, text, module, part)?;
+    print_group_lines(alloc, text, module, part)?;
     print_wanted_part(alloc, text, module, all)
 }

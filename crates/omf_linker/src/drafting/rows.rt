@@ -22,12 +22,14 @@ pub fn names_that_are_seen()
     ensures own { has_name (seen_names [] (of_records (segment 0x28 1 2 2 ∷ local_public_y ∷ [])) true) (codes "Y") ≡ true }
 {}
 
-/// Two modules of one name with a segment of one name: the modules are named by number; the second segment follows the first, in real mode in
+/// Two modules of one name with a segment of one name: the modules are named by number; the second segment follows the first, in
 /// its frame. The first has a group and two externals; the second defines X. A module alone is named by its name; two of its segments have one
-/// name.
+/// name. A private segment is the first of its name, and no other shares its frame. Common segments share theirs, and so does a second group.
 pub fn drafts_of_two_modules()
-    ensures flat { drafted_from 0x401000 (Flat 8) (of_records (segment 0x28 5 2 2 ∷ group 3 1 ∷ external_x_and_y ∷ []) ∷ of_records (segment 0x28 4 2 2 ∷ public_x ∷ []) ∷ []) ≡ Some (lines (codes "M #1" ∷ codes "S \"A\" 401000 0 8 ; class \"A\" align 1 length 5" ∷ codes "G \"B\" 0 8" ∷ codes "; X \"Y\" address base selector ; to be filled in" ∷ codes "M #2" ∷ codes "S \"A\" 401005 0 8 ; class \"A\" align 1 length 4" ∷ [])) }
-    ensures real { drafted_from 0x10008 Real (of_records (segment 0x28 20 2 2 ∷ []) ∷ of_records (segment 0x28 4 2 2 ∷ group 3 1 ∷ []) ∷ []) ≡ Some (lines (codes "M #1" ∷ codes "S \"A\" 10008 real ; class \"A\" align 1 length 20" ∷ codes "M #2" ∷ codes "S \"A\" 1001C 10000 1000 ; class \"A\" align 1 length 4" ∷ codes "G \"B\" 10000 1000" ∷ [])) }
+    ensures flat { drafted_from 0x401000 (Flat 8) (of_records (segment 0x28 5 2 2 ∷ group 3 1 ∷ external_x_and_y ∷ []) ∷ of_records (segment 0x28 4 2 2 ∷ public_x ∷ []) ∷ []) ≡ Some (lines (codes "M #1" ∷ codes "S \"A\" 401000 0 8 ; class \"A\" align 1 length 5" ∷ codes "G \"B\" 0 8" ∷ codes "; X \"Y\" address base selector ; to be filled in" ∷ codes "M #2" ∷ codes "S \"A\" 401005 shared ; class \"A\" align 1 length 4" ∷ [])) }
+    ensures real { drafted_from 0x10008 Real (of_records (segment 0x28 20 2 2 ∷ []) ∷ of_records (segment 0x28 4 2 2 ∷ group 3 1 ∷ []) ∷ []) ≡ Some (lines (codes "M #1" ∷ codes "S \"A\" 10008 real ; class \"A\" align 1 length 20" ∷ codes "M #2" ∷ codes "S \"A\" 1001C shared ; class \"A\" align 1 length 4" ∷ codes "G \"B\" 10000 1000" ∷ [])) }
     ensures keys { drafted_from 0x401000 (Flat 8) (of_records (segment 0x28 5 2 2 ∷ segment 0x28 4 2 3 ∷ []) ∷ []) ≡ Some (lines (codes "M \"M\"" ∷ codes "S \"A\" \"A\" 401000 0 8 ; class \"A\" align 1 length 5" ∷ codes "S \"A\" \"B\" 401005 0 8 ; class \"B\" align 1 length 4" ∷ [])) }
+    ensures private { drafted_from 0x10000 Real (of_records (segment 0x20 2 2 2 ∷ segment 0x28 20 2 2 ∷ segment 0x28 2 2 2 ∷ []) ∷ []) ≡ Some (lines (codes "M \"M\"" ∷ codes "S #1 10016 real ; class \"A\" align 1 length 2" ∷ codes "S #2 10000 real ; class \"A\" align 1 length 20" ∷ codes "S #3 10014 10000 1000 ; class \"A\" align 1 length 2" ∷ [])) }
+    ensures common { drafted_from 0x10000 Real (of_records (segment 0x38 2 2 2 ∷ segment 0x38 3 2 2 ∷ segment 0x28 2 2 2 ∷ group 3 1 ∷ group 3 3 ∷ []) ∷ []) ≡ Some (lines (codes "M \"M\"" ∷ codes "S #1 10002 real ; class \"A\" align 1 length 2" ∷ codes "S #2 10002 shared ; class \"A\" align 1 length 3" ∷ codes "S #3 10000 shared ; class \"A\" align 1 length 2" ∷ codes "G #1 10000 1000" ∷ codes "G #2 shared" ∷ [])) }
     ensures none { drafted_from 0xFFFFD Real (of_records (segment 0x28 4 2 2 ∷ []) ∷ []) ≡ None }
 {}

@@ -1,6 +1,6 @@
-//! Laws of the modules that a linker adds to a program, and of its map, each the contract of an empty function.
+//! Laws of the modules that a linker adds to a program, of its map, and of its externals, each the contract of an empty function.
 
-ghost use Rattle.omf_linker.specs.Exe.Laws.{AddedDefineNewNames, CommunalsAreFound, MapsShowPrograms};
+ghost use Rattle.omf_linker.specs.Exe.Laws.{AddedDefineNewNames, CommunalsAreFound, ExternalsAreLoaded, MapsShowPrograms};
 
 /// With the module of communals, just one public has the name of a communal, at placements where each of that module's PUBDEFs has a base: one
 /// of that module. Each external of the name that is not local and has no given place has the public's place, if that is below 2^32.
@@ -18,4 +18,10 @@ pub fn added_define_new_names()
 /// linked.
 pub fn maps_show_programs()
     ensures { MapsShowPrograms }
+{}
+
+/// The externals of a program that is loaded at a paragraph are where they are derived at the segments and groups of its modules there, if and
+/// only if all of them are below 2^32 there.
+pub fn externals_are_loaded()
+    ensures { ExternalsAreLoaded }
 {}

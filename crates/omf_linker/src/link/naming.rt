@@ -1,22 +1,24 @@
 //! The lines of a fault, by names.
 
 ghost use Rattle.std.specs.Prelude.{◌≡◌, ◌<◌, ◌^◌, IfOk, List, ℕ, length, map, string_bytes};
+ghost use Rattle.omf_records.specs.Inner.Seen.{map_ok};
 ghost use Rattle.omf_check.specs.Module.{typed_modules};
-ghost use Rattle.omf_linking.specs.declared.fault.LinkFault.TheVariants.{External, Space};
+ghost use Rattle.omf_linking.specs.declared.fault.LinkFault.TheVariants.{External, Reach, Space};
 ghost use Rattle.omf_linker.specs.Link.Faults.{IsNamed, is_of_modules};
-ghost use Rattle.omf_linker.specs.Link.Named.{HasLines};
+ghost use Rattle.omf_linker.specs.Link.Named.{AreBefore, HasLines};
 ghost use Rattle.omf_linker.specs.Link.Unresolved.{AreLines};
 
 use crate::lines::{Labeled, beyond_line, high_line, overlap_line, reach_line, starts_line};
 use crate::link::fault::ImageFault;
+use crate::link::text_line::text_lines;
 use crate::link::unresolved::unresolved_text;
 use omf_linking::LinkFault;
 use omf_linking::locator::sparse_places;
 use omf_linking::space::MemoryFault;
-use omf_reloc::DeriveFault;
+use omf_reloc::{DeriveFault, ReachFault};
 use std::alloc::{AllocError, Global};
 
-/// Whether a fault is about a module and its parts: then it has a line by their names.
+/// Whether a fault is about a module and its parts, or about a line of the text: then it has lines by their names.
 fn is_of_modules(fault: LinkFault) -> bool
     ensures { result ≡ is_of_modules fault }
 {
@@ -35,7 +37,7 @@ fn is_of_modules(fault: LinkFault) -> bool
         LinkFault::Refused { .. } => false,
         LinkFault::NoText(_) => false,
         LinkFault::NoModules => false,
-        LinkFault::Line { .. } => false,
+        LinkFault::Line { .. } => true,
     }
 }
 
@@ -83,32 +85,82 @@ fn external_lines(
     }
 }
 
-/// The lines of a fault, by names; none for a fault that is not about a module and its parts.
+/// The bytes of lines.
+fn bytes_of(lines: Result<String, AllocError>) -> Result<Vec<u8>, AllocError>
+    ensures { map_ok (λ v. v.items) result ≡ map_ok string_bytes lines }
+{
+    match lines {
+        Ok(lines) => Ok(lines.into_bytes()),
+        Err(error) => Err(error),
+    }
+}
+
+/// The lines of the names that have no public or more than one, if a text has no line for a segment or no frame for a group; else none.
+fn lines_before(
+    alloc: Global,
+    named: Labeled<'_>,
+    text: &[u8],
+    fault: ReachFault,
+) -> Result<String, AllocError>
+    requires { length named.modules.now < 2 ^ 32 }
+    ensures { IfOk result (λ lines. AreBefore (map string_bytes named.entry.labels.now) (typed_modules named.entry.modules.now) text.now fault (string_bytes lines)) }
+{
+    match fault {
+        ReachFault::Missing(..) => unresolved_lines(alloc, named, text),
+        ReachFault::Extra(..) => Ok(String::new(alloc)),
+        ReachFault::Absolute(_) => Ok(String::new(alloc)),
+        ReachFault::TooFar { .. } => Ok(String::new(alloc)),
+    }
+}
+
+/// The lines of a fault of a module's placement.
+fn reach_lines(
+    alloc: Global,
+    named: Labeled<'_>,
+    text: &[u8],
+    module: u32,
+    fault: ReachFault,
+) -> Result<String, AllocError>
+    requires { length named.modules.now < 2 ^ 32 }
+    ensures { IfOk result (λ lines. HasLines (map string_bytes named.entry.labels.now) (typed_modules named.entry.modules.now) text.now (Reach «module» fault) (string_bytes lines)) }
+{
+    let mut lines = lines_before(alloc, named, text, fault)?;
+    let line = reach_line(alloc, named, module, fault)?;
+    lines.push_str(&line)?;
+    Ok(lines)
+}
+
+/// The lines of a fault, by names; none for a fault that is not about a module and its parts, and about no line of the text.
 fn lines_of(
     alloc: Global,
     named: Labeled<'_>,
     text: &[u8],
     fault: LinkFault,
-) -> Result<String, AllocError>
+) -> Result<Vec<u8>, AllocError>
     requires { length named.modules.now < 2 ^ 32 }
-    ensures { IfOk result (λ lines. HasLines (map string_bytes named.entry.labels.now) (typed_modules named.entry.modules.now) text.now fault (string_bytes lines)) }
+    ensures { IfOk result (λ lines. HasLines (map string_bytes named.entry.labels.now) (typed_modules named.entry.modules.now) text.now fault lines.items) }
 {
     match fault {
-        LinkFault::External(fault) => external_lines(alloc, named, text, fault),
-        LinkFault::Reach { module, fault } => reach_line(alloc, named, module, fault),
-        LinkFault::Starts { first, second } => starts_line(alloc, named.labels, first, second),
-        LinkFault::Space(fault) => space_line(alloc, named, fault),
-        LinkFault::Memory => Ok(String::new(alloc)),
-        LinkFault::Read => Ok(String::new(alloc)),
-        LinkFault::Refused { .. } => Ok(String::new(alloc)),
-        LinkFault::NoText(_) => Ok(String::new(alloc)),
-        LinkFault::NoModules => Ok(String::new(alloc)),
-        LinkFault::Line { .. } => Ok(String::new(alloc)),
+        LinkFault::External(fault) => bytes_of(external_lines(alloc, named, text, fault)),
+        LinkFault::Reach { module, fault } => {
+            bytes_of(reach_lines(alloc, named, text, module, fault))
+        }
+        LinkFault::Starts { first, second } => {
+            bytes_of(starts_line(alloc, named.labels, first, second))
+        }
+        LinkFault::Space(fault) => bytes_of(space_line(alloc, named, fault)),
+        LinkFault::Line { line, why } => text_lines(alloc, named.modules, text, line, why),
+        LinkFault::Memory => Ok(Vec::new(alloc)),
+        LinkFault::Read => Ok(Vec::new(alloc)),
+        LinkFault::Refused { .. } => Ok(Vec::new(alloc)),
+        LinkFault::NoText(_) => Ok(Vec::new(alloc)),
+        LinkFault::NoModules => Ok(Vec::new(alloc)),
     }
 }
 
 /// A fault of modules at the placements of a link text, with its lines by names if it is about a module and its parts: a line for each name
-/// without a public or with more than one, if it is about such a name. `Memory` if memory runs out for these.
+/// without a public or with more than one, if it is about such a name; or with those of `text_lines`, if it is about a line of the text.
+/// `Memory` if memory runs out for these.
 pub(crate) fn named(alloc: Global, named: Labeled<'_>, text: &[u8], fault: LinkFault) -> ImageFault
     requires { length named.modules.now < 2 ^ 32 }
     ensures { IsNamed (map string_bytes named.entry.labels.now) (typed_modules named.entry.modules.now) text.now fault result }
@@ -117,10 +169,7 @@ pub(crate) fn named(alloc: Global, named: Labeled<'_>, text: &[u8], fault: LinkF
         return ImageFault::Link(fault);
     }
     match lines_of(alloc, named, text, fault) {
-        Ok(lines) => ImageFault::Lines {
-            fault,
-            lines: lines.into_bytes(),
-        },
+        Ok(lines) => ImageFault::Lines { fault, lines },
         Err(AllocError) => ImageFault::Link(LinkFault::Memory),
     }
 }

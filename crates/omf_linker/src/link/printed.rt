@@ -5,14 +5,13 @@ ghost use Rattle.omf_cmd.specs.FaultLine.{fault_text};
 ghost use Rattle.omf_cmd.specs.Printed.{line, spaced};
 ghost use Rattle.omf_cmd.specs.Runs.{IsWritten, PrintsOr};
 ghost use Rattle.omf_cmd.specs.declared.fault.RunFault.TheVariants.{Write};
-ghost use Rattle.omf_linker.specs.Link.Faults.{input_at, link_words, module_words, not_linked, text_line, why_text};
-ghost use Rattle.omf_linking.specs.declared.fault.LinkFault.TheVariants.{Line, NoText};
+ghost use Rattle.omf_linker.specs.Link.Faults.{input_at, link_words, module_words, not_linked};
+ghost use Rattle.omf_linking.specs.declared.fault.LinkFault.TheVariants.{NoText};
 
 use itoa::Buffer;
 use omf_cmd::{Fault, RunFault, print_all, print_words, write_words};
 use omf_frame::Sink;
 use omf_linking::LinkFault;
-use omf_linking::locator::LineFault;
 
 /// Writes the front of a line: a module.
 fn write_module<K: Sink>(writer: &mut K, module: u32) -> Result<(), RunFault>
@@ -49,38 +48,6 @@ fn print_no_text<K: Sink>(writer: &mut K, at: u64)
     }
 }
 
-/// Writes the front of the line of a text's line that does not fit: its number.
-fn write_text_line<K: Sink>(writer: &mut K, number: u64) -> Result<(), RunFault>
-    ensures { PrintsOr Write (K.seen writer.old) (K.seen writer.new) (Ok (text_line number)) result }
-{
-    let mut digits = Buffer::new();
-    print_all(writer, b"text line ", RunFault::Write)?;
-    print_all(writer, digits.format(number).as_bytes(), RunFault::Write)
-}
-
-/// Returns the end of the line of a text's line that does not fit: why it does not.
-fn why_text(why: LineFault) -> &'static str
-    ensures { result.now ≡ why_text why }
-{
-    match why {
-        LineFault::NotUnderstood => ": not understood",
-        LineFault::NoModule => ": no M line before it",
-        LineFault::Unknown => ": names nothing",
-        LineFault::Several => ": names more than one",
-        LineFault::Twice => ": a second line for the same",
-        LineFault::Unshared => ": no line before it gives the frame",
-    }
-}
-
-/// Prints the line of a text's line that does not fit.
-fn print_text_line<K: Sink>(writer: &mut K, number: u64, why: LineFault)
-    ensures { IsWritten (K.seen writer.old) (K.seen writer.new) (line (link_words (Line number why))) }
-{
-    if let Ok(()) = write_text_line(writer, number) {
-        print_words(writer, &[why_text(why)]);
-    }
-}
-
 /// Prints that modules are not linked.
 fn print_not_linked<K: Sink>(writer: &mut K)
     ensures { IsWritten (K.seen writer.old) (K.seen writer.new) (line not_linked) }
@@ -88,7 +55,7 @@ fn print_not_linked<K: Sink>(writer: &mut K)
     print_words(writer, &["not linked"]);
 }
 
-/// Prints the line of a link fault that is not about a module and its parts. A fault that is has lines of its own, by their names.
+/// Prints the line of a link fault that has no lines of its own. One about a module and its parts, or about a line of the text, has such lines.
 pub fn print_link<K: Sink>(writer: &mut K, fault: LinkFault)
     ensures { IsWritten (K.seen writer.old) (K.seen writer.new) (line (link_words fault)) }
 {
@@ -102,7 +69,7 @@ pub fn print_link<K: Sink>(writer: &mut K, fault: LinkFault)
         } => print_in_module(writer, module, &RunFault::Refused { reason, place }),
         LinkFault::NoText(at) => print_no_text(writer, at),
         LinkFault::NoModules => print_words(writer, &["no modules"]),
-        LinkFault::Line { line, why } => print_text_line(writer, line, why),
+        LinkFault::Line { .. } => print_not_linked(writer),
         LinkFault::External(_) => print_not_linked(writer),
         LinkFault::Reach { .. } => print_not_linked(writer),
         LinkFault::Starts { .. } => print_not_linked(writer),

@@ -9,7 +9,7 @@ ghost use Rattle.omf_linking.specs.Reading.{AreModules};
 ghost use Rattle.omf_linker.specs.Link.Mapped.{IsMapped};
 ghost use Rattle.omf_linker.specs.Link.Rom.{IsRom};
 ghost use Rattle.omf_linker.specs.Link.Runs.{IsRun, IsShowCause, Shows};
-ghost use Rattle.omf_linker.specs.Link.Shown.{AreShown, IsNamedAs, IsShownOf};
+ghost use Rattle.omf_linker.specs.Link.Shown.{AreShown, AreShownAt, IsNamedAs, IsShownOf};
 ghost use Rattle.omf_linker.specs.Suiting.{options_for};
 
 use crate::drafting::link_draft;
@@ -25,7 +25,7 @@ use crate::suiting::options_for;
 use omf_check::{Checked, Profile};
 use omf_frame::{Sink, Source};
 use omf_layout::{LayoutFault, Options};
-use omf_linking::{LinkFault, modules_in, read_all};
+use omf_linking::{LinkFault, modules_in, plain_text, read_all};
 use omf_output::rom::Form;
 use omf_placement::Placement;
 use std::alloc::{AllocError, Global};
@@ -123,6 +123,25 @@ fn made(alloc: Global, made: Result<Vec<u8>, ImageFault>) -> Result<ShownAt, Ima
     }
 }
 
+/// What a task prints for modules and a link text as it is read, and where the modules are.
+fn plain_shown_at(
+    alloc: Global,
+    task: Task,
+    labeled: Labeled<'_>,
+    text: &[u8],
+) -> Result<ShownAt, ImageFault>
+    requires { length labeled.modules.now < 2 ^ 32 }
+    ensures shown { AreShownAt task (map string_bytes labeled.entry.labels.now) (typed_modules labeled.entry.modules.now) text.now (map_ok (λ s. s.shown) result) }
+    ensures placed { IfOk result (λ s. IfSome s.placements (λ p. length p.items ≡ length labeled.entry.modules.now)) }
+{
+    match task {
+        Task::Image => image_shown(alloc, labeled, text),
+        Task::Rom(form) => file_shown(alloc, form, labeled, text),
+        Task::Map => made(alloc, map_shown(alloc, labeled, text)),
+        Task::Draft(asked) => made(alloc, draft_asked(alloc, labeled.modules, asked)),
+    }
+}
+
 /// What a task prints for modules and a link text, and where the modules are.
 pub(crate) fn shown_at(
     alloc: Global,
@@ -134,11 +153,9 @@ pub(crate) fn shown_at(
     ensures shown { AreShown task (map string_bytes labeled.entry.labels.now) (typed_modules labeled.entry.modules.now) text.now (map_ok (λ s. s.shown) result) }
     ensures placed { IfOk result (λ s. IfSome s.placements (λ p. length p.items ≡ length labeled.entry.modules.now)) }
 {
-    match task {
-        Task::Image => image_shown(alloc, labeled, text),
-        Task::Rom(form) => file_shown(alloc, form, labeled, text),
-        Task::Map => made(alloc, map_shown(alloc, labeled, text)),
-        Task::Draft(asked) => made(alloc, draft_asked(alloc, labeled.modules, asked)),
+    match plain_text(alloc, text) {
+        Ok(text) => plain_shown_at(alloc, task, labeled, &text),
+        Err(AllocError) => Err(ImageFault::Link(LinkFault::Memory)),
     }
 }
 
@@ -230,7 +247,7 @@ pub(crate) fn parted(alloc: Global, input: Vec<u8>) -> Result<(Vec<Checked>, Vec
 /// # Errors
 ///
 /// `Link` with `Refused` for the first module that is not well formed, or with `NoText` if what follows the modules and their padding is no
-/// text; otherwise the fault of `modules_text` or `modules_map`, as `Lines` if it is about a module and its parts. `NoRoom` if a segment of the draft has no room. `Link` with `Memory` if memory runs out.
+/// text; otherwise the fault of `modules_text` or `modules_map`, as `Lines` if it is about a module and its parts, or about a line of the text. `NoRoom` if a segment of the draft has no room. `Link` with `Memory` if memory runs out.
 pub fn shown_output(alloc: Global, task: Task, input: Vec<u8>) -> Result<Output, ImageFault>
     ensures { IsShownOf task input.items result }
 {
@@ -261,7 +278,7 @@ fn read_and_shown<S: Source>(
 /// # Errors
 ///
 /// Those of `shown_output`: `Link` with `Refused` for the first module that is not well formed, or with `NoText` if what follows the modules and
-/// their padding is no text; otherwise the fault of `modules_text` or `modules_map`, as `Lines` if it is about a module and its parts; `NoRoom` if a segment of a draft has no room. `Link` with `Read` if the
+/// their padding is no text; otherwise the fault of `modules_text` or `modules_map`, as `Lines` if it is about a module and its parts, or about a line of the text; `NoRoom` if a segment of a draft has no room. `Link` with `Read` if the
 /// reader fails, `Write` if the writer fails, `Link` with `Memory` if memory runs out.
 pub(crate) fn run_task<S: Source, K: Sink>(
     alloc: Global,

@@ -5,6 +5,7 @@ ghost use Rattle.std.specs.Prelude.{◌≡◌, ◌<◌, ◌^◌, IfOk, length, m
 ghost use Rattle.omf_records.specs.Inner.Seen.{map_ok};
 ghost use Rattle.omf_linking.specs.Folded.{IsFolded};
 ghost use Rattle.omf_linking.specs.FoldedText.{folded_text};
+ghost use Rattle.omf_linking.specs.PlainText.{plain_text};
 ghost use Rattle.omf_linker.specs.Link.Folded.{AreFilesFolded, IsFoldedOf, IsShownFolded, IsShownFoldedAs};
 
 use crate::lines::Labeled;
@@ -12,7 +13,7 @@ use crate::link::{FilesFault, ImageFault, InputFile, LabeledModules, Task, parte
 use crate::seen::allowed::Allowed;
 use crate::seen::files::{Request, SeenText, modules_seen};
 use omf_check::Checked;
-use omf_linking::{LinkFault, folded_all, folded_text};
+use omf_linking::{LinkFault, folded_all, folded_text, plain_text};
 use std::alloc::{AllocError, Global};
 
 /// Modules and a link text with names in lower case.
@@ -25,11 +26,12 @@ struct Folded {
 /// Modules and a link text with names in lower case.
 fn fold(alloc: Global, modules: Vec<Checked>, text: &[u8]) -> Result<Folded, AllocError>
     ensures modules { IfOk result (λ f. AllZip IsFolded modules.items f.modules.items) }
-    ensures text { IfOk result (λ f. f.text.items ≡ folded_text text.now) }
+    ensures text { IfOk result (λ f. f.text.items ≡ folded_text (plain_text text.now)) }
 {
+    let plain = plain_text(alloc, text)?;
     Ok(Folded {
         modules: folded_all(alloc, modules)?,
-        text: folded_text(alloc, text)?,
+        text: folded_text(alloc, &plain)?,
     })
 }
 

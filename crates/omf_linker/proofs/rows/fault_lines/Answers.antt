@@ -17,27 +17,3 @@ returns-clause-refused c = refl
 pub returns-clause-no_text : goal.returns-clause-no_text
 unfolding digits
 returns-clause-no_text c = refl
-
-pub returns-clause-text : goal.returns-clause-text
-unfolding digits
-returns-clause-text c = refl
-
-pub returns-clause-before : goal.returns-clause-before
-unfolding digits
-returns-clause-before c = refl
-
-pub returns-clause-unknown : goal.returns-clause-unknown
-unfolding digits
-returns-clause-unknown c = refl
-
-pub returns-clause-several : goal.returns-clause-several
-unfolding digits
-returns-clause-several c = refl
-
-pub returns-clause-again : goal.returns-clause-again
-unfolding digits
-returns-clause-again c = refl
-
-pub returns-clause-unshared : goal.returns-clause-unshared
-unfolding digits
-returns-clause-unshared c = refl

@@ -11,7 +11,7 @@ use Rattle.omf_linker.proofs.drafting.draft.text_of.Given as goal
 -- the parts so far, and those that are left; and that the numbers so far are short
 abbrev pub invariant-loop-number : goal.invariant-loop-number
 invariant-loop-number l = let ms = typed_modules l.modules in record {
-  parts : string_bytes l.text ++ flat_map (module_text l.frames ms) (enumerate_from l.number (drop l.number (zip ms l.placements))) ≡ link_text l.frames ms l.placements;
+  parts : string_bytes l.text ++ flat_map (module_text l.frames ms l.placements) (enumerate_from l.number (drop l.number (zip ms l.placements))) ≡ link_text l.frames ms l.placements;
   short : HoldsTo AreShort l.placements l.number;
   few : HoldsTo HasFew ms l.number;
 }

@@ -13,3 +13,11 @@ returns-clause-real c = refl
 pub returns-clause-keys : goal.returns-clause-keys
 unfolding digits
 returns-clause-keys c = refl
+
+pub returns-clause-private : goal.returns-clause-private
+unfolding digits
+returns-clause-private c = refl
+
+pub returns-clause-common : goal.returns-clause-common
+unfolding digits
+returns-clause-common c = refl

@@ -11,7 +11,7 @@ pub returns-in-Read : goal.returns-in-Read
 returns-in-Read g c = rw c.in-Read.is c.print-in-Read.ensures
 
 pub returns-in-Line : goal.returns-in-Line
-returns-in-Line g c = rw c.in-Line.is c.print_text_line.ensures
+returns-in-Line g c = rw c.in-Line.is c.print_not_linked.ensures
 
 pub returns-in-NoText : goal.returns-in-NoText
 returns-in-NoText g c = rw c.in-NoText.is c.print_no_text.ensures
@@ -20,7 +20,7 @@ pub returns-in-NoModules : goal.returns-in-NoModules
 returns-in-NoModules g c = rw c.in-NoModules.is c.print_words.ensures
 
 pub returns-in-External : goal.returns-in-External
-returns-in-External g c = rw c.in-External.is c.print_not_linked.ensures
+returns-in-External g c = rw c.in-External.is c.print_not_linked-in-External.ensures
 
 pub returns-in-Reach : goal.returns-in-Reach
 returns-in-Reach g c = rw c.in-Reach.is c.print_not_linked-in-Reach.ensures
