@@ -1,13 +1,14 @@
 -- The intervals of a pattern: the runs of its bytes, with their marks.
-use Rattle.std.proofs.Common.{◌≡◌, ◌⊎◌, inl, inr, ℕ, ◌+◌, ◌<◌, ◌≤◌, List, [], ◌∷◌, ◌++◌, length, drop, Option, Some, None, refl, sym, ap, ap₂, subst, ◌∙◌, arith}
+use Rattle.std.proofs.Common.{◌≡◌, ◌⊎◌, inl, inr, ℕ, zero, suc, ◌+◌, ◌<◌, ◌≤◌, List, [], ◌∷◌, ◌++◌, length, drop, Option, Some, None, refl, sym, ap, ap₂, subst, ◌∙◌, arith}
 use Rattle.std.specs.Prelude.{Contains, IsSome, IsNone, slice_get}
+use Rattle.std.proofs.lemmas.List.{length_push}
 use Rattle.std.proofs.lemmas.List.Elements.{Contains-append_left, Contains-push, Contains-push_cases}
 use Rattle.std.proofs.lemmas.Option.{slice_get_within, get_or_from_slice_get}
 use Rattle.omf_image.specs.Inner.Joined.{run_end, runs_of}
 use Rattle.omf_image.specs.Overlay.{byte_at, IsRun, AreRuns, IsRunAt, IsRunShown, AreBytesAt, AreBytesOf, AreBytesOver, spanned}
 use Rattle.omf_image.specs.declared.run.Run.{Run}
-use Rattle.omf_image.proofs.RunLaws.{IsIn, Covers, runs_cover, runs_unique, some_or_none}
-use Rattle.omf_image.proofs.ShownLaws.{number_low, run_next, none_left}
+use Rattle.omf_image.proofs.RunLaws.{AreApart, IsIn, Covers, runs_cover, runs_unique, some_or_none}
+use Rattle.omf_image.proofs.ShownLaws.{number_is, number_low, run_next, none_left}
 use Rattle.omf_finding.proofs.AgreesLaws.{not-both}
 use Rattle.omf_finding.specs.Inner.Shaping.{AreIntervals, IsInterval, IsMarked, IsWithin}
 use Rattle.omf_finding.specs.Inner.Walking.{Marks, byte_in, byte_with}
@@ -90,9 +91,34 @@ with-some (Some b) mark h = refl
 abbrev pub IsShownIn : List Interval → ℕ → Type 0
 IsShownIn is x = (i : Interval) × Contains is i × IsWithin i x
 
+-- of runs with gaps, each ends before the next ones
+apart-order : (low : ℕ) (rs : List Run) → AreApart low rs → (k : ℕ) (s : Run) → slice_get rs k ≡ Some s → low ≤ s.first
+apart-order low [] h k s e = absurd cc
+apart-order low (r ∷ rs) h zero s e = let same : r ≡ s = cc in let one : r.first ≡ s.first = ap (λ (t : Run). t.first) same in let from = h.0 in omega (arith, one, from)
+apart-order low (r ∷ rs) h (suc k) s e = let later = apart-order (suc (run_end r)) rs h.2 k s e in let from = h.0 in omega (arith, later, from)
+
+runs-order : (low : ℕ) (rs : List Run) → AreApart low rs → (j k : ℕ) (r s : Run) → j < k → slice_get rs j ≡ Some r → slice_get rs k ≡ Some s → run_end r ≤ s.first
+runs-order low [] h j k r s less e f = absurd cc
+runs-order low (t ∷ rs) h zero zero r s less e f = absurd (omega (arith, less))
+runs-order low (t ∷ rs) h zero (suc k) r s less e f =
+    let same : t ≡ r = cc in
+    let one : run_end t ≡ run_end r = ap (λ (u : Run). run_end u) same in
+    let later = apart-order (suc (run_end t)) rs h.2 k s f in
+    omega (arith, one, later)
+runs-order low (t ∷ rs) h (suc j) zero r s less e f = absurd (omega (arith, less))
+runs-order low (t ∷ rs) h (suc j) (suc k) r s less e f = runs-order (suc (run_end t)) rs h.2 j k r s (omega (arith, less)) e f
+
+push-get : (is : List Interval) (i : Interval) (j : ℕ) (a : Interval) → slice_get (is ++ i ∷ []) j ≡ Some a → (slice_get is j ≡ Some a) ⊎ ((j ≡ length is) × (i ≡ a))
+push-get [] i zero a e = inr (refl, let same : i ≡ a = cc in same)
+push-get [] i (suc j) a e = absurd cc
+push-get (b ∷ is) i zero a e = inl e
+push-get (b ∷ is) i (suc j) a e = elim (push-get is i j a e) [ inl f ↦ inl f | inr f ↦ inr (ap suc f.0, f.1) ]
+
 -- The first k intervals, and the runs that are left.
 pub record AreFirst (p : Marks) (segment k : ℕ) (is : List Interval) : Type 0 where
   pub within : k ≤ length (runs_of p.values segment)
+  pub long : length is ≡ k
+  pub runs : (j : ℕ) (a : Interval) → slice_get is j ≡ Some a → slice_get (runs_of p.values segment) j ≡ Some (spanned a.first a.values.now)
   pub each : (i : Interval) → Contains is i → IsInterval (byte_in p segment) i
   pub every : (x : ℕ) → IsSome (byte_at p.values segment x) → IsShownIn is x ⊎ Covers (drop k (runs_of p.values segment)) x
 
@@ -103,6 +129,8 @@ module _ (p : Marks) (segment : ℕ) where
   pub intervals-first : AreFirst p segment 0 []
   intervals-first = record {
     within = omega arith;
+    long = refl;
+    runs = λ j a e. absurd cc;
     each = λ i c. absurd (omega (arith, c.1));
     every = λ x s. inr ((runs_cover segment p.values).covers x s);
   }
@@ -125,15 +153,27 @@ module _ (p : Marks) (segment : ℕ) where
     every-next x (inl s) = inl (shown-left x s)
     every-next x (inr c) = covered-next x (subst (λ (rs : List Run). Covers rs x) (run_next p.values segment k i.first i.values.now shown) c)
 
+    runs-next : length is ≡ k → ((j : ℕ) (a : Interval) → slice_get is j ≡ Some a → slice_get runs j ≡ Some (spanned a.first a.values.now)) → (j : ℕ) (a : Interval) → slice_get (is ++ i ∷ []) j ≡ Some a → slice_get runs j ≡ Some (spanned a.first a.values.now)
+    runs-next long h j a f = elim (push-get is i j a f) [
+      | inl g ↦ h j a g
+      | inr g ↦
+          let same : k ≡ j = sym long ∙ sym g.0 in
+          subst (λ (n : ℕ). slice_get runs n ≡ Some (spanned a.first a.values.now)) same
+          (subst (λ (b : Interval). slice_get runs k ≡ Some (spanned b.first b.values.now)) g.1 (number_is p.values segment k i.first i.values.now shown))
+    ]
+
     pub intervals-next : AreFirst p segment k is → AreFirst p segment (k + 1) new
     intervals-next h = subst (AreFirst p segment (k + 1)) (sym e) (record {
       within = omega (arith, number-low);
+      long = length_push is i ∙ (let old = h.long in let one : length is + 1 ≡ k + 1 = omega (arith, old) in one);
+      runs = runs-next h.long h.runs;
       each = each-next h.each;
       every = λ x s. every-next x (h.every x s);
     })
 
   pub intervals-last : (k : ℕ) (is : List Interval) → IsRunShown (byte_at p.values segment) k None → AreFirst p segment k is → AreIntervals (byte_in p segment) is
   intervals-last k is none h = record {
+    ordered = λ j n a b less e f. runs-order 0 runs (runs_cover segment p.values).apart j n (spanned a.first a.values.now) (spanned b.first b.values.now) less (h.runs j a e) (h.runs n b f);
     each = h.each;
     every = λ x s. done x (h.every x (with-some (byte_at p.values segment x) (byte_at p.marks segment x) s));
   }

@@ -13,6 +13,12 @@ mod CompareLaws
 pub mod IntervalLaws
 pub mod AgreesLaws
 pub mod RareLaws
+pub mod FourLaws
 pub mod WindowLaws
+pub mod PlaceLaws
 pub mod ShapeLaws
 pub mod CandidateLaws
+pub mod ClosedLaws
+pub mod ShownLaws
+pub mod NearLaws
+pub mod StrayLaws

@@ -150,7 +150,7 @@ module _ (byte : ℕ → Option PatternByte) (i : Interval) (is : IsInterval byt
       )
 
   -- the next place is in it too, if there is a byte
-  next-within : (x : ℕ) → IsWithin i x → IsSome (byte (x + 1)) → IsWithin i (x + 1)
+  pub next-within : (x : ℕ) → IsWithin i x → IsSome (byte (x + 1)) → IsWithin i (x + 1)
   next-within x w s = elim (leb_tells (x + 2) (i.first + length i.values.now)) [
     | inl t ↦ (omega (arith, w.0), omega (arith, t.1))
     | inr t ↦

@@ -1,72 +1,106 @@
 -- The shapes of a module's segments.
-use Rattle.std.proofs.Common.{◌≡◌, inl, inr, ℕ, ◌+◌, ◌<◌, ◌≤◌, Bool, true, false, List, [], ◌∷◌, ◌++◌, length, Option, refl, sym, subst, ◌∙◌, arith}
+use Rattle.std.proofs.Common.{◌≡◌, ◌⊎◌, inl, inr, ℕ, ◌+◌, ◌<◌, ◌≤◌, Bool, true, false, List, [], ◌∷◌, ◌++◌, length, Option, refl, sym, ap, subst, ◌∙◌, arith}
 use Rattle.std.specs.Prelude.{All, Contains, IfOk, Result, Ok, Err, get_or}
 use Rattle.std.proofs.lemmas.Bool.Decides.{leb_tells}
 use Rattle.std.proofs.lemmas.List.Elements.{Contains-append_left, Contains-push, Contains-push_cases, Contains-get_or}
 use Rattle.omf_finding.specs.Agrees.{Agrees, HasFour}
+use Rattle.omf_finding.specs.Finding.{IsCommon, IsCut, IsFull}
+use Rattle.omf_finding.specs.Fours.{four_closed}
+use Rattle.omf_finding.specs.Run.{closed_byte}
 use Rattle.omf_finding.specs.Inner.Shaping.{AreIntervals, ArePlaces, AreShapes, HasNone, IsShape, IsWhole}
 use Rattle.omf_finding.specs.declared.patterning.Interval.{Interval}
 use Rattle.omf_finding.specs.declared.patterning.PatternByte.{PatternByte}
 use Rattle.omf_finding.specs.declared.shapes.Shape.{Shape}
 use Rattle.omf_finding.proofs.AgreesLaws.{agrees-as, four-as}
+use Rattle.omf_finding.proofs.FourLaws.{four-same}
 use Rattle.omf_finding.proofs.RareLaws.{none-sought}
 
 pub intervals-whole : (byte : ℕ → Option PatternByte) (is : List Interval) → AreIntervals byte is → All IsWhole is
 intervals-whole byte is are k d low = let one = are.each (get_or is k d) (Contains-get_or is k d low) in (one.same, one.within)
 
-module _ (byte : ℕ → Option PatternByte) (program : List ℕ) (base : ℕ) where
+module _ (byte : ℕ → Option PatternByte) (program : List ℕ) (base most : ℕ) where
   no-places : ArePlaces byte program base [] true
-  no-places = record { agree = λ a c. absurd (omega (arith, c.1)); all = λ e. absurd (let w : true ≡ false = e in cc) }
+  no-places = record { rising = λ k low. absurd (omega (arith, low)); agree = λ a c. absurd (omega (arith, c.1)); all = λ e. absurd (let w : true ≡ false = e in cc) }
 
   -- a segment that is searched for
-  pub shape-searched : (s : Shape) (places : List ℕ) (more : Bool) → s.is_searched ≡ true → s.places.items ≡ places → s.more ≡ more → ArePlaces byte program base places more → IsShape byte program base s
-  shape-searched s places more e p q h = record {
+  pub shape-searched : (s : Shape) (places : List ℕ) (more : Bool) → s.is_searched ≡ true → s.places.items ≡ places → s.more ≡ more → ArePlaces byte program base places more → (more ≡ true → IsCut byte program base most places)
+      → IsShape byte program base most s
+  shape-searched s places more e p q h cut = record {
     places = subst (λ (ps : List ℕ). ArePlaces byte program base ps s.more) (sym p) (subst (ArePlaces byte program base places) (sym q) h);
     sought = λ four. e;
     others = λ f. absurd (let w : true ≡ false = sym e ∙ f in cc);
+    cut = λ f m. subst (λ (ps : List ℕ). IsCut byte program base most ps) (sym p) (cut (sym q ∙ m));
   }
 
   -- one that is not
-  pub shape-few : (is : List Interval) → AreIntervals byte is → All HasNone is → (s : Shape) → s.places.items ≡ [] → s.more ≡ true → IsShape byte program base s
-  shape-few is are none s p q = record {
+  pub shape-few : (is : List Interval) → AreIntervals byte is → All HasNone is → (s : Shape) → s.is_searched ≡ false → s.places.items ≡ [] → s.more ≡ true → IsShape byte program base most s
+  shape-few is are none s few p q = record {
     places = subst (λ (ps : List ℕ). ArePlaces byte program base ps s.more) (sym p) (subst (ArePlaces byte program base []) (sym q) no-places);
     sought = λ four. absurd (none-sought byte is are none four);
     others = λ f. q;
+    cut = λ f. absurd (let w : true ≡ false = sym f ∙ few in cc);
   }
 
 module _ (f g : ℕ → Option PatternByte) (same : (x : ℕ) → f x ≡ g x) where
-  shape-as : (program : List ℕ) (base : ℕ) (s : Shape) → IsShape f program base s → IsShape g program base s
-  shape-as program base s h = record {
+  closed-as : (x : ℕ) → closed_byte (f x) ≡ closed_byte (g x)
+  closed-as x = ap closed_byte (same x)
+
+  pub fours-as : (x : ℕ) → four_closed f x ≡ four_closed g x
+  fours-as x =
+      four-same (closed_byte (f x)) (closed_byte (f (x + 1))) (closed_byte (f (x + 2))) (closed_byte (f (x + 3))) (closed_byte (g x)) (closed_byte (g (x + 1))) (closed_byte (g (x + 2))) (closed_byte (g (x + 3))) (closed-as x) (closed-as (x + 1))
+      (closed-as (x + 2)) (closed-as (x + 3))
+
+  full-as : (program : List ℕ) (base most x end : ℕ) (places : List ℕ) → IsFull f program base most x end places → IsFull g program base most x end places
+  full-as program base most x end places h = record { address = h.address; agrees = agrees-as f g same program base h.address h.agrees; place = h.place; full = h.full }
+
+  cause-as : (program : List ℕ) (base most x key end : ℕ) (places : List ℕ) → IsFull f program base most x end places ⊎ IsCommon program key end → IsFull g program base most x end places ⊎ IsCommon program key end
+  cause-as program base most x key end places (inl h) = inl (full-as program base most x end places h)
+  cause-as program base most x key end places (inr h) = inr h
+
+  pub cut-as : (program : List ℕ) (base most : ℕ) (places : List ℕ) → IsCut f program base most places → IsCut g program base most places
+  cut-as program base most places h = record {
+    x = h.x;
+    key = h.key;
+    end = h.end;
+    closed = sym (fours-as h.x) ∙ h.closed;
+    listed = λ fits a ag. h.listed fits a (agrees-as g f (λ x. sym (same x)) program base a ag);
+    cause = cause-as program base most h.x h.key h.end places h.cause;
+  }
+
+  shape-as : (program : List ℕ) (base most : ℕ) (s : Shape) → IsShape f program base most s → IsShape g program base most s
+  shape-as program base most s h = record {
     places = record {
+      rising = h.places.rising;
       agree = λ a c. agrees-as f g same program base a (h.places.agree a c);
       all = λ e fits a ag. h.places.all e fits a (agrees-as g f (λ x. sym (same x)) program base a ag);
     };
     sought = λ four. h.sought (four-as g f (λ x. sym (same x)) four);
     others = h.others;
+    cut = λ searched more. cut-as program base most s.places.items (h.cut searched more);
   }
 
-pub shapes-as : (f g : ℕ → ℕ → Option PatternByte) → ((segment x : ℕ) → f segment x ≡ g segment x) → (program : List ℕ) (base n : ℕ) (ss : List Shape) → AreShapes f program base n ss → AreShapes g program base n ss
-shapes-as f g same program base n ss h = record {
-  each = λ s c. shape-as (f s.segment) (g s.segment) (same s.segment) program base s (h.each s c);
+pub shapes-as : (f g : ℕ → ℕ → Option PatternByte) → ((segment x : ℕ) → f segment x ≡ g segment x) → (program : List ℕ) (base most n : ℕ) (ss : List Shape) → AreShapes f program base most n ss → AreShapes g program base most n ss
+shapes-as f g same program base most n ss h = record {
+  each = λ s c. shape-as (f s.segment) (g s.segment) (same s.segment) program base most s (h.each s c);
   every = h.every;
 }
 
-module _ (byte : ℕ → ℕ → Option PatternByte) (program : List ℕ) (base : ℕ) where
-  pub shapes-first : AreShapes byte program base 0 []
-  shapes-first = record { each = λ s c. absurd (omega (arith, c.1)); every = λ segment one most. absurd (omega (arith, one, most)) }
+module _ (byte : ℕ → ℕ → Option PatternByte) (program : List ℕ) (base most : ℕ) where
+  pub shapes-first : AreShapes byte program base most 0 []
+  shapes-first = record { each = λ s c. absurd (omega (arith, c.1)); every = λ segment one low. absurd (omega (arith, one, low)) }
 
-  pub shapes-last : (n count : ℕ) (ss : List Shape) → count ≤ n → AreShapes byte program base n ss → AreShapes byte program base count ss
-  shapes-last n count ss low h = record { each = h.each; every = λ segment one most. h.every segment one (omega (arith, most, low)) }
+  pub shapes-last : (n count : ℕ) (ss : List Shape) → count ≤ n → AreShapes byte program base most n ss → AreShapes byte program base most count ss
+  shapes-last n count ss low h = record { each = h.each; every = λ segment one high. h.every segment one (omega (arith, high, low)) }
 
-  pub shapes-next : (n : ℕ) (ss new : List Shape) (s : Shape) → IsShape (byte s.segment) program base s → s.segment ≡ n + 1 → new ≡ ss ++ s ∷ [] → AreShapes byte program base n ss → AreShapes byte program base (n + 1) new
-  shapes-next n ss new s one is e h = subst (AreShapes byte program base (n + 1)) (sym e) (record {
+  pub shapes-next : (n : ℕ) (ss new : List Shape) (s : Shape) → IsShape (byte s.segment) program base most s → s.segment ≡ n + 1 → new ≡ ss ++ s ∷ [] → AreShapes byte program base most n ss → AreShapes byte program base most (n + 1) new
+  shapes-next n ss new s one is e h = subst (AreShapes byte program base most (n + 1)) (sym e) (record {
     each = λ t c. elim (Contains-push_cases ss s t c) [
       | inl d ↦ h.each t d
-      | inr q ↦ subst (λ (u : Shape). IsShape (byte u.segment) program base u) q one
+      | inr q ↦ subst (λ (u : Shape). IsShape (byte u.segment) program base most u) q one
     ];
-    every = λ segment low most. elim (leb_tells segment n) [
+    every = λ segment low high. elim (leb_tells segment n) [
       | inl t ↦ let got = h.every segment low t.1 in (got.0, Contains-append_left ss (s ∷ []) got.0 got.1, got.2)
-      | inr t ↦ let same : s.segment ≡ segment = omega (arith, is, t.1, most) in (s, Contains-push ss s, same)
+      | inr t ↦ let same : s.segment ≡ segment = omega (arith, is, t.1, high) in (s, Contains-push ss s, same)
     ];
   })
 

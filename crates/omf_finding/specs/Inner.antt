@@ -1,3 +1,5 @@
 pub mod Walking
 pub mod Agreeing
 pub mod Shaping
+pub mod Nearing
+pub mod Straying

@@ -6,6 +6,9 @@ pub mod Said
 pub mod Found
 pub mod Agrees
 pub mod Finding
+pub mod Near
+pub mod Stray
+pub mod Fours
 pub mod Rows
 pub mod Laws
 pub mod Inner

@@ -1,6 +1,6 @@
 //! The search for modules in a program.
 
-ghost use Rattle.std.specs.Prelude.{◌≡◌, ◌++◌, true, false, IfOk, IfSome, OnOk, option_to_list};
+ghost use Rattle.std.specs.Prelude.{◌≡◌, ◌++◌, ◌==◌, ◌&&◌, length, not, true, false, IfOk, IfSome, OnOk, option_to_list};
 ghost use Rattle.std.specs.List.{AllZip};
 ghost use Rattle.omf_check.specs.Module.{Module};
 ghost use Rattle.omf_finding.specs.Finding.{AreCandidates, IsHeld, IsTold};
@@ -22,7 +22,7 @@ use std::alloc::{AllocError, Global};
 use std::collections::BTreeMap;
 
 /// A search over these modules, before anything has a place.
-fn begun<'a>(
+pub(crate) fn begun<'a>(
     alloc: Global,
     modules: &'a [Checked],
     shapes: &'a [Vec<Shape>],
@@ -172,6 +172,8 @@ struct Ended<'a, 'b> {
     search: &'b Search<'a>,
     program: &'b Program,
     singles: &'b Singles,
+    /// The number of places that are listed of a segment at most.
+    most: usize,
 }
 
 /// The pattern of a module, if references give a place to a segment that is not searched for.
@@ -235,6 +237,13 @@ fn addresses(
     }
 }
 
+/// Whether there is nothing to tell of a segment with these places: there are none, and it is not searched for or all are known.
+fn is_untold(addresses: &[u32], shape: &Shape) -> bool
+    ensures { result ≡ ((length addresses.now == 0) && not (shape.now.is_searched && shape.now.more)) }
+{
+    addresses.is_empty() && !(shape.is_searched && shape.more)
+}
+
 /// The places of a segment of a module that is not found. `None` if it is sure that there are none, or if it is not searched for and no
 /// reference points to a place where its bytes agree.
 fn candidate(
@@ -244,10 +253,10 @@ fn candidate(
     shape: &Shape,
 ) -> Result<Option<Candidate>, AllocError>
     requires { IfSome pattern.now IsMarked }
-    ensures { IfOk result (λ r. (m : Module) → IfSome pattern.now (IsPatternOf m) → IsShapeOf ended.entry.program.now m shape.now → IsOffered ended.entry.program.now m shape.now r) }
+    ensures { IfOk result (λ r. (m : Module) → IfSome pattern.now (IsPatternOf m) → IsShapeOf ended.entry.program.now ended.entry.most m shape.now → IsOffered ended.entry.program.now ended.entry.most m shape.now r) }
 {
     let addresses = addresses(ended, number, pattern, shape)?;
-    if addresses.is_empty() && !(shape.is_searched && shape.more) {
+    if is_untold(&addresses, shape) {
         return Ok(None);
     }
     Ok(Some(Candidate {
@@ -280,8 +289,8 @@ fn shape_candidates(
     shapes: &[Shape],
 ) -> Result<Vec<Candidate>, AllocError>
     requires pattern { IfSome pattern.now (IsPatternOf «module».now) }
-    requires shapes { HaveShapes ended.program.now «module».now shapes.now }
-    ensures { IfOk result (λ v. AreCandidates ended.entry.program.now «module».now v.items) }
+    requires shapes { HaveShapes ended.program.now ended.most «module».now shapes.now }
+    ensures { IfOk result (λ v. AreCandidates ended.entry.program.now ended.entry.most «module».now v.items) }
 {
     let _count = segment_count(module);
     let mut candidates = Vec::new(ended.search.alloc);
@@ -298,8 +307,8 @@ fn candidates(
     module: &Checked,
     shapes: &[Shape],
 ) -> Result<Vec<Candidate>, AllocError>
-    requires { HaveShapes ended.program.now «module».now shapes.now }
-    ensures { IfOk result (λ v. AreCandidates ended.entry.program.now «module».now v.items) }
+    requires { HaveShapes ended.program.now ended.most «module».now shapes.now }
+    ensures { IfOk result (λ v. AreCandidates ended.entry.program.now ended.entry.most «module».now v.items) }
 {
     let pattern = referred_pattern(ended, number, module, shapes)?;
     shape_candidates(ended, number, module, &pattern, shapes)
@@ -345,8 +354,8 @@ fn verdict(
     module: &Checked,
     shapes: &[Shape],
 ) -> Result<Verdict, AllocError>
-    requires { HaveShapes ended.program.now «module».now shapes.now }
-    ensures { IfOk result (IsTold ended.entry.program.now «module».now) }
+    requires { HaveShapes ended.program.now ended.most «module».now shapes.now }
+    ensures { IfOk result (IsTold ended.entry.program.now ended.entry.most «module».now) }
 {
     if let Some(found) = held(ended, number, module, shapes)? {
         return Ok(Verdict::Found(found));
@@ -364,8 +373,8 @@ fn verdicts(
     modules: &[Checked],
     shapes: &[Vec<Shape>],
 ) -> Result<Vec<Verdict>, AllocError>
-    requires { AllZip (HasShapes ended.program.now) modules.now shapes.now }
-    ensures { IfOk result (λ v. AllZip (IsTold ended.entry.program.now) modules.now v.items) }
+    requires { AllZip (HasShapes ended.program.now ended.most) modules.now shapes.now }
+    ensures { IfOk result (λ v. AllZip (IsTold ended.entry.program.now ended.entry.most) modules.now v.items) }
 {
     let mut verdicts = Vec::new(ended.search.alloc);
     for (number, module) in modules.iter().enumerate() {
@@ -377,7 +386,8 @@ fn verdicts(
 
 /// Searches a program for modules. A verdict Found is right: `is_found_in_part` answers true for its placement and its absent segments. So are
 /// the others, for the segments that are searched for: of these NotThere shows that none agrees with the program anywhere, and Possible lists
-/// all that do, with all places or a sign that there may be more; the program must end within the 2^32 addresses that there are.
+/// all that do, with all places, or a sign that there may be more. There may be more if 64 places of four closed bytes of the segment were
+/// tried, or if `most` places are listed and there is another: then those before are listed. The program must end within the 2^32 addresses.
 ///
 /// A segment is searched for by its closed bytes if four of them are in a row. One that is at one place with at least `least` closed bytes,
 /// alone, is placed there; so is the segment of a module's start, at the program's. Others are placed by the fixups of segments that have a
@@ -392,7 +402,7 @@ pub fn find(
     program: &Program,
     options: &FindOptions,
 ) -> Result<Findings, AllocError>
-    ensures { IfOk result (λ f. AllZip (IsTold program.now) modules.now f.verdicts.items) }
+    ensures { IfOk result (λ f. AllZip (IsTold program.now options.now.most) modules.now f.verdicts.items) }
 {
     let shapes = shapes_of(alloc, modules, program, options.most)?;
     let singles = Singles::of(alloc, &shapes, options.least)?;
@@ -403,6 +413,7 @@ pub fn find(
         search: &search,
         program,
         singles: &singles,
+        most: options.most,
     };
     let verdicts = verdicts(ended, modules, &shapes)?;
     let asked = search.asked(&verdicts)?;

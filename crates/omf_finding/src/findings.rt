@@ -7,7 +7,7 @@ use omf_reloc::Placement;
 pub struct FindOptions {
     /// The number of closed bytes from which on a segment with one place is placed by its bytes alone; usually 16.
     pub least: usize,
-    /// The number of places that are listed of a segment at most; usually 64.
+    /// The number of places that are listed of a segment at most; usually 16.
     pub most: usize,
 }
 
@@ -46,7 +46,8 @@ pub struct Candidate {
     pub segment: u16,
     /// The addresses, in ascending order, at most `most`. None if `why` is `ManyPlaces`.
     pub addresses: Vec<u32>,
-    /// Whether there may be more.
+    /// Whether there may be more: the segment is not searched for, `most` places are listed and there is another, or four of its closed bytes
+    /// are at 64 places. Of a segment that is searched for, those before the last one that was tried are listed.
     pub more: bool,
     /// Why none of them is sure.
     pub why: Why,

@@ -156,21 +156,21 @@ fn plain_data<'a>(rec: &Undecoded<'a>) -> Option<(u16, u32, &'a [u8])> {
     }
 }
 
-/// The fixups of a module's data records, by segment, those of one segment in file order.
+/// The fixups of a module's LEDATA records, by segment, those of one segment in file order.
 pub(crate) fn fixes_of(alloc: Global, module: &Checked) -> Result<Vec<Fix>, AllocError> {
     let mut fixes = Vec::new(alloc);
-    let mut segment = 0;
-    let mut offset = 0;
-    let mut data = module.bytes();
+    let mut place = None;
     for (_, piece) in pieces_of(module) {
         match &piece {
             Piece::Kept(rec) => {
-                if let Some(found) = plain_data(rec) {
-                    (segment, offset, data) = found;
+                if rec.as_data().is_some() {
+                    place = plain_data(rec);
                 }
             }
             Piece::Fixed { fixup, .. } => {
-                fixes.push(Fix::of(fixup, segment, offset, data))?;
+                if let Some((segment, offset, data)) = place {
+                    fixes.push(Fix::of(fixup, segment, offset, data))?;
+                }
             }
             Piece::End { .. } => {}
         }

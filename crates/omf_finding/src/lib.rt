@@ -2,6 +2,7 @@
 #![tactic(auto)]
 
 mod asking;
+mod closed;
 mod finding;
 mod findings;
 mod fixes;
@@ -10,17 +11,22 @@ mod found;
 pub mod laws;
 mod matching;
 mod names;
+mod nearing;
 mod patterning;
 mod program;
 pub mod rows;
 mod settling;
 mod shapes;
 mod singles;
+mod straying;
 mod windows;
 
+pub use closed::ClosedByte;
 pub use finding::find;
 pub use findings::{Asked, Candidate, FindOptions, Findings, Found, Verdict, Why};
 pub use found::{is_found, is_found_in_part};
 pub use matching::places;
+pub use nearing::{Difference, Near, nearest};
 pub use patterning::{Pattern, PatternByte, pattern_of};
 pub use program::Program;
+pub use straying::{References, Stray};

@@ -1,6 +1,7 @@
 //! Programs as they are loaded.
 
 ghost use Rattle.std.specs.Prelude.{◌≡◌};
+ghost use Rattle.omf_finding.specs.Found.{program_byte};
 ghost use Rattle.omf_finding.specs.Inner.Shaping.{bytes_from};
 
 use std::alloc::AllocError;
@@ -44,7 +45,9 @@ impl Program {
     }
 
     /// The byte at an address; `None` if it is outside.
-    pub(crate) fn byte(&self, address: u64) -> Option<u8> {
+    pub(crate) fn byte(&self, address: u64) -> Option<u8>
+        ensures { result ≡ program_byte self.now.bytes.items self.now.base address }
+    {
         self.bytes_from(address).first().copied()
     }
 

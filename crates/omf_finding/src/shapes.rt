@@ -1,11 +1,13 @@
 //! The segments of modules, and the places of a program where their closed bytes are.
 
-ghost use Rattle.std.specs.Prelude.{◌≡◌, ◌⊎◌, ◌+◌, ◌<◌, ◌≤◌, ◌^◌, ◌==◌, ℕ, All, length, not, Option, None, IfOk, IfSome};
+ghost use Rattle.std.specs.Prelude.{◌≡◌, ◌⊎◌, ◌+◌, ◌<◌, ◌≤◌, ◌^◌, ◌==◌, ℕ, All, length, not, true, Option, None, IfOk, IfSome};
 ghost use Rattle.std.specs.List.{AllZip};
+ghost use Rattle.omf_finding.specs.Finding.{IsCut};
 ghost use Rattle.omf_finding.specs.Inner.Walking.{byte_in};
 ghost use Rattle.omf_finding.specs.Inner.Shaping.{AreIntervals, ArePlaces, AreShapes, AreWindows, HasNone, HasShapes, HaveShapes, IsMarked, IsRareAt, IsRareIn, IsRareOf, IsShape, IsWhole, address_for, cell_agrees, cells_agree, closed_front, interval_agrees, is_at, key_at, offset_in, run_agrees, tried_with};
 ghost use Rattle.omf_finding.specs.declared.patterning.PatternByte.{PatternByte};
 
+use crate::closed::{ClosedByte, closed_bytes};
 use crate::patterning::{Interval, Pattern, marked_pattern};
 use crate::program::Program;
 use crate::windows::{Windows, front};
@@ -13,7 +15,7 @@ use omf_check::Checked;
 use std::alloc::{AllocError, Global};
 
 /// The number of windows with the same bytes that are tried at most.
-const MOST_TRIED: usize = 1024;
+const MOST_TRIED: usize = 64;
 
 /// The address after the last one of real mode.
 const END_OF_MEMORY: u32 = 1 << 20;
@@ -37,7 +39,7 @@ pub(crate) struct Shape {
     /// Whether there may be others.
     pub(crate) more: bool,
     /// Its closed bytes, each with its offset, if it is not searched for.
-    few: Vec<(u32, u8)>,
+    few: Vec<ClosedByte>,
 }
 
 /// Four closed bytes in a row.
@@ -46,9 +48,9 @@ pub(crate) struct Rare {
     /// About how many places of the program have them.
     count: u32,
     /// Their little-endian number.
-    key: u32,
+    pub(crate) key: u32,
     /// The offset of the first in the segment.
-    offset: u32,
+    pub(crate) offset: u32,
 }
 
 /// What a window shows of a segment.
@@ -100,7 +102,7 @@ fn closed_front(values: &[u8], marks: &[u8]) -> Option<u32>
 }
 
 /// The four closed bytes in a row at an index of an interval, if there are any.
-fn rare_at(windows: &Windows, interval: Interval<'_>, at: usize) -> Option<Rare>
+pub(crate) fn rare_at(windows: &Windows, interval: Interval<'_>, at: usize) -> Option<Rare>
     requires same { length interval.marks.now ≡ length interval.values.now }
     requires within { interval.first + length interval.values.now ≤ 2 ^ 32 }
     requires low { at < length interval.values.now }
@@ -217,27 +219,6 @@ fn extent(intervals: &[Interval<'_>]) -> (u32, u64) {
     (start, end)
 }
 
-/// Adds the closed bytes of an interval, each with its offset.
-fn add_closed(closed: &mut Vec<(u32, u8)>, interval: Interval<'_>) -> Result<(), AllocError> {
-    let mut offset = interval.first;
-    for (value, mark) in interval.values.iter().zip(interval.marks) {
-        if is_closed(*mark) {
-            closed.push((offset, *value))?;
-        }
-        offset = offset.wrapping_add(1);
-    }
-    Ok(())
-}
-
-/// The closed bytes, each with its offset.
-fn closed_bytes(alloc: Global, intervals: &[Interval<'_>]) -> Result<Vec<(u32, u8)>, AllocError> {
-    let mut closed = Vec::new(alloc);
-    for interval in intervals {
-        add_closed(&mut closed, *interval)?;
-    }
-    Ok(closed)
-}
-
 /// A program, with an index of its windows.
 #[derive(Drop)]
 struct Indexed<'a> {
@@ -249,18 +230,18 @@ struct Indexed<'a> {
 
 /// The address of a segment whose byte at `offset` is `at` bytes after `base`; `None` if it would begin below 0, or the byte is past the last
 /// address.
-fn address_for(base: u32, at: u32, offset: u32) -> Option<u32>
+pub(crate) fn address_for(base: u32, at: u32, offset: u32) -> Option<u32>
     ensures { result ≡ address_for base at offset }
 {
     base.checked_add(at)?.checked_sub(offset)
 }
 
 impl<'a> Indexed<'a> {
-    /// What the window with a number shows of a segment with these four closed bytes.
-    fn tried(&self, intervals: &[Interval<'_>], rare: Rare, number: usize) -> Tried
-        ensures { result ≡ tried_with (is_at self.now.program.now.bytes.items self.now.program.now.base intervals.now) self.now.program.now.base rare.offset (offset_in self.now.windows.sorted.items number rare.key) }
+    /// What the k-th window from a number on shows of a segment with these four closed bytes.
+    fn tried(&self, intervals: &[Interval<'_>], rare: Rare, first: usize, k: usize) -> Tried
+        ensures { result ≡ tried_with (is_at self.now.program.now.bytes.items self.now.program.now.base intervals.now) self.now.program.now.base rare.offset (offset_in self.now.windows.sorted.items (first + k) rare.key) }
     {
-        match self.windows.offset(number, rare.key) {
+        match self.windows.offset(first, k, rare.key) {
             Some(at) => match address_for(self.program.base, at, rare.offset) {
                 Some(address) if is_at(self.program, intervals, address) => Tried::Place(address),
                 _ => Tried::Other,
@@ -278,12 +259,13 @@ impl<'a> Indexed<'a> {
     ) -> Result<(Vec<u32>, bool), AllocError>
         requires windows { AreWindows self.now.program.now.bytes.items self.now.windows.sorted.items }
         requires rare { IsRareOf intervals.now rare }
-        ensures { IfOk result (λ r. (byte : ℕ → Option PatternByte) → AreIntervals byte intervals.now → ArePlaces byte self.now.program.now.bytes.items self.now.program.now.base r.0.items r.1) }
+        ensures places { IfOk result (λ r. (byte : ℕ → Option PatternByte) → AreIntervals byte intervals.now → ArePlaces byte self.now.program.now.bytes.items self.now.program.now.base r.0.items r.1) }
+        ensures cut { IfOk result (λ r. (byte : ℕ → Option PatternByte) → AreIntervals byte intervals.now → r.1 ≡ true → IsCut byte self.now.program.now.bytes.items self.now.program.now.base self.now.most r.0.items) }
     {
         let mut places = Vec::new(alloc);
         let first = self.windows.first(rare.key);
-        for number in first..first.saturating_add(MOST_TRIED) {
-            match self.tried(intervals, rare, number) {
+        for k in 0..MOST_TRIED {
+            match self.tried(intervals, rare, first, k) {
                 Tried::End => return Ok((places, false)),
                 Tried::Other => {}
                 Tried::Place(address) => {
@@ -306,7 +288,7 @@ impl<'a> Indexed<'a> {
     ) -> Result<Shape, AllocError>
         requires windows { AreWindows self.now.program.now.bytes.items self.now.windows.sorted.items }
         requires whole { All IsWhole intervals.now }
-        ensures shape { IfOk result (λ s. (byte : ℕ → Option PatternByte) → AreIntervals byte intervals.now → IsShape byte self.now.program.now.bytes.items self.now.program.now.base s) }
+        ensures shape { IfOk result (λ s. (byte : ℕ → Option PatternByte) → AreIntervals byte intervals.now → IsShape byte self.now.program.now.bytes.items self.now.program.now.base self.now.most s) }
         ensures segment { IfOk result (λ s. s.segment ≡ segment) }
     {
         let (first, end) = extent(intervals);
@@ -350,7 +332,7 @@ impl<'a> Indexed<'a> {
     ) -> Result<Vec<Shape>, AllocError>
         requires windows { AreWindows self.now.program.now.bytes.items self.now.windows.sorted.items }
         requires marked { IsMarked pattern.now }
-        ensures { IfOk result (λ v. AreShapes (byte_in pattern.now) self.now.program.now.bytes.items self.now.program.now.base count v.items) }
+        ensures { IfOk result (λ v. AreShapes (byte_in pattern.now) self.now.program.now.bytes.items self.now.program.now.base self.now.most count v.items) }
     {
         let mut shapes = Vec::new(alloc);
         for index in 0..count {
@@ -364,7 +346,7 @@ impl<'a> Indexed<'a> {
     /// The segments of a module.
     fn module_shapes(&self, alloc: Global, module: &Checked) -> Result<Vec<Shape>, AllocError>
         requires { AreWindows self.now.program.now.bytes.items self.now.windows.sorted.items }
-        ensures { IfOk result (λ v. HaveShapes self.now.program.now «module».now v.items) }
+        ensures { IfOk result (λ v. HaveShapes self.now.program.now self.now.most «module».now v.items) }
     {
         let pattern = marked_pattern(alloc, module)?;
         self.pattern_shapes(alloc, &pattern, module.segments())
@@ -378,7 +360,7 @@ pub(crate) fn shapes_of(
     program: &Program,
     most: usize,
 ) -> Result<Vec<Vec<Shape>>, AllocError>
-    ensures { IfOk result (λ v. AllZip (HasShapes program.now) modules.now v.items) }
+    ensures { IfOk result (λ v. AllZip (HasShapes program.now most) modules.now v.items) }
 {
     let indexed = Indexed {
         program,
@@ -408,8 +390,8 @@ impl Shape {
 
     /// Its few closed bytes are the program's at an address.
     fn few_agree(&self, program: &Program, address: u32) -> bool {
-        self.few.iter().all(|(offset, byte)| program.byte(u64::from(address) + u64::from(*offset))
-            == Some(*byte))
+        self.few.iter().all(|closed| program.byte(u64::from(address) + u64::from(closed.offset))
+            == Some(closed.value))
     }
 
     /// Whether it may be at an address: of a segment whose places are all known, whether this is one of them.

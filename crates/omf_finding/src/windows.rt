@@ -1,7 +1,7 @@
 //! Where each four bytes are in a program.
 
-ghost use Rattle.std.specs.Prelude.{◌≡◌, ◌<◌, ◌≤◌, ◌+◌, ◌*◌, ◌^◌, ℕ, length, get_or, IfOk};
-ghost use Rattle.omf_finding.specs.Inner.Shaping.{AreWindows, HasWindows, front, offset_in, window_at};
+ghost use Rattle.std.specs.Prelude.{◌≡◌, ◌<◌, ◌≤◌, ◌+◌, ◌*◌, ◌^◌, ℕ, drop, length, get_or, slice_get, IfOk};
+ghost use Rattle.omf_finding.specs.Inner.Shaping.{AreWindows, HasWindows, OnlyWindows, front, offset_in, window_at};
 ghost use Rattle.std.specs.List.Sorted.{IsNonDecreasing, IsPermutation};
 
 use std::alloc::{AllocError, Global};
@@ -49,7 +49,8 @@ fn window_at(program: &[u8], at: u32) -> Option<u64>
 
 /// The windows of a program, in ascending order of offset. Those from 2^32 on are left out.
 fn all_windows(alloc: Global, program: &[u8]) -> Result<Vec<u64>, AllocError>
-    ensures { IfOk result (λ v. HasWindows program.now v.items (length program.now)) }
+    ensures has { IfOk result (λ v. HasWindows program.now v.items (length program.now)) }
+    ensures only { IfOk result (λ v. OnlyWindows program.now v.items (length program.now)) }
 {
     let mut windows = Vec::with_capacity(alloc, program.len())?;
     for at in 0..program.len() {
@@ -85,6 +86,21 @@ fn ascending(windows: Vec<u64>) -> Vec<u64>
     windows
 }
 
+/// The windows from a number on.
+#[tactic(auto, using(std::proofs::lemmas::List::drop_min))]
+fn windows_from(windows: &[u64], first: usize) -> &[u64]
+    ensures { result.now ≡ drop first windows.now }
+{
+    windows.split_at(first.min(windows.len())).1
+}
+
+/// The k-th window from a number on; `None` after the last.
+fn window_after(windows: &[u64], first: usize, k: usize) -> Option<u64>
+    ensures { result ≡ slice_get windows.now (first + k) }
+{
+    windows_from(windows, first).get(k).copied()
+}
+
 impl Windows {
     /// The windows of a program.
     pub(crate) fn of(alloc: Global, program: &[u8]) -> Result<Windows, AllocError>
@@ -110,11 +126,11 @@ impl Windows {
         self.sorted.partition_point(|window| *window < least)
     }
 
-    /// The offset of a window, if it has these bytes.
-    pub(crate) fn offset(&self, number: usize, key: u32) -> Option<u32>
-        ensures { result ≡ offset_in self.now.sorted.items number key }
+    /// The offset of the k-th window from a number on, if it has these bytes.
+    pub(crate) fn offset(&self, first: usize, k: usize, key: u32) -> Option<u32>
+        ensures { result ≡ offset_in self.now.sorted.items (first + k) key }
     {
-        let window = *self.sorted.get(number)?;
+        let window = window_after(&self.sorted, first, k)?;
         let least = u64::from(key) * STEP;
         if least <= window && window - least < STEP {
             Some((window - least) as u32)

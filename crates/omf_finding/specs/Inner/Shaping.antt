@@ -1,7 +1,7 @@
 -- How the places of a segment are computed. Only private functions use these definitions.
-use Rattle.std.specs.Prelude.{◌≡◌, ◌⊎◌, ◌<◌, ◌≤◌, ℕ, ◌+◌, ◌-◌, ◌*◌, ◌^◌, ◌==◌, ◌&&◌, ◌||◌, not, List, [], ◌∷◌, length, drop, Bool, true, false, nat_le, nat_lt, Option, Some, None, IsSome, IsNone, IfSome, option_map, slice_get, Contains, get_or, if◌then◌else◌}
-use Rattle.std.specs.List.{list_all, zip}
-use Rattle.std.specs.List.Sorted.{IsNonDecreasing}
+use Rattle.std.specs.Prelude.{◌≡◌, ◌⊎◌, ◌<◌, ◌≤◌, ℕ, ◌+◌, ◌-◌, ◌*◌, ◌^◌, ◌==◌, ◌&&◌, ◌||◌, not, List, [], ◌∷◌, length, drop, Bool, true, false, nat_le, nat_lt, Option, Some, None, IsSome, IsNone, IfSome, option_map, slice_get, Contains, get_or, ◌≢◌, if◌then◌else◌}
+use Rattle.std.specs.List.{AllPairs, list_all, zip}
+use Rattle.std.specs.List.Sorted.{IsNonDecreasing, IsStrictlyIncreasing}
 use Rattle.std.specs.Global.{Vec}
 use Rattle.std.specs.Option.{option_and_then}
 use Rattle.std.specs.Int.{from_le_bytes, w32}
@@ -11,7 +11,7 @@ use Rattle.omf_image.specs.Limits.{profile_limits}
 use Rattle.omf_image.specs.Overlay.{byte_at, IsRunShown}
 use Rattle.omf_finding.specs.Agrees.{Agrees, HasFour}
 use Rattle.omf_finding.specs.Pattern.{pattern}
-use Rattle.omf_finding.specs.Finding.{IsAt, IsCandidate, IsInside, IsSought}
+use Rattle.omf_finding.specs.Finding.{IsAt, IsCandidate, IsCut, IsInside, IsSought}
 use Rattle.omf_finding.specs.declared.findings.Candidate.{Candidate}
 use Rattle.omf_finding.specs.declared.program.Program.{Program}
 use Rattle.omf_finding.specs.Inner.Walking.{Marks, byte_in, byte_with}
@@ -50,8 +50,13 @@ IsIntervalAt p segment k (Some i) = IsRunShown (byte_at p.values segment) k (Som
 abbrev pub IsWithin : Interval → ℕ → Type 0
 IsWithin i x = (i.first ≤ x) × (x < i.first + length i.values.now)
 
+-- Each interval ends before the next ones.
+abbrev pub AreInOrder : List Interval → Type 0
+AreInOrder is = (j k : ℕ) (a b : Interval) → j < k → slice_get is j ≡ Some a → slice_get is k ≡ Some b → a.first + length a.values.now ≤ b.first
+
 -- Intervals have each byte of a segment.
 pub record AreIntervals (byte : ℕ → Option PatternByte) (is : List Interval) : Type 0 where
+  pub ordered : AreInOrder is
   pub each : (i : Interval) → Contains is i → IsInterval byte i
   pub every : (x : ℕ) → IsSome (byte x) → (i : Interval) × Contains is i × IsWithin i x
 
@@ -120,8 +125,24 @@ HasWindows program windows n = (at key : ℕ) → at < n → at < 2 ^ 32 → fro
 abbrev pub window_at : List ℕ → ℕ → Option ℕ
 window_at program at = option_map (λ key. key * 2 ^ 32 + at) (front (drop at program))
 
+-- A window of the first n offsets of a program.
+pub record IsWindow (program : List ℕ) (n window : ℕ) : Type 0 where
+  pub at : ℕ
+  pub key : ℕ
+  pub before : at < n
+  pub low : at < 2 ^ 32
+  pub there : front (drop at program) ≡ Some key
+  pub is : window ≡ key * 2 ^ 32 + at
+
+-- These are windows of the first n offsets of a program, and no two are one.
+pub record OnlyWindows (program windows : List ℕ) (n : ℕ) : Type 0 where
+  pub each : (window : ℕ) → Contains windows window → IsWindow program n window
+  pub distinct : AllPairs (λ x y. x ≢ y) windows
+
 pub record AreWindows (program sorted : List ℕ) : Type 0 where
   pub has : HasWindows program sorted (length program)
+  pub each : (window : ℕ) → Contains sorted window → IsWindow program (length program) window
+  pub increases : IsStrictlyIncreasing sorted
   pub rises : IsNonDecreasing sorted
 
 -- The offset of a window with this number.
@@ -148,35 +169,37 @@ tried_with test base offset None = tried.End
 abbrev pub HasPlaces : (ℕ → Tried) → ℕ → ℕ → List ℕ → Type 0
 HasPlaces try first number places = (k address : ℕ) → first ≤ k → k < number → try k ≡ tried.Place address → Contains places address
 
--- Each place passes a test, and where there are no more, all that pass it are there.
+-- Places in ascending order. Each passes a test, and where there are no more, all that pass it are there.
 pub record ArePlaces (byte : ℕ → Option PatternByte) (program : List ℕ) (base : ℕ) (places : List ℕ) (more : Bool) : Type 0 where
+  pub rising : IsStrictlyIncreasing places
   pub agree : (address : ℕ) → Contains places address → Agrees byte program base address
   pub all : more ≡ false → base + length program ≤ 2 ^ 32 → (address : ℕ) → Agrees byte program base address → Contains places address
 
 -- What is known of a segment with this pattern.
-pub record IsShape (byte : ℕ → Option PatternByte) (program : List ℕ) (base : ℕ) (s : Shape) : Type 0 where
+pub record IsShape (byte : ℕ → Option PatternByte) (program : List ℕ) (base most : ℕ) (s : Shape) : Type 0 where
   pub places : ArePlaces byte program base s.places.items s.more
   pub sought : HasFour byte → s.is_searched ≡ true
   pub others : s.is_searched ≡ false → s.more ≡ true
+  pub cut : s.is_searched ≡ true → s.more ≡ true → IsCut byte program base most s.places.items
 
 -- The shapes of the segments of a module: each of the first n segments has one.
-pub record AreShapes (byte : ℕ → ℕ → Option PatternByte) (program : List ℕ) (base n : ℕ) (ss : List Shape) : Type 0 where
-  pub each : (s : Shape) → Contains ss s → IsShape (byte s.segment) program base s
+pub record AreShapes (byte : ℕ → ℕ → Option PatternByte) (program : List ℕ) (base most n : ℕ) (ss : List Shape) : Type 0 where
+  pub each : (s : Shape) → Contains ss s → IsShape (byte s.segment) program base most s
   pub every : (segment : ℕ) → 1 ≤ segment → segment ≤ n → (s : Shape) × Contains ss s × (s.segment ≡ segment)
 
 -- The bytes of a segment of a module, as its pattern has them.
 abbrev pub bytes_of : Module → ℕ → ℕ → Option PatternByte
 bytes_of m segment = pattern profile_limits (recs_of m.bytes) segment
 
-abbrev pub IsShapeOf : Program → Module → Shape → Type 0
-IsShapeOf program m s = IsShape (bytes_of m s.segment) program.bytes.items program.base s
+abbrev pub IsShapeOf : Program → ℕ → Module → Shape → Type 0
+IsShapeOf program most m s = IsShape (bytes_of m s.segment) program.bytes.items program.base most s
 
 -- The segments of a module have these shapes.
-abbrev pub HaveShapes : Program → Module → List Shape → Type 0
-HaveShapes program m ss = AreShapes (bytes_of m) program.bytes.items program.base (length (segments (recs_of m.bytes))) ss
+abbrev pub HaveShapes : Program → ℕ → Module → List Shape → Type 0
+HaveShapes program most m ss = AreShapes (bytes_of m) program.bytes.items program.base most (length (segments (recs_of m.bytes))) ss
 
-abbrev pub HasShapes : Program → Module → Vec Shape → Type 0
-HasShapes program m ss = HaveShapes program m ss.items
+abbrev pub HasShapes : Program → ℕ → Module → Vec Shape → Type 0
+HasShapes program most m ss = HaveShapes program most m ss.items
 
 -- ---- candidates
 
@@ -185,11 +208,12 @@ pub record IsPatternOf (m : Module) (p : Marks) : Type 0 where
   pub bytes : (segment x : ℕ) → byte_in p segment x ≡ bytes_of m segment x
   pub marked : IsMarked p
 
--- A segment agrees with a program at each of these addresses.
-abbrev pub AgreeAt : (ℕ → Option PatternByte) → Program → List ℕ → Type 0
-AgreeAt byte program addresses = (address : ℕ) → Contains addresses address → Agrees byte program.bytes.items program.base address
+-- A segment agrees with a program at each of these addresses, in ascending order.
+pub record AgreeAt (byte : ℕ → Option PatternByte) (program : Program) (addresses : List ℕ) : Type 0 where
+  pub rising : IsStrictlyIncreasing addresses
+  pub each : (address : ℕ) → Contains addresses address → Agrees byte program.bytes.items program.base address
 
 -- What is offered of a segment: a candidate, or none if it agrees nowhere or is not searched for.
-abbrev pub IsOffered : Program → Module → Shape → Option Candidate → Type 0
-IsOffered program m s None = IsInside program → (address : ℕ) → IsSought m s.segment → IsAt program m s.segment address → ⊥
-IsOffered program m s (Some c) = IsCandidate program m c × (c.segment ≡ s.segment)
+abbrev pub IsOffered : Program → ℕ → Module → Shape → Option Candidate → Type 0
+IsOffered program most m s None = IsInside program → (address : ℕ) → IsSought m s.segment → IsAt program m s.segment address → ⊥
+IsOffered program most m s (Some c) = IsCandidate program most m c × (c.segment ≡ s.segment)

@@ -2,7 +2,10 @@
 //! where its bytes are less their offset in it.
 
 use super::module_of;
-use omf_finding::{Candidate, FindOptions, Program, Verdict, find, is_found, pattern_of, places};
+use omf_finding::{
+    Candidate, Difference, FindOptions, Program, Verdict, find, is_found, nearest, pattern_of,
+    places,
+};
 use omf_reloc::{Frame, Placement};
 use omf_samples::{END, HEADER, MODULE, NAMES, SEGMENT_OF_12};
 use std::alloc::{AllocError, Global};
@@ -128,17 +131,17 @@ static CASES: [Case; 10] = [
         rows: &[HEADER, NAMES, LONG_SEGMENT, ZEROS, DATA_AT_100, END],
         told: Told::NotThere,
     },
-    // Four zeros in a row are at 997 places, of which one has the letter after another byte.
+    // Four zeros in a row are at 57 places, of which one has the letter after another byte.
     Case {
         base: 0,
-        zeros: 1000,
+        zeros: 60,
         bytes: b"A",
         rows: ZEROS_AND_LETTER,
-        told: Told::May(&[(1, false, &[995])]),
+        told: Told::May(&[(1, false, &[55])]),
     },
     Case {
         base: 0,
-        zeros: 1000,
+        zeros: 60,
         bytes: b"B",
         rows: ZEROS_AND_LETTER,
         told: Told::NotThere,
@@ -175,13 +178,13 @@ static CASES: [Case; 10] = [
     },
 ];
 
-/// The program of a case: a raw image.
-fn program_of(alloc: Global, case: &Case) -> Result<Program, AllocError> {
-    let mut bytes = vec![in alloc; 0; case.zeros]?;
-    bytes.extend_from_slice(case.bytes)?;
+/// A raw image: zeros, and these bytes.
+fn image_of(alloc: Global, base: u32, zeros: usize, own: &[u8]) -> Result<Program, AllocError> {
+    let mut bytes = vec![in alloc; 0; zeros]?;
+    bytes.extend_from_slice(own)?;
     Ok(Program {
         bytes,
-        base: case.base,
+        base,
         relocated: None,
         start: None,
         selectors: Vec::new(alloc),
@@ -218,7 +221,7 @@ fn is_told(verdict: &Verdict, told: &Told) -> bool {
 fn agrees(alloc: Global, case: &Case) -> Option<bool> {
     let mut modules = Vec::new(alloc);
     modules.push(module_of(alloc, case.rows)?).ok()?;
-    let program = program_of(alloc, case).ok()?;
+    let program = image_of(alloc, case.base, case.zeros, case.bytes).ok()?;
     let findings = find(alloc, &modules, &program, &OPTIONS).ok()?;
     Some(is_told(findings.verdicts.first()?, &case.told))
 }
@@ -235,5 +238,60 @@ fn a_module_is_found_where_it_is(rt: HostRuntime) {
 fn a_search_misses_nothing(rt: HostRuntime) {
     for case in &CASES {
         assert!(rt; agrees(rt.alloc(), case) == Some(true));
+    }
+}
+
+/// The bytes of a program from 100H on, how many of the segment's may differ there, and the one that does.
+type NearCase = (&'static [u8], usize, Option<Difference>);
+
+static NEAR: [NearCase; 5] = [
+    (
+        b"\xB8\x34\x12\xBB\x78\x57\xCD\x21",
+        1,
+        Some(Difference {
+            offset: 0x105,
+            own: 0x56,
+            there: Some(0x57),
+        }),
+    ),
+    (b"\xB8\x34\x12\xBB\x78\x57\xCD\x21", 0, None),
+    // The last byte is past the program's end.
+    (
+        b"\xB8\x34\x12\xBB\x78\x56\xCD",
+        1,
+        Some(Difference {
+            offset: 0x107,
+            own: 0x21,
+            there: None,
+        }),
+    ),
+    // It is there.
+    (CODE, 8, None),
+    // No four bytes in a row are there, so it is not tried.
+    (b"\xB8\x34\x12\x00\x78\x56\xCD\x00", 8, None),
+];
+
+/// Whether the module with CODE at 100H is near, at 0 with this difference.
+fn is_near(alloc: Global, case: &NearCase) -> Option<bool> {
+    let mut modules = Vec::new(alloc);
+    modules.push(module_of(alloc, ORIGIN_100)?).ok()?;
+    let program = image_of(alloc, 0x100, 0, case.0).ok()?;
+    let nears = nearest(alloc, &modules, &program, case.1).ok()?;
+    Some(match (nears.first()?.as_slice(), case.2) {
+        ([], None) => true,
+        ([near], Some(difference)) => {
+            near.segment == 1
+                && near.address == 0
+                && near.closed == 8
+                && near.differences.as_slice() == [difference].as_slice()
+        }
+        _ => false,
+    })
+}
+
+#[test]
+fn what_differs_is_shown(rt: HostRuntime) {
+    for case in &NEAR {
+        assert!(rt; is_near(rt.alloc(), case) == Some(true));
     }
 }

@@ -5,4 +5,4 @@ use Rattle.omf_finding.proofs.finding.verdicts.Given as goal
 
 -- the modules so far have their verdicts
 abbrev pub invariant-loop-number : goal.invariant-loop-number
-invariant-loop-number l = AllZip (IsTold l.ended.program.now) (take l.number l.modules) l.verdicts.items
+invariant-loop-number l = AllZip (IsTold l.ended.program.now l.ended.most) (take l.number l.modules) l.verdicts.items

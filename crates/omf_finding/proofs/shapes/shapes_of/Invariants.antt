@@ -5,4 +5,4 @@ use Rattle.omf_finding.proofs.shapes.shapes_of.Given as goal
 
 -- the modules so far have their shapes
 abbrev pub invariant-loop-module : goal.invariant-loop-module
-invariant-loop-module l = AllZip (HasShapes l.program) (take l.module-index l.modules) l.shapes.items
+invariant-loop-module l = AllZip (HasShapes l.program l.most) (take l.module-index l.modules) l.shapes.items

@@ -10,7 +10,8 @@ pub loop-index-init : goal.loop-index-init
 loop-index-init c =
     let bytes = byte_in c.args.pattern.now in
     let program = c.args.self.now.program.now in
-    subst (AreShapes bytes program.bytes.items program.base 0) (sym c.new-shapes.ensures.items) (shapes-first bytes program.bytes.items program.base)
+    let most = c.args.self.now.most in
+    subst (AreShapes bytes program.bytes.items program.base most 0) (sym c.new-shapes.ensures.items) (shapes-first bytes program.bytes.items program.base most)
 
 pub shape-requires-clause-whole : goal.shape-requires-clause-whole
 shape-requires-clause-whole c =
@@ -21,14 +22,16 @@ pub loop-index-preserved : goal.loop-index-preserved
 loop-index-preserved c =
     let bytes = byte_in c.args.pattern.now in
     let program = c.args.self.now.program.now in
+    let most = c.args.self.now.most in
     let index = c.loop-index.index in
     let s = c.in_ok-shape.field-0 in
     let are = subst (AreIntervals (bytes (index + 1))) (sym c.deref.ensures.value) c.in_ok-intervals.ensures in
     let one = c.in_ok-shape.ensures.shape (bytes (index + 1)) are in
-    shapes-next bytes program.bytes.items program.base index c.loop-index.shapes.items c.push.new.self.items s
-    (subst (λ n. IsShape (bytes n) program.bytes.items program.base s) (sym c.in_ok-shape.ensures.segment) one) c.in_ok-shape.ensures.segment c.in_ok-push.ensures.items c.loop-index.invariant
+    shapes-next bytes program.bytes.items program.base most index c.loop-index.shapes.items c.push.new.self.items s
+    (subst (λ n. IsShape (bytes n) program.bytes.items program.base most s) (sym c.in_ok-shape.ensures.segment) one) c.in_ok-shape.ensures.segment c.in_ok-push.ensures.items c.loop-index.invariant
 
 pub returns : goal.returns
 returns c =
     let program = c.args.self.now.program.now in
-    shapes-last (byte_in c.args.pattern.now) program.bytes.items program.base c.loop-index.index c.args.count c.loop-index.shapes.items c.loop-index-test.false c.loop-index.invariant
+    let most = c.args.self.now.most in
+    shapes-last (byte_in c.args.pattern.now) program.bytes.items program.base most c.loop-index.index c.args.count c.loop-index.shapes.items c.loop-index-test.false c.loop-index.invariant

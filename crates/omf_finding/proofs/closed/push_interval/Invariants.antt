@@ -1,0 +1,9 @@
+use Rattle.std.proofs.Common.{◌≡◌, ◌++◌}
+use Rattle.std.specs.Prelude.{filter_map}
+use Rattle.std.specs.List.{range_with_len}
+use Rattle.omf_finding.specs.Inner.Nearing.{closed_at}
+use Rattle.omf_finding.proofs.closed.push_interval.Given as goal
+
+-- the closed bytes so far
+abbrev pub invariant-loop-at : goal.invariant-loop-at
+invariant-loop-at l = l.closed.items ≡ l.fn.closed.items ++ filter_map (closed_at l.interval) (range_with_len 0 l.at)

@@ -1,0 +1,23 @@
+use Rattle.std.proofs.Common.{rules, arith, ◌≡◌, ◌++◌, ◌∷◌, [], ◌+◌, ◌<◌, ◌^◌, Some, sym, subst, ◌∙◌}
+use Rattle.omf_finding.specs.Inner.Shaping.{HasWindows, OnlyWindows, window_at}
+use Rattle.omf_finding.proofs.WindowLaws.{only-more, only-same}
+use Rattle.omf_finding.proofs.windows.all_windows.Goals.{in-Ok+in-Some+in_ok-push, in-Ok+in_default-window_at, in_default}
+use Rattle.omf_finding.proofs.windows.all_windows.Goals as goal
+
+pub loop-at-preserved : goal.loop-at-preserved
+loop-at-preserved c =
+    let program = c.args.program.now in
+    let at = c.loop-at.at in
+    let old = c.loop-at.windows.items in
+    let new = c.match-try_from.windows.items in
+    let has : HasWindows program new (at + 1) = elim c.match-try_from.branch [ in-Ok+in-Some+in_ok-push w ↦ search rules | in-Ok+in_default-window_at w ↦ search rules | in_default w ↦ search rules ] in
+    let only : OnlyWindows program new (at + 1) = elim c.match-try_from.branch [
+      | in-Ok+in-Some+in_ok-push w ↦
+          let low : at < 2 ^ 32 = search rules in
+          let shown : window_at program at ≡ Some w.in-Some.window = search rules in
+          let pushed : new ≡ old ++ w.in-Some.window ∷ [] = search rules in
+          only-more program old new at w.in-Some.window low shown pushed c.loop-at.invariant.only
+      | in-Ok+in_default-window_at w ↦ let same : new ≡ old = search rules in subst (λ ws. OnlyWindows program ws (at + 1)) (sym same) (only-same program old at c.loop-at.invariant.only)
+      | in_default w ↦ let same : new ≡ old = search rules in subst (λ ws. OnlyWindows program ws (at + 1)) (sym same) (only-same program old at c.loop-at.invariant.only)
+    ] in
+    record { has = has; only = only }
