@@ -1,3 +1,6 @@
 mod GatheredLaws
 mod MzLaws
+mod NearlyLaws
+mod PartLaws
+mod RoomLaws
 mod RowLaws

@@ -1,15 +1,16 @@
 -- The lines of a map: a word with an address, and named fields; as text, or as an object of JSON (this profile's rule).
-use Rattle.std.specs.Prelude.{ℕ, List, [], ◌∷◌, ◌++◌, flat_map, codes, decimal, if◌then◌else◌}
+use Rattle.std.specs.Prelude.{ℕ, List, [], ◌∷◌, ◌++◌, flat_map, codes, decimal, Option, Some, None, if◌then◌else◌}
 use Rattle.omf_placement.specs.Quoted.{hex, is_plain}
 use Rattle.omf_find.specs.declared.fields.Format.{Format}
 use Rattle.omf_find.specs.declared.fields.Format.TheVariants as format
 
--- A value: an address or a length, a number, a name, a word of a fixed list.
+-- A value: an address or a length, a number, a name, a word of a fixed list, a byte or none.
 pub data Value : Type 0 where
   Address : ℕ → Value
   Number : ℕ → Value
   Name : List ℕ → Value
   Word : List ℕ → Value
+  Byte : Option ℕ → Value
 
 -- An address; JSON has only decimal numbers.
 abbrev pub hexadecimal : Format → ℕ → List ℕ
@@ -32,11 +33,18 @@ abbrev pub word_text : Format → List ℕ → List ℕ
 word_text format.Text w = w
 word_text format.Json w = 34 ∷ w ++ 34 ∷ []
 
+abbrev pub byte_text : Format → Option ℕ → List ℕ
+byte_text format.Text (Some b) = hex 2 b
+byte_text format.Text None = codes "none"
+byte_text format.Json (Some b) = decimal b
+byte_text format.Json None = codes "null"
+
 abbrev pub value_text : Format → Value → List ℕ
 value_text f (Address n) = hexadecimal f n
 value_text f (Number n) = decimal n
 value_text f (Name n) = quoted f n
 value_text f (Word w) = word_text f w
+value_text f (Byte b) = byte_text f b
 
 -- The name of a field, up to its value.
 abbrev pub opened : Format → List ℕ → List ℕ

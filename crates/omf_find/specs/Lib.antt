@@ -7,5 +7,9 @@ pub mod Origin
 pub mod NameRow
 pub mod Rows
 pub mod Map
+pub mod Nearly
 pub mod Symbols
+pub mod Room
+pub mod Parts
+pub mod LinkText
 pub mod Output

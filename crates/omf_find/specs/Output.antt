@@ -1,5 +1,5 @@
 -- What is written of findings (this profile's rule): a map, or the symbols of a tool.
-use Rattle.std.specs.Prelude.{ℕ, List, Option, unwrap_or}
+use Rattle.std.specs.Prelude.{ℕ, List, Option, None, unwrap_or}
 use Rattle.omf_finding.specs.declared.findings.Verdict.{Verdict}
 use Rattle.omf_find.specs.Map.{IsMap}
 use Rattle.omf_find.specs.Symbols.{AreSymbols, usual_load}
@@ -13,3 +13,8 @@ abbrev pub IsOutput : Output → Option ℕ → Kind → List (List ℕ) → Gat
 IsOutput output.Text load kind files g vs text = IsMap format.Text files g vs text
 IsOutput output.Json load kind files g vs text = IsMap format.Json files g vs text
 IsOutput (output.Symbols tool) load kind files g vs text = AreSymbols tool (unwrap_or load (usual_load tool kind)) g vs text
+
+-- A map shows segments that are near if these are asked for; symbols do not.
+abbrev pub near_of : Output → Option ℕ → Option ℕ
+near_of (output.Symbols tool) near = None
+near_of _ near = near

@@ -1,5 +1,8 @@
 //! The arguments of `omf-find`.
 
+ghost use Rattle.std.specs.Prelude.{◌≡◌, IfOk, None, Some, if◌then◌else◌, option_map, string_bytes};
+ghost use Rattle.omf_host.specs.Outputs.{is_standard};
+
 use crate::fields::Format;
 use omf_check::Profile;
 use omf_host::number;
@@ -38,8 +41,12 @@ pub struct Asked {
     pub load: Option<u32>,
     /// The number of bytes from which on one place of them is enough.
     pub least: usize,
+    /// The number of bytes that differ at most of a segment that is shown as near; None if none is shown.
+    pub near: Option<usize>,
     /// Whether the places that are only possible are shown.
     pub shows_possible: bool,
+    /// The file for a link text of what is found; None if none is written.
+    pub link: Option<String>,
     /// The names of the program and of the files; `-` is the standard input.
     pub files: Vec<String>,
 }
@@ -56,7 +63,9 @@ impl Asked {
             selectors: Vec::new(alloc),
             load: None,
             least: 16,
+            near: None,
             shows_possible: false,
+            link: None,
             files: Vec::new(alloc),
         }
     }
@@ -84,6 +93,10 @@ enum Word {
     Load,
     /// A number follows.
     Least,
+    /// The name of a file follows.
+    Link,
+    /// A number follows.
+    Near,
     Possible,
     RefuseVendorComments,
     File,
@@ -99,6 +112,8 @@ fn word_of(argument: &str) -> Word {
         "--frame" => Word::Frame,
         "--load" => Word::Load,
         "--least" => Word::Least,
+        "--link" => Word::Link,
+        "--near" => Word::Near,
         "--possible" => Word::Possible,
         "--refuse-vendor-comments" => Word::RefuseVendorComments,
         "-" => Word::File,
@@ -129,6 +144,16 @@ fn selector_of(argument: &str) -> Option<u16> {
     u16::try_from(number).ok()
 }
 
+/// The file that an argument names for an output; None for the standard output, where the map is.
+fn file_of(alloc: Global, argument: &str) -> Result<Option<String>, AllocError>
+    ensures { IfOk result (λ file. option_map string_bytes file ≡ (if is_standard argument.now then None else Some argument.now)) }
+{
+    if argument == "-" {
+        return Ok(None);
+    }
+    Ok(Some(String::from_str(alloc, argument)?))
+}
+
 /// Takes an option without a value. Returns whether it is one.
 fn take_flag(asked: &mut Asked, word: Word) -> bool {
     match word {
@@ -155,8 +180,16 @@ fn take_value(asked: &mut Asked, word: Word, value: &str) -> Result<bool, AllocE
             Ok(least) => asked.least = least,
             Err(_) => return Ok(false),
         },
+        Word::Near => match value.parse::<usize>() {
+            Ok(most) => asked.near = Some(most),
+            Err(_) => return Ok(false),
+        },
         Word::Base => match address_of(value) {
             Some(base) => asked.base = Some(base),
+            None => return Ok(false),
+        },
+        Word::Link => match file_of(*asked.files.allocator(), value)? {
+            Some(file) => asked.link = Some(file),
             None => return Ok(false),
         },
         Word::Load => match address_of(value) {

@@ -2,7 +2,7 @@
 
 ghost use Rattle.std.specs.Prelude.{◌≡◌, flat_map};
 ghost use Rattle.omf_frame.specs.Bytes.{AddsText};
-ghost use Rattle.omf_find.specs.Fields.{Address, Name, Number, Word, closed, digits, field_text, head_text, hexadecimal, name_byte, opened, quoted};
+ghost use Rattle.omf_find.specs.Fields.{Address, Byte, Name, Number, Word, closed, digits, field_text, head_text, hexadecimal, name_byte, opened, quoted};
 
 use omf_host::{is_plain, put_byte, put_decimal, put_eight};
 use std::alloc::AllocError;
@@ -143,6 +143,24 @@ pub fn word(text: &mut Vec<u8>, format: Format, key: &str, word: &str) -> Result
             text.push(b'"')?;
             Ok(())
         }
+    }
+}
+
+/// Appends a byte: in text two hexadecimal digits, or `none`.
+pub fn byte(
+    text: &mut Vec<u8>,
+    format: Format,
+    key: &str,
+    byte: Option<u8>,
+) -> Result<(), AllocError>
+    ensures { AddsText result text.old.items text.new.items (field_text format key.now (Byte byte)) }
+{
+    open(text, format, key)?;
+    match (format, byte) {
+        (Format::Text, Some(byte)) => put_byte(text, byte),
+        (Format::Text, None) => text.extend_from_slice(b"none"),
+        (Format::Json, Some(byte)) => put_decimal(text, u64::from(byte)),
+        (Format::Json, None) => text.extend_from_slice(b"null"),
     }
 }
 

@@ -1,15 +1,22 @@
 //! The program on the arguments, the files, the standard output and the standard error of its process.
 
-ghost use Rattle.std.specs.Prelude.{◌≡◌, ℕ, List, IfOk, map, string_bytes, unwrap_or};
+ghost use Rattle.std.specs.Prelude.{◌≡◌, ℕ, List, IfOk, is_some, map, option_map, string_bytes, unwrap_or};
+ghost use Rattle.std.specs.List.{AllZip};
+ghost use Rattle.omf_find.specs.LinkText.{IsLinkIf};
+ghost use Rattle.omf_find.specs.Parts.{IsHeldIf};
 ghost use Rattle.omf_finding.specs.declared.findings.Findings.{Findings};
 ghost use Rattle.omf_host.specs.Ending.{IsPut};
-ghost use Rattle.omf_find.specs.Output.{IsOutput};
+ghost use Rattle.omf_find.specs.Output.{IsOutput, near_of};
+ghost use Rattle.omf_find.specs.Nearly.{AreNearlyIf};
 ghost use Rattle.omf_find.specs.Symbols.{usual_load};
 
 use crate::asked::{Asked, Output, Tool, read_arguments};
 use crate::fields::Format;
 use crate::lines::{fault_line, fault_object, left_out_objects, note_line};
+use crate::linktext::link_text;
 use crate::loading::{Kind, LoadFault, Loaded, load};
+use crate::near::{Nearly, Wanted, nearly_of};
+use crate::parts::Parts;
 use crate::reading::Gathered;
 use crate::report::{Shown, map_text};
 use crate::source::Source;
@@ -17,8 +24,9 @@ use crate::symbols::{symbols_text, usual_load};
 use omf_finding::{FindOptions, Findings, find};
 use omf_frame::Sink;
 use omf_host::{
-    About, Status, Streams, arguments, end, explain, misused_by, out_of_memory, put, put_unread,
-    question_in, read_input, standard_streams, warn,
+    About, OutputFile, Progress, RunFiles, Status, Streams, arguments, end, explain, misused_by,
+    out_of_memory, put, put_unread, put_unwritten, question_in, read_input, refuse_clash,
+    standard_streams, warn, write_outputs,
 };
 use std::alloc::{AllocError, Global};
 use std::io;
@@ -29,7 +37,8 @@ const ABOUT: About = About {
     name: "omf-find",
     colored_name: "\x1B[1;36momf-find\x1B[0m",
     usage: "usage: omf-find [--symbols ghidra|ida|r2|nm] [--load ADDRESS] [--json]
-           [--possible] [--least N] [--base ADDRESS] [--frame SELECTOR ..]
+           [--possible] [--near N] [--link TEXT] [--least N]
+           [--base ADDRESS] [--frame SELECTOR ..]
            [--refuse-vendor-comments] PROGRAM FILE ..
 ",
     details: "
@@ -41,6 +50,10 @@ Finds the modules of object files (.OBJ) and libraries (.LIB) in a DOS program
                             10000 for ghidra and ida where they load an .EXE
   --json                    one object of JSON on each line
   --possible                also where a module may be, and why it is not sure
+  --near N                  also segments of which at most N bytes differ, with
+                            these bytes
+  --link TEXT               write to the file TEXT with which text omf-link lays
+                            what is found at its places
   --least N                 take a segment by its bytes alone from N bytes on,
                             in place of 16
   --base ADDRESS            the program is a raw image from this address on
@@ -49,8 +62,8 @@ Finds the modules of object files (.OBJ) and libraries (.LIB) in a DOS program
   --refuse-vendor-comments  refuse comments of the classes C0H to FFH
 
 Addresses and selectors are hexadecimal: 1000, 0x1000 and 1000H are one. @FILE
-is the words of a file, and -- ends the options. omf-find(1) and docs/FIND.md have
-more.
+is the words of a file, and -- ends the options. omf-find(1) and docs/FIND.md
+have more.
 ",
 };
 
@@ -131,18 +144,22 @@ fn program_of(
 }
 
 /// The modules of the files; or why one of these could not be read.
-fn modules_of(
+fn modules_of<K: Sink, E: Sink>(
     rt: &HostRuntime,
+    streams: &mut Streams<K, E>,
     asked: &Asked,
     files: &[String],
 ) -> Result<Result<Gathered, Refusal>, AllocError> {
     let mut gathered = Gathered::new(rt.alloc());
+    let mut progress = Progress::new(rt);
     for (number, name) in files.iter().enumerate() {
+        progress.show(rt, streams, number, files.len())?;
         match bytes_of(rt, asked.format(), name.as_str())? {
             Ok(bytes) => gathered.take_file(asked.profile, number, name.as_str(), &bytes)?,
             Err(refusal) => return Ok(Err(refusal)),
         }
     }
+    progress.end(streams);
     Ok(Ok(gathered))
 }
 
@@ -156,6 +173,40 @@ fn load_of(asked: Option<u32>, tool: Tool, kind: Kind) -> u32
     }
 }
 
+/// The number of bytes that may differ of a segment that is shown as near; None if none is shown, as in symbols.
+fn near_of(output: Output, near: Option<usize>) -> Option<usize>
+    ensures { result ≡ near_of output near }
+{
+    match output {
+        Output::Text => near,
+        Output::Json => near,
+        Output::Symbols(_) => None,
+    }
+}
+
+/// The segments that are nearly in the program, if these are asked for.
+fn nearly(
+    alloc: Global,
+    asked: &Asked,
+    loaded: &Loaded,
+    source: Source<'_>,
+    findings: &Findings,
+) -> Result<Vec<Nearly>, AllocError>
+    ensures { IfOk result (λ v. AreNearlyIf (near_of asked.now.output asked.now.near) asked.now.least loaded.now.program source.entry.gathered.now.modules.items v.items) }
+{
+    let least = asked.least;
+    match near_of(asked.output, asked.near) {
+        Some(most) => nearly_of(
+            alloc,
+            source.modules(),
+            &loaded.program,
+            &findings.verdicts,
+            Wanted { most, least },
+        ),
+        None => Ok(Vec::new(alloc)),
+    }
+}
+
 /// What is written of findings.
 fn text_of(
     alloc: Global,
@@ -166,10 +217,12 @@ fn text_of(
 ) -> Result<Vec<u8>, AllocError>
     ensures { IfOk result (λ text. IsOutput asked.now.output asked.now.load loaded.now.kind (map string_bytes source.entry.files.now) source.entry.gathered.now findings.now.verdicts.items text.items) }
 {
+    let nearly = nearly(alloc, asked, loaded, source, findings)?;
     let shown = Shown {
         program: &loaded.program,
         findings,
         shows_possible: asked.shows_possible,
+        nearly: &nearly,
     };
     match asked.output {
         Output::Text => map_text(alloc, Format::Text, source, shown),
@@ -181,6 +234,34 @@ fn text_of(
     }
 }
 
+/// The link text of findings, if one is asked for.
+fn link_of(
+    alloc: Global,
+    asked: &Asked,
+    loaded: &Loaded,
+    source: Source<'_>,
+    findings: &Findings,
+) -> Result<Option<Vec<u8>>, AllocError>
+    requires { AllZip (IsHeldIf loaded.now.program) source.gathered.now.modules.items findings.now.verdicts.items }
+    ensures { IfOk result (λ t. IsLinkIf (is_some asked.now.link) loaded.now.program (map string_bytes source.entry.files.now) source.entry.gathered.now findings.now.verdicts.items (option_map (λ v. v.items) t)) }
+{
+    if asked.link.is_none() {
+        return Ok(None);
+    }
+    let parts = Parts::of(alloc, source.modules(), &loaded.program, findings)?;
+    let text = link_text(alloc, source, &parts)?;
+    Ok(Some(text))
+}
+
+/// What a search gives.
+#[derive(Drop)]
+struct Searched {
+    /// The status of what is written.
+    status: Status,
+    /// The link text, if one is asked for.
+    link: Option<Vec<u8>>,
+}
+
 /// Writes what a search finds.
 fn search<K: Sink>(
     alloc: Global,
@@ -188,16 +269,88 @@ fn search<K: Sink>(
     asked: &Asked,
     loaded: &Loaded,
     source: Source<'_>,
-) -> Result<Status, AllocError>
-    ensures { IfOk result (λ status. (f : Findings) × (text : List ℕ) × IsOutput asked.now.output asked.now.load loaded.now.kind (map string_bytes source.entry.files.now) source.entry.gathered.now f.verdicts.items text × IsPut (K.seen writer.old) (K.seen writer.new) text status) }
+) -> Result<Searched, AllocError>
+    ensures { IfOk result (λ s. (f : Findings) × (text : List ℕ) × IsOutput asked.now.output asked.now.load loaded.now.kind (map string_bytes source.entry.files.now) source.entry.gathered.now f.verdicts.items text × IsPut (K.seen writer.old) (K.seen writer.new) text s.status × IsLinkIf (is_some asked.now.link) loaded.now.program (map string_bytes source.entry.files.now) source.entry.gathered.now f.verdicts.items (option_map (λ v. v.items) s.link)) }
 {
     let options = FindOptions {
         least: asked.least,
-        most: 64,
+        most: 16,
     };
     let findings = find(alloc, source.modules(), &loaded.program, &options)?;
     let text = text_of(alloc, asked, loaded, source, &findings)?;
-    Ok(put(writer, &text))
+    let link = link_of(alloc, asked, loaded, source, &findings)?;
+    let status = put(writer, &text);
+    Ok(Searched { status, link })
+}
+
+/// Writes that a file could not be written: a line on the standard error, or in JSON an object on the output. Returns `Failed`.
+fn tell_unwritten<K: Sink, E: Sink>(
+    alloc: Global,
+    streams: &mut Streams<K, E>,
+    format: Format,
+    name: &str,
+    error: &io::Error,
+) -> Result<Status, AllocError> {
+    match format {
+        Format::Text => {
+            let mut line = String::new(alloc);
+            put_unwritten(&mut line, name, error)?;
+            streams.report(alloc, line.as_bytes())?;
+        }
+        Format::Json => {
+            let reason = format!(in alloc; "{error}")?;
+            let object = fault_object(alloc, "write", name, reason.as_str())?;
+            let _ = put(&mut streams.output, &object);
+        }
+    }
+    Ok(Status::Failed)
+}
+
+/// Writes a link text to its file, if there is one. Returns the status.
+fn write_link<K: Sink, E: Sink>(
+    rt: &HostRuntime,
+    streams: &mut Streams<K, E>,
+    asked: &Asked,
+    text: Option<&Vec<u8>>,
+) -> Result<Status, AllocError> {
+    let (Some(name), Some(bytes)) = (&asked.link, text) else {
+        return Ok(Status::Done);
+    };
+    let file = OutputFile {
+        name: name.as_str(),
+        bytes,
+    };
+    match write_outputs(rt, &mut streams.output, file, None)? {
+        None => Ok(Status::Done),
+        Some(unwritten) => {
+            let format = asked.format();
+            tell_unwritten(
+                rt.alloc(),
+                streams,
+                format,
+                unwritten.name,
+                &unwritten.error,
+            )
+        }
+    }
+}
+
+/// Refuses a file for a link text that is an input of the run. Returns the status then.
+fn refuse_link<K: Sink, E: Sink>(
+    rt: &HostRuntime,
+    streams: &mut Streams<K, E>,
+    asked: &Asked,
+) -> Result<Option<Status>, AllocError> {
+    let Some(name) = &asked.link else {
+        return Ok(None);
+    };
+    let files = RunFiles {
+        inputs: &asked.files,
+        text: None,
+        output: name.as_str(),
+        second: None,
+    };
+    refuse_clash(rt, streams, files)
 }
 
 /// Writes lines of warnings on the standard error, or objects on the output. Returns the status.
@@ -269,11 +422,14 @@ fn act_on<K: Sink, E: Sink>(
     files: &[String],
 ) -> Result<Status, AllocError> {
     let format = asked.format();
+    if let Some(status) = refuse_link(rt, streams, asked)? {
+        return Ok(status);
+    }
     let loaded = match program_of(rt, asked, name)? {
         Ok(loaded) => loaded,
         Err(refusal) => return Ok(refuse(rt.alloc(), streams, format, &refusal)),
     };
-    let gathered = match modules_of(rt, asked, files)? {
+    let gathered = match modules_of(rt, streams, asked, files)? {
         Ok(gathered) => gathered,
         Err(refusal) => return Ok(refuse(rt.alloc(), streams, format, &refusal)),
     };
@@ -284,8 +440,9 @@ fn act_on<K: Sink, E: Sink>(
         files,
         gathered: &gathered,
     };
-    let status = search(rt.alloc(), &mut streams.output, asked, &loaded, source)?;
-    Ok(status.worst(noted))
+    let searched = search(rt.alloc(), &mut streams.output, asked, &loaded, source)?;
+    let linked = write_link(rt, streams, asked, searched.link.as_ref())?;
+    Ok(searched.status.worst(linked).worst(noted))
 }
 
 /// Writes that memory ran out: a line on the standard error, or in JSON an object on the output. Returns `Failed`.

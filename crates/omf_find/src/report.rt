@@ -6,6 +6,7 @@ ghost use Rattle.omf_find.specs.Map.{IsMap, name_line, segment_line};
 
 use crate::fields::{Format, address, begin, close, name, number, word};
 use crate::gaps::{Gap, gaps_of, longest, size_of_all};
+use crate::near::{Nearly, put_nearly};
 use crate::rows::{NameRow, SegmentRow, asked_rows, name_rows_of, segment_rows_of};
 use crate::source::Source;
 use omf_finding::{Candidate, Findings, Program, Verdict, Why};
@@ -198,6 +199,8 @@ pub struct Shown<'a> {
     pub findings: &'a Findings,
     /// Whether the places that are only possible are shown.
     pub shows_possible: bool,
+    /// The segments that are nearly in the program, if these are asked for.
+    pub nearly: &'a [Nearly],
 }
 
 /// Appends the line with the program's address and length, and how much of it is explained.
@@ -250,7 +253,7 @@ fn put_open(
     put_nothing(text, format, shown.findings)
 }
 
-/// What follows the publics: the names that are asked for, the possible places if they are asked for, and what is still open.
+/// What follows the publics: the names that are asked for, the possible places and what is near if these are asked for, and what is still open.
 fn others_text(
     alloc: Global,
     format: Format,
@@ -264,6 +267,7 @@ fn others_text(
     if shown.shows_possible {
         put_possible(&mut text, format, source, shown.findings)?;
     }
+    put_nearly(&mut text, format, source, shown.nearly)?;
     put_open(&mut text, format, source, shown, rows)?;
     Ok(text)
 }

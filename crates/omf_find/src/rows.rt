@@ -125,7 +125,7 @@ fn push_segments(
 }
 
 /// What is known of a module.
-fn verdict_of(verdicts: &[Verdict], number: usize) -> Option<&Verdict>
+pub fn verdict_of(verdicts: &[Verdict], number: usize) -> Option<&Verdict>
     ensures { option_map (λ v. v.now) result ≡ slice_get verdicts.now number }
 {
     verdicts.get(number)
