@@ -265,6 +265,8 @@ struct omf_answer omf_link_image(const uint8_t *input, size_t length, uint32_t b
  * (docs/DOS.md). A member of a library is such a module, where omf_library_members has it. Loaded at any paragraph, the file is what the modules are at
  * their placements moved there. Returns OMF_DONE, OMF_NOT_LINKED, OMF_ROOM, OMF_MEMORY; or OMF_REFUSED or OMF_REACH with the module in
  * `record_count`.
+ * It does not look for near calls into another frame, segments and groups of more than 64 KB, and segments between the parts of the stack,
+ * as `omf-link exe` does.
  * A communal is an external here: some module must have a public of its name. `omf-link exe` adds a module for communals. A name with more than one
  * public is a fault also if no external asks for it: OMF_REPEATED. */
 struct omf_answer omf_exe(const uint8_t *input, size_t length, uint8_t *out, size_t room);

@@ -3,8 +3,8 @@
 ghost use Rattle.std.specs.Prelude.{◌≡◌, ◌⊎◌, ◌<◌, IfOk, IfSome, IfNone, string_bytes};
 ghost use Rattle.omf_cmd.specs.FaultLine.{fault_line};
 ghost use Rattle.omf_frame.specs.Fault.{reason_name, reason_number, sentence};
-ghost use Rattle.omf_c.specs.Answers.{of_fault};
-ghost use Rattle.omf_c.specs.Texts.{IsFaultText, IsReasonText};
+ghost use Rattle.omf_c.specs.Answers.{cause_number, kind_number, of_reach};
+ghost use Rattle.omf_c.specs.Texts.{Finds, HasIndex, IsFaultText, IsInRange, IsOfNoFault, IsReasonText, IsResultOf};
 
 use crate::answer::{Answer, fault_answer};
 use omf_cmd::{RunFault, fault_line};
@@ -76,7 +76,9 @@ pub(crate) fn reason_sentence(number: u32) -> &'static str
 }
 
 /// The kind with a number.
-fn kind_of(number: u32) -> Option<Kind> {
+fn kind_of(number: u32) -> Option<Kind>
+    ensures { Finds result (λ kind. kind_number kind ≡ number) }
+{
     match number {
         1 => Some(Kind::Segment),
         2 => Some(Kind::Group),
@@ -86,7 +88,9 @@ fn kind_of(number: u32) -> Option<Kind> {
 }
 
 /// The cause with a number.
-fn cause_of(number: u32) -> Option<Cause> {
+fn cause_of(number: u32) -> Option<Cause>
+    ensures { Finds result (λ cause. cause_number cause ≡ number) }
+{
     match number {
         1 => Some(Cause::Target),
         2 => Some(Cause::Location),
@@ -96,7 +100,10 @@ fn cause_of(number: u32) -> Option<Cause> {
 }
 
 /// The reason why a placement does not reach that a result's numbers give, if they give one.
-fn reach_of(answer: &Answer) -> Option<ReachFault> {
+fn reach_of(answer: &Answer) -> Option<ReachFault>
+    ensures found { Finds result (λ fault. HasIndex fault × (of_reach fault ≡ answer.now)) }
+    ensures range { IfSome result HasIndex }
+{
     let index = u16::try_from(answer.index).ok()?;
     match answer.reason {
         1 => Some(ReachFault::Missing(kind_of(answer.kind)?, index)),
@@ -112,7 +119,10 @@ fn reach_of(answer: &Answer) -> Option<ReachFault> {
 }
 
 /// The refusal that a result's numbers give, if they give one.
-fn refusal_of(answer: &Answer) -> Option<RunFault> {
+fn refusal_of(answer: &Answer) -> Option<RunFault>
+    ensures found { answer.now.status ≡ 4 → Finds result (IsResultOf answer.now) }
+    ensures range { IfSome result IsInRange }
+{
     let place = Place {
         number: answer.number,
         start: answer.start,
@@ -123,20 +133,26 @@ fn refusal_of(answer: &Answer) -> Option<RunFault> {
 }
 
 /// The fault that a result's numbers give, if they give one.
-fn numbered(answer: &Answer) -> Option<RunFault> {
+fn numbered(answer: &Answer) -> Option<RunFault>
+    ensures found { Finds result (IsResultOf answer.now) }
+    ensures range { IfSome result IsInRange }
+{
     match answer.status {
         1 => Some(RunFault::Memory),
+        2 => Some(RunFault::Read),
+        3 => Some(RunFault::Write),
         4 => refusal_of(answer),
         5 => Some(RunFault::Line(answer.line)),
         6 => Some(RunFault::TooLong),
         7 => Some(RunFault::Reach(reach_of(answer)?)),
-        0 | 2 | 3 | 8.. => None,
+        0 | 8.. => None,
     }
 }
 
 /// The fault whose result this is, if it is that of a fault.
 fn fault_of(answer: &Answer) -> Option<RunFault>
-    ensures { IfSome result (λ fault. of_fault fault ≡ answer.now) }
+    ensures some { IfSome result (IsResultOf answer.now) }
+    ensures none { IfNone result (IsOfNoFault answer.now) }
 {
     let fault = numbered(answer)?;
     if fault_answer(fault) == *answer {

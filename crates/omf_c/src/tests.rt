@@ -190,7 +190,7 @@ const UNREACHED: Answer = Answer {
     ..NOTHING
 };
 
-static LINES: [Line; 10] = [
+static LINES: [Line; 13] = [
     Line {
         answer: REFUSED,
         text: b"refused 2 Cut record 4 at 34 within 2",
@@ -201,6 +201,20 @@ static LINES: [Line; 10] = [
             ..NOTHING
         },
         text: b"memory",
+    },
+    Line {
+        answer: Answer {
+            status: 2,
+            ..NOTHING
+        },
+        text: b"read",
+    },
+    Line {
+        answer: Answer {
+            status: 3,
+            ..NOTHING
+        },
+        text: b"write",
     },
     Line {
         answer: Answer {
@@ -262,6 +276,14 @@ static LINES: [Line; 10] = [
             status: 8,
             size: 26,
             ..NOTHING
+        },
+        text: b"",
+    },
+    Line {
+        answer: Answer {
+            reason: 3,
+            index: 65_536,
+            ..UNREACHED
         },
         text: b"",
     },
