@@ -2,13 +2,14 @@
 """Tries omf-find: find.py [--first SEED --count N] [--seconds S] [--keep FOLDER]
 
 On programs that omf-link makes of the examples, whose addresses its map has: of given modules and of libraries, as .EXE, as .COM and as a raw
-image. Each segment that is found must be where the map has it; how many of those with code are found is counted. And on files that are no programs, or
-are packed, and with parts of files that are refused. With a seed instead on programs of tests/executed.py, which NASM assembles. OMF_FIND, OMF_LINK and OMF_LIB name the programs (omf-find, omf-link and omf-lib, if not
+image. Each segment that is found must be where the map has it; how many of those with code are found is counted. On files that are no programs, or
+are packed, and with parts of files that are refused. On programs in which bytes of a routine differ (--near). What `--link` writes is linked again, and compared with the program. With a seed instead on programs of tests/executed.py, which NASM assembles. OMF_FIND, OMF_LINK and OMF_LIB name the programs (omf-find, omf-link and omf-lib, if not
 set). The last line has how much was tried."""
 import argparse
 import json
 import os
 import pathlib
+import random
 import re
 import shutil
 import struct
@@ -103,6 +104,8 @@ def linked(folder):
         symbols(folder, program, files, lines_of(folder, program, *files), task)
         if not found:
             fails(names, "nothing is found")
+        linked_again(names, folder, program, "--least", "8", program, *files)
+        linked_again([*names, "library"], folder, program, program, "rt.lib")
 
 
 # Each tool: what is added to the addresses of an .EXE, and what a line of a symbol looks like.
@@ -129,6 +132,123 @@ def symbols(folder, program, files, lines, task):
         _, moved, _ = run(FIND, "--symbols", tool, "--load", "20000", program, *files, folder=folder)
         if [int(it["address"], 16) - 0x20000 for it in map(re.compile(form).fullmatch, moved.splitlines()) if it] != [address for _, address in wanted]:
             fails(tool, "--load")
+
+
+# What omf-link is asked to allow: what a program's places are need not be what it would choose.
+ALLOWED = [word for kind in ("twice", "overlap", "align", "group", "frame", "near") for word in ("--allow", kind)]
+lines_linked, left_out_of_links, bytes_linked = 0, 0, 0
+
+
+def image_of(path):
+    """The address of the first byte of a program, and its bytes."""
+    file = path.read_bytes()
+    if path.suffix != ".exe":
+        return 0x100 if path.suffix == ".com" else 0, file
+    last, pages, _, paragraphs = struct.unpack_from("<4H", file, 2)
+    return 0, file[16 * paragraphs:512 * pages - (512 - last if last else 0)]
+
+
+def linked_again(what, folder, program, *words):
+    """By what `--link` writes omf-link puts the members that are found where they are: each byte of a segment that is found is the program's."""
+    global tried, left_out_of_links, lines_linked, bytes_linked
+    tried += 1
+    (folder / "found.link").unlink(missing_ok=True)
+    shutil.rmtree(folder / "members", ignore_errors=True)
+    lines = lines_of(folder, "--link", "found.link", *words)
+    text = (folder / "found.link").read_text("latin-1")
+    taken = [(file, int(member)) for file, member in re.findall(r'^M .* ;  file "([^"]*)"  member (\d+)  module ', text, re.M)]
+    out = [(file, int(member)) for file, member in re.findall(r'^; left out:  file "([^"]*)"  member (\d+)  module ', text, re.M)]
+    found = {(it["file"], it["member"]) for it in lines if "segment" in it}
+    if not found <= {*taken, *out} or len({*taken, *out}) != len(taken) + len(out):
+        fails(what, "--link", sorted(found), taken, out)
+    left_out_of_links += len(out)
+    lines_linked += len(taken)
+    files = []
+    for number, (file, member) in enumerate(taken):
+        if not file.endswith(".lib"):
+            files.append(file)
+            continue
+        (folder / "members" / str(number)).mkdir(parents=True)
+        status, output, error = run(LIB, "get", file, member, "-d", f"members/{number}", "--numbered", folder=folder)
+        if status:
+            fails(what, "omf-lib get", output, error)
+        files.append(f"members/{number}/{member}.obj")
+    if not files:
+        return
+    status, output, error = run(LINK, "image", *ALLOWED, "-t", "found.link", *files, folder=folder)
+    if status:
+        fails(what, "omf-link image", status, error)
+        return
+    memory = {int(at, 16) + k: int(it, 16) for at, bytes_ in re.findall(r"^([0-9A-F]{8}): ([0-9A-F ]+)$", output, re.M) for k, it in enumerate(bytes_.split())}
+    base, image = image_of(folder / program)
+    shown = set()
+    for it in lines:
+        if "segment" in it and (it["file"], it["member"]) not in out:
+            shown.update(range(it["segment"], it["segment"] + it["length"]))
+    wrong = [hex(at) for at in sorted(shown) if at in memory and (not base <= at < base + len(image) or memory[at] != image[at - base])]
+    bytes_linked += sum(at in memory for at in shown)
+    if wrong or not any(at in memory for at in shown):
+        fails(what, "linked again differs at", wrong[:10])
+
+
+def link_files(folder):
+    """The file of `--link` is a file, and none of the others."""
+    global tried
+    obj = (EXAMPLES / "com" / "say.obj").read_bytes()
+    (folder / "x.com").write_bytes(b"\x90" * 16)
+    (folder / "say.obj").write_bytes(obj)
+    for name, status in (("-", 2), ("x.com", 2), ("say.obj", 2), ("no/found.link", 3), ("none.link", 0)):
+        tried += 1
+        done, output, error = run(FIND, "--link", name, "x.com", "say.obj", folder=folder)
+        if done != status or bool(error) != bool(status) or ("nothing found" in output) != (status != 2):
+            fails("--link", name, done, output, error)
+    head = f"; omf-link image {' '.join(ALLOWED)} -t TEXT MODULE ..\n"
+    if (folder / "none.link").read_text() != head or (folder / "x.com").read_bytes() != b"\x90" * 16 or (folder / "say.obj").read_bytes() != obj:
+        fails("--link", "the files")
+    done, output, error = run(FIND, "--json", "--link", "no/found.link", "x.com", "say.obj", folder=folder)
+    if done != 3 or error or {"fault": "write", "name": "no/found.link"}.items() - json.loads(output.splitlines()[-1]).items():
+        fails("--json --link", done, output, error)
+
+
+def record(kind, contents):
+    """A record."""
+    head = bytes([kind]) + struct.pack("<H", len(contents) + 1) + contents
+    return head + bytes([-sum(head) % 256])
+
+
+def code_module(name, segments, fixup=b""):
+    """A module with segments of code, each of a name and bytes; the fixup is one of the last."""
+    made = record(0x80, bytes([len(name)]) + name) + record(0x96, b"\x00\x04CODE" + b"".join(b"\x01" + it for it, _ in segments))
+    for index, (_, data) in enumerate(segments):
+        made += record(0x98, b"\x28" + struct.pack("<H", len(data)) + bytes([index + 3, 2, 1]))
+    for index, (_, data) in enumerate(segments):
+        for at in range(0, len(data), 1000):
+            made += record(0xA0, bytes([index + 1]) + struct.pack("<H", at) + data[at:at + 1000])
+    return made + (record(0x9C, fixup) if fixup else b"") + record(0x8A, b"\x00")
+
+
+def absent_segments(folder):
+    """A segment that is not in the program calls one that is, in the frame at 0. So it can't be after the program of 70,000 bytes: it is in the first
+    gap of its length; and if the gaps up to 64 KB are shorter, its module is left out."""
+    global tried
+    code, large = bytes(range(1, 18)), random.Random(1).randbytes(0xFE00)
+    for length, others, wanted in ((16, b"", ['S "T" 100 0 0', 'S "D" 0 0 0']), (0x200, large, ['S "B" 200 0 0'])):
+        tried += 1
+        program = bytearray(b"\x90" * 70_000)
+        program[0x100:0x100 + len(code)] = code
+        program[0x200:0x200 + len(others)] = others
+        (folder / "x.bin").write_bytes(program)
+        # A self-relative offset of 16 bits at 1, in the frame of its target (F5), the first segment (T4).
+        dropped = b"\xE8\0\0" + b"\xF1\xF2\xF3\xF4" * (length // 4 - 1) + b"\xC3"
+        (folder / "m.obj").write_bytes(code_module(b"m", [(b"T", code), (b"D", dropped)], b"\x84\x01\x54\x01"))
+        (folder / "b.obj").write_bytes(code_module(b"b", [(b"B", large)]))
+        words = ["--base", "0", "--frame", "0", "x.bin", "m.obj", "b.obj"]
+        status, output, error = run(FIND, "--link", "x.link", *words, folder=folder)
+        text = (folder / "x.link").read_text().splitlines()
+        out = [it for it in text if it.startswith("; left out:")]
+        if status or error or [it for it in text if it.startswith("S ")] != wanted or out != (['; left out:  file "m.obj"  member 0  module "m"'] if others else []):
+            fails("a segment that is absent", length, status, output, error, text)
+        linked_again(("absent", length), folder, "x.bin", *words)
 
 
 def header(image=b"", last=None, pages=None, count=0, paragraphs=2, start=(0, 0), table=28):
@@ -243,7 +363,79 @@ def look_at_made(seed, folder):
     places, code = mapped((folder / "made.map").read_text())
     numbers = {file: int(number) for number, file in re.findall(r'^module (\d+) file "([^"]*)"', (folder / "made.map").read_text(), re.M)}
     plan.random.shuffle(names)
+    linked_again(f"seed {seed}", folder, program, "--least", "8", program, *names)
     compare(f"seed {seed}", lines_of(folder, "--least", "8", program, *names), places, code, lambda file, member: numbers[file])
+
+
+def named(name):
+    return bytes([len(name)]) + name
+
+
+def module(name, data, publics, externals=(), fixups=b""):
+    """A module of one segment S with these bytes, publics at offsets, and the fixups of a FIXUPP."""
+    records = [record(0x80, named(name)), record(0x96, named(b"") + named(b"S")), record(0x98, bytes([0x28]) + struct.pack("<H", len(data)) + bytes([2, 1, 1]))]
+    if externals:
+        records.append(record(0x8C, b"".join(named(it) + b"\0" for it in externals)))
+    records.append(record(0x90, bytes([0, 1]) + b"".join(named(it) + struct.pack("<HB", at, 0) for it, at in publics)))
+    records.append(record(0xA0, bytes([1, 0, 0]) + data))
+    if fixups:
+        records.append(record(0x9C, fixups))
+    return b"".join(records) + record(0x8A, b"\0")
+
+
+def replaced(data, *changes):
+    """Bytes with others at some offsets."""
+    data = bytearray(data)
+    for at, value in changes:
+        data[at] = value
+    return bytes(data)
+
+
+ROUTINE = bytes(range(1, 21))
+X = 'file "x.obj"  member 0  module "x"  index 1  name "S"  class ""'
+BYTE_3 = 'byte 00000108  index 1  offset 00000003  public "f"  after 00000003  own 04  program 40'
+BYTE_12 = 'byte 00000111  index 1  offset 0000000C  public "g"  after 00000002  own 0D  program D0'
+# The bytes of a program from 100H on, the options, and the lines on what is near. The routine is at 105H, where bytes 3 and 12 differ.
+CHANGED = replaced(ROUTINE, (3, 0x40), (12, 0xD0))
+NEAR = [(bytes(5) + CHANGED, ("--near", "2"), [f"near 00000105  length 00000014  differs 2  {X}", BYTE_3, BYTE_12]),
+        (bytes(5) + CHANGED, ("--near", "1"), []), (bytes(5) + CHANGED, (), []),
+        (bytes(5) + CHANGED, ("--near", "2", "--least", "19"), []), (bytes(5) + CHANGED, ("--near", "20", "--least", "18"), [f"near 00000105  length 00000014  differs 2  {X}", BYTE_3, BYTE_12]),
+        # It is there too.
+        (bytes(5) + CHANGED + ROUTINE, ("--near", "2"), []),
+        # Another place has fewer differences.
+        (bytes(5) + CHANGED + replaced(ROUTINE, (0, 0)), ("--near", "2"), [f"near 00000119  length 00000014  differs 1  {X}", 'byte 00000119  index 1  offset 00000000  public "f"  after 00000000  own 01  program 00']),
+        # The last byte is past the program's end.
+        (bytes(5) + ROUTINE[:19], ("--near", "2"), [f"near 00000105  length 00000014  differs 1  {X}", 'byte 00000118  index 1  offset 00000013  public "g"  after 00000009  own 14  program none'])]
+
+
+def near(folder):
+    """Segments of which some bytes differ, and references that go elsewhere."""
+    global tried
+    (folder / "x.obj").write_bytes(module(b"x", ROUTINE, [(b"f", 0), (b"g", 10)]))
+    for program, options, wanted in NEAR:
+        tried += 1
+        (folder / "near.bin").write_bytes(program)
+        status, output, error = run(FIND, "--base", "100", *options, "near.bin", "x.obj", folder=folder)
+        found = [it for it in output.splitlines() if it.split()[0] in ("near", "byte", "reference")]
+        if status or error or found != wanted:
+            fails("--near", options, status, found, wanted, error)
+    (folder / "near.bin").write_bytes(bytes(5) + CHANGED)
+    objects = [it for it in lines_of(folder, "--base", "100", "--near", "2", "near.bin", "x.obj") if "near" in it or "byte" in it]
+    own = {"file": "x.obj", "member": 0, "module": "x", "index": 1, "name": "S", "class": ""}
+    if objects != [{"near": 0x105, "length": 20, "differs": 2, **own}, {"byte": 0x108, "index": 1, "offset": 3, "public": "f", "after": 3, "own": 4, "program": 0x40},
+                   {"byte": 0x111, "index": 1, "offset": 12, "public": "g", "after": 2, "own": 13, "program": 0xD0}]:
+        fails("--near", "--json", objects)
+    # A call of h at offset 2 of the other module, which is at 100H, goes to 101H: 36H before the byte after it, which is at 137H. Byte 12 differs too.
+    calls = ROUTINE + b"\xE8\0\0\x90"
+    (folder / "x.obj").write_bytes(module(b"x", calls, [(b"f", 0)], [b"h"], bytes([0x84, 21, 0x56, 1])))
+    (folder / "y.obj").write_bytes(module(b"y", bytes(range(0x40, 0x60)), [(b"h", 2)]))
+    (folder / "near.bin").write_bytes(bytes(range(0x40, 0x60)) + replaced(calls, (12, 0xD0), (21, 0xCA), (22, 0xFF)))
+    tried += 1
+    status, output, error = run(FIND, "--base", "100", "--near", "2", "near.bin", "x.obj", "y.obj", folder=folder)
+    found = [it for it in output.splitlines() if it.split()[0] in ("byte", "reference")]
+    if found != ['byte 0000012C  index 1  offset 0000000C  public "f"  after 0000000C  own 0D  program D0',
+                 'reference 00000135  index 1  offset 00000015  public "f"  after 00000015  name "h"  own 00000102  program 00000101']:
+        fails("--near", "a reference", output, error)
 
 
 def look_at_all_made(asked):
@@ -265,6 +457,9 @@ def look_at_written():
         folder = pathlib.Path(work)
         files(folder)
         parts(folder)
+        link_files(folder)
+        near(folder)
+        absent_segments(folder)
         linked(folder)
 
 
@@ -280,6 +475,7 @@ def main():
     else:
         look_at_written()
     print(f"{code_found} of {code_segments} segments of code found")
+    print(f"{lines_linked} modules linked again, {bytes_linked} bytes of segments compared, {left_out_of_links} modules left out")
     print(f"{tried} runs, {failed} failed")
     return 1 if failed else 0
 

@@ -16,6 +16,15 @@ from promises import ROOT, program  # noqa: E402
 TABLE = ROOT / "tests" / "mistakes.txt"
 FILES = ["first.omf", "reasons/06-Checksum.omf", "library/small.lib", "com/hello.obj", *(f"exe/{it}.obj" for it in ("main", "show", "report")), *(f"link/{it}.obj" for it in ("start", "say", "mark")), "link/program.link"]
 
+# Texts with mistakes, and response files: each is a file of this name.
+TEXTS = {
+    "module.link": 'M "sart.asm"\n', "segment.link": 'M "start.asm"\nS "_TEXT" 7C00 0 0\n', "group.link": 'M "start.asm"\nG "dgroop" 7C40 7C4\n', "external.link": 'M "start.asm"\nX "sya" 7C00 0 0\n',
+    "unlike.link": 'M "start.asm"\nX "_printf" 7C00 0 0\n', "number.link": 'M "start.asm"\n\tS\t"text" 7G00 0 0\n', "front.link": '; no module yet\nS "text" 7C00 0 0\n', "again.link": 'M "start.asm"\nS "text" 7C00 0 0\nS "text" 7C00 0 0\n',
+    "lower.link": 'M "start.asm"\nS "t\\xffxt" 7C00 0 0\n', "gap.link": 'M "start.asm"\nS "text" 7C00 0 0\n',
+    "cp437.link": b'M "st\x84rt.asm"\n', "mark.link": b'\xEF\xBB\xBFM\t"start.asm"\r\n\tS "text"\t7C00 0 0\r\n', "plain.link": 'M "start.asm"\nS "text" 7C00 0 0\n',
+    "bin.rsp": "bin --base 7C00\n--size\t200 -t 'program.link'\r\n\"start.obj\" say.obj mark.obj", "wrong.rsp": "--base 7G00", "dash.rsp": "--verdict -- -x.obj",
+}
+
 
 def rows():
     """The rows of the table: a call, its status and its line."""
@@ -74,12 +83,43 @@ def stops(folder, call, status, printed, said):
         yield f"{found}"
 
 
+# Calls of which each does what the first one does: its status, and its bytes on both outputs.
+SAME = [
+    ["omf-link bin --base 7C00 --size 200 -t program.link start.obj say.obj mark.obj", "omf-link bin --base 0x7C00 --size 0x200 -t program.link start.obj say.obj mark.obj",
+     "omf-link bin --base 7c00h --size 200H --fill FFH -t program.link start.obj say.obj mark.obj", "omf-link @bin.rsp"],
+    ["omf-link bin --base 0 --size 10000 -t program.link start.obj say.obj mark.obj", "omf-link bin --base 0 --size 64K -t program.link start.obj say.obj mark.obj"],
+    ["omf-link exe --stack 4096 -o - main.obj show.obj report.obj", "omf-link exe --stack 4K -o - main.obj show.obj report.obj", "omf-link exe --stack 0x1000 -o - main.obj show.obj report.obj"],
+    ["omf-link map -t plain.link start.obj", "omf-link map -t mark.link start.obj"],
+    ["omf-place --base 7C00 first.omf", "omf-place --base 0x7C00 first.omf", "omf-place --base 7C00H first.omf"],
+    ["omf-link --help", "omf-link -h", "omf-link help", "omf-link exe --help", "omf-link bin -h"],
+    ["omf-lib --help", "omf-lib -h", "omf-lib help", "omf-lib find --help"],
+    *([f"{it} --help", f"{it} -h"] for it in ("omf-dump", "omf-find", "omf-place")),
+    ["omf-dump --verdict -- -x.obj", "omf-dump @dash.rsp"],
+    ["omf-lib find small.lib _gets", "omf-lib find small.lib \\x5Fgets", "omf-lib find small.lib _get\\x73"],
+]
+
+
+def others(folder, first, *calls):
+    """The calls that do something else than the first, or all if that one is not done."""
+    wanted = None
+    for call in (first, *calls):
+        name, *words = words_of(call)
+        done = subprocess.run([program(name.decode().replace("-", "_")), *words], cwd=folder, stdin=subprocess.DEVNULL, capture_output=True, timeout=60, check=False)
+        found = done.returncode, done.stdout, done.stderr
+        wanted = wanted or found
+        if found != wanted or done.returncode or not done.stdout:
+            yield f"{call}: status {done.returncode}, {done.stderr[:80]}"
+
+
 def main():
     wanted, right, wrong = sys.argv[1] if len(sys.argv) > 1 else "", 0, 0
     with tempfile.TemporaryDirectory() as made:
         folder = pathlib.Path(made)
         for name in FILES:
             shutil.copy(ROOT / "examples" / name, folder / pathlib.Path(name).name)
+        for name, text in TEXTS.items():
+            (folder / name).write_bytes(text.encode() if isinstance(text, str) else text)
+        shutil.copy(folder / "first.omf", folder / "-x.obj")
         for number, call, status, said in rows():
             if wanted not in call:
                 continue
@@ -91,6 +131,11 @@ def main():
                 found = list(stops(folder, call, *how))
                 right, wrong = right + (not found), wrong + bool(found)
                 print("".join(f"{call}: {it}\n" for it in found), end="")
+        for calls in SAME:
+            if wanted in calls[0]:
+                found = list(others(folder, *calls))
+                right, wrong = right + (not found), wrong + bool(found)
+                print("".join(f"not as {calls[0]}: {it}\n" for it in found), end="")
     print(f"{right} mistakes told, {wrong} otherwise")
     return 1 if wrong or not right else 0
 

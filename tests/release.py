@@ -84,7 +84,7 @@ def examples():
     for name in ("link", "pair"):
         yield Stage(f"example {name}", [f"examples/{name}/run.sh"], "OMF_LINK", "qemu-system-i386", 300, ran, {"LINK": str(FILES["OMF_LINK"])})
     yield Stage("example firmware", ["examples/firmware/run.sh"], "OMF_LINK", "qemu-system-i386", 300, r"^\w+ boots: \S")
-    for name in ("exe", "com", "order"):
+    for name in ("exe", "com", "order", "models"):
         yield Stage(f"example {name}", [f"examples/{name}/run.sh"], "OMF_LINK OMF_LIB", "dosbox", 300, ran)
     judge = 'out=$(mktemp -d) && trap "rm -rf $out" EXIT && examples/many/run.sh examples "$out"'
     yield Stage("example many", ["bash", "-c", judge], "OMF", "", 300, r"^(\d+) accepted, [1-9]\d* refused")

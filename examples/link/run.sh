@@ -33,10 +33,10 @@ echo "the modules in another order give the same"
 
 # The draft of their text, with the code in the frame of base 0 and the mark at the end of the sector, gives the same as program.link.
 "$link" draft --base 7C00 --real start.obj say.obj mark.obj > "$work/draft"
-# The lines are found by their names, since addresses move with each change of the sources.
-sed -E 's/^(S "text" [0-9A-F]+) .*;/\1 0 0 ;/; s/^S "mark" .*;/S "mark" 7DFE 0 0 ;/' "$work/draft" > "$work/drafted"
+# The lines are found by their names, since addresses move with each change of the sources. The second line of the code is `shared`.
+sed -E 's/^(S "text" [0-9A-F]+) real ;/\1 0 0 ;/; s/^S "mark" .*;/S "mark" 7DFE 0 0 ;/' "$work/draft" > "$work/drafted"
 "$link" image -t "$work/drafted" start.obj say.obj mark.obj | cmp - "$work/shown"
-echo "the draft, with three lines changed, gives the same"
+echo "the draft, with two lines changed, gives the same"
 
 # The sector begins at 7C00H and has 512 bytes; those that no module has are 0.
 "$link" bin --base 7C00 --size 200 --fill 0 -t program.link -o "$work/sector.img" start.obj say.obj mark.obj

@@ -175,6 +175,8 @@ static const struct {
     const char *text;
 } lines[] = {
     {{.status = OMF_MEMORY}, "memory"},
+    {{.status = 2}, "read"},
+    {{.status = 3}, "write"},
     {{.status = OMF_LINE, .line = 2}, "placement line 2"},
     {{.status = OMF_TOO_LONG}, "placement too long"},
     {{.status = OMF_REACH, .reason = OMF_MISSING, .kind = OMF_SEGMENT, .index = 1}, "reach 1 Missing segment 1"},

@@ -4,7 +4,7 @@ import struct
 import subprocess
 
 from libraries import record
-from modules import externals_of, publics_of
+from modules import externals_of, publics_of, titles_of
 
 PARAGRAPH = 16
 COM_FRONT = 0x100
@@ -67,6 +67,23 @@ def moved(text, paragraph):
     return ("\n".join(made) + "\n").encode()
 
 
+def with_frames(text, modules):
+    """A drafted text of these modules in which each line has its frame: `shared` is the frame of the first line for the name and class, or for the group name."""
+    titles, frames, made = iter([titles_of(it) for it in modules]), {}, []
+    for line in text.decode().splitlines():
+        found = re.match(r'([MSG]) (?:#\d+|"[^"]*"(?: "[^"]*")?)', line)
+        if found and found[1] == "M":
+            left = dict(zip("SG", map(iter, next(titles))))
+        elif found:
+            said, mark, comment = line[found.end():].partition(" ;")
+            words, title = said.split(), (found[1], next(left[found[1]]))
+            frame = [f"{int(words[0], 16) // PARAGRAPH * PARAGRAPH:X}", f"{int(words[0], 16) // PARAGRAPH:X}"] if words[-1] == "real" else words[-2:]
+            frame = frames[title] if words[-1] == "shared" else frames.setdefault(title, frame)
+            line = " ".join([found[0], *words[:found[1] == "S"], *frame]) + mark + comment
+        made.append(line)
+    return ("\n".join(made) + "\n").encode()
+
+
 def places_in(text):
     """The places of segments and the frames of groups, by module and index, of a text whose lines are in the order of the indices."""
     places = []
@@ -94,7 +111,7 @@ def public_place(places, group, segment, frame, offset):
 
 def relocated(omf, modules, text):
     """The memory and the start of modules, each relocated alone by `omf reloc` at its places of the text; or the first line with a fault."""
-    places, memory, start = places_in(text), {}, None
+    places, memory, start = places_in(with_frames(text, modules)), {}, None
     found = {one[0]: public_place(there, *one[1:]) for module_, there in zip(modules, places) for one in publics_of(module_)}
     for module_, (segments, groups) in zip(modules, places):
         lines = [f"S {it[0]:X} {it[1]:X} {it[2]:X}" for it in segments] + [f"G {it[0]:X} {it[1]:X}" for it in groups]

@@ -139,6 +139,7 @@ class Exe:
         """The file at some paragraphs, and the memory of the modules there."""
         status, text = run([self.link, "draft", "--base", "0", "--real", *names], folder=folder)
         promised(status == 0, f"draft: {text[:200]}")
+        text = executables.with_frames(text, inputs)
         for paragraph in (0, *(self.random.randrange(1, 0x8000) for _ in range(2))):
             image, start, _ = self.LOADED(file, paragraph)
             (folder / "text").write_bytes(executables.moved(text, paragraph))

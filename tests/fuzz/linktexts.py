@@ -4,9 +4,9 @@ import re
 import executables
 from modules import UNRESOLVED, is_simple, unresolved_lines
 from promises import ALLOW_ALL, program, promised, run
-from texts import TURNS, changed_text, first_bad, is_linked, respelled
+from texts import TURNS, as_read, changed_text, first_bad, is_linked, respelled
 
-FAULT = re.compile(rb"(?:file|text line|module|two starts|no room|memory)\b")
+FAULT = re.compile(rb"(?:text: line .*\n  |(?:file|module|two starts|no room|memory)\b).*\n")
 MOST = 1 << 16
 
 
@@ -53,12 +53,12 @@ class LinkText:
         return made
 
     def task(self, task, names, folder, text=None, *options):
-        """The status and the output of a task; of a fault one line, or one for each name."""
+        """The status and the output of a task; of a fault one line, or one for each name; of one in the text two, with its line."""
         if text is not None:
             (folder / "text").write_bytes(text)
         text_options = [] if text is None else [*ALLOW_ALL, "-t", "text"]
         status, answer = run([self.link, task, *options, *text_options, *names], folder=folder)
-        is_fault = (answer.count(b"\n") == 1 and FAULT.match(answer)) or UNRESOLVED.fullmatch(answer)
+        is_fault = FAULT.fullmatch(answer) or UNRESOLVED.fullmatch(answer)
         promised(status == 0 or (status == 1 and is_fault), f"{task}: status {status}, {answer[:200]}")
         return status, answer
 
@@ -117,7 +117,7 @@ class LinkText:
     def try_text(self, names, folder, text):
         """The first line that is no entry is reported; where there is none, no line is not understood."""
         status, answer = self.task("image", names, folder, text)
-        bad = first_bad(text, is_linked)
-        said = re.fullmatch(rb"text line (\d+): not understood\n", answer)
+        bad = first_bad(as_read(text), is_linked)
+        said = re.match(rb"text: line (\d+): (?:expected|a byte that is not ASCII)", answer)
         promised((int(said[1]) if said else None) == bad, f"line {bad}, and {answer[:200]}")
         self.compared += 1

@@ -8,6 +8,7 @@ from libraries import record
 
 EXTERNALS, COMMUNALS = (0x8C,), (0xB0,)
 PUBLICS = (0x90, 0x91)
+LISTS, SEGMENTS, GROUPS = (0x96, 0xCA), (0x98, 0x99), (0x9A,)
 LOCALS = (0xB4, 0xB5, 0xB6, 0xB7, 0xB8, 0xB9)
 LOCAL_PUBLICS, LOCAL_COMMUNALS = (0xB6, 0xB7), (0xB8, 0xB9)
 # The comments that pair an external with its default, by their class.
@@ -73,6 +74,22 @@ def publics_of(bytes_):
             _, at = index_at(body, at + (4 if kind & 1 else 2))
             found.append((name, group, segment, frame, offset))
     return found
+
+
+def titles_of(bytes_):
+    """The name and the class of each segment, and the name of each group, by their indices. A name that is missing is empty."""
+    names, segments, groups = [b""], [], []
+    for kind, body in bodies(bytes_, LISTS + SEGMENTS + GROUPS):
+        at = 0
+        while kind in LISTS and at < len(body):
+            name, at = name_at(body, at)
+            names.append(name)
+        if kind in GROUPS:
+            groups.append(names[index_at(body, 0)[0]])
+        elif kind in SEGMENTS:
+            name, at = index_at(body, (4 if body[0] >> 5 == 0 else 1) + (4 if kind & 1 else 2))
+            segments.append((names[name], names[index_at(body, at)[0]]))
+    return segments, groups
 
 
 def name_places(kind, body):

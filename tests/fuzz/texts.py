@@ -8,6 +8,7 @@ from promises import promised, program, run
 NUMBER, SELECTOR = rb"[0-9A-Fa-f]{1,8}", rb"[0-9A-Fa-f]{1,4}"
 PLACE = re.compile(rb"(?:%b %b|0{0,3}[0-9A-Fa-f]{1,5} real)" % (NUMBER + b" " + NUMBER, SELECTOR))
 FRAME = re.compile(rb"(?:%b %b|real)" % (NUMBER, SELECTOR))
+SHARED = {b"S": re.compile(rb"%b shared" % NUMBER), b"G": re.compile(rb"shared")}
 KEY = re.compile(rb'(?: *"[ !#-~]*"(?: *"[ !#-~]*")? *| #([0-9]{1,10})(?: |$))')
 TURNS = 6
 
@@ -39,8 +40,16 @@ def is_linked(line):
     key = KEY.match(text, 1)
     if text[:1] not in (b"M", b"S", b"G", b"X") or not key or (key[1] and int(key[1]) >= 2 ** 32):
         return False
-    rest = text[key.end():]
+    rest, shared = text[key.end():], SHARED.get(text[:1])
+    if shared and shared.fullmatch(rest):
+        return True
     return rest == b"" if text[:1] == b"M" else bool((FRAME if text[:1] == b"G" else PLACE).fullmatch(rest))
+
+
+def as_read(text):
+    """A link text with spaces for the tabs outside of names, and without a byte-order mark."""
+    parts = re.split(rb'("[^"\n]*"?|;[^\n]*)', text.removeprefix(b"\xEF\xBB\xBF"))
+    return b"".join(part if part[:1] == b'"' else part.replace(b"\t", b" ") for part in parts)
 
 
 def first_bad(text, is_line):
@@ -76,7 +85,7 @@ def changed_text(random_, text, others):
         elif kind == 2:
             lines.insert(at, random_.choice(random_.choice(others).split(b"\n")))
         elif kind == 3:
-            words[random_.randrange(len(words))] = random_.choice((b"real", b"0", b"FFFFFFFF", b"100000000", b"FFFFF", b"100000", b"#1", b"#0", b"#4294967296", b'"', b"S", b"X", b"10", b"7c00"))
+            words[random_.randrange(len(words))] = random_.choice((b"real", b"shared", b"0", b"FFFFFFFF", b"100000000", b"FFFFF", b"100000", b"#1", b"#0", b"#4294967296", b'"', b"S", b"X", b"10", b"7c00"))
             lines[at] = b" ".join(words)
         elif kind == 4:
             random_.shuffle(words)

@@ -38,7 +38,7 @@ const FLAT: Options = Options {
 const DRAFT: &str = "M \"M\"\nS \"A\" 401000 0 8 ; class \"A\" align 1 length 5\nG \"B\" 0 8\n\
      ; X \"Y\" address base selector ; to be filled in\n\
      ; X \"Z\" address base selector ; communal length 7\n\
-     M \"N\"\nS \"A\" 401005 0 8 ; class \"A\" align 1 length 4\n\
+     M \"N\"\nS \"A\" 401005 shared ; class \"A\" align 1 length 4\n\
      ; X \"X\" address base selector ; to be filled in\n";
 
 /// Whether modules have the draft, or a growth is refused.
