@@ -34,13 +34,15 @@ _omf_find() {
     case "$before" in
         '--symbols') COMPREPLY=($(compgen -W "ghidra ida r2 nm" -- "$current")); return;;
         '--load') return;;
+        '--near') return;;
+        '--link') return;;
         '--least') return;;
         '--base') return;;
         '--frame') return;;
     esac
     [[ $current == -* ]] || return
     case '' in
-        '') words="--symbols --load --json --possible --least --base --frame --refuse-vendor-comments --help --version";;
+        '') words="--symbols --load --json --possible --near --link --least --base --frame --refuse-vendor-comments --help --version";;
     esac
     COMPREPLY=($(compgen -W "$words" -- "$current"))
 }
