@@ -1,30 +1,16 @@
 -- Numbers as a person types them (a form of this profile).
-use Rattle.std.specs.Prelude.{ℕ, ◌*◌, List, [], ◌∷◌, length, Option, Some, None, option_map, option_and_then, unwrap_or, if◌then◌else◌, ◌==◌, ◌&&◌, ◌||◌, nat_lt, nat_le}
-use Rattle.std.specs.Option.{option_map_or, option_or}
+use Rattle.std.specs.Prelude.{ℕ, ◌*◌, List, length, Option, Some, None, option_and_then, if◌then◌else◌, ◌&&◌, nat_lt, nat_le}
+use Rattle.std.specs.Option.{option_map_or}
 use Rattle.std.specs.Char.{is_digit}
 use Rattle.std.specs.List.{list_all}
 use Rattle.std.specs.Str.Parse.{digits_value}
 -- computed, and proved equal to the rule: numbers_are_read of omf_placement.
 use Rattle.omf_placement.specs.Inner.EntryReading.{hexadecimal}
-
--- What is before one of two letters at the end of a word; none if it ends otherwise.
-abbrev pub before_letter : ℕ → ℕ → List ℕ → Option (List ℕ)
-before_letter upper lower [] = None
-before_letter upper lower (c ∷ []) = if c == upper || c == lower then Some [] else None
-before_letter upper lower (c ∷ d ∷ cs) = option_map (λ front. c ∷ front) (before_letter upper lower (d ∷ cs))
-
--- What is after 0x at the start of a word; none if it starts otherwise.
-abbrev pub after_0x : List ℕ → Option (List ℕ)
-after_0x (first ∷ x ∷ digits) = if first == 48 && (x == 120 || x == 88) then Some digits else None
-after_0x _ = None
-
--- The digits of a word that is marked as hexadecimal: those after 0x, or before an H at the end.
-abbrev pub marked : List ℕ → Option (List ℕ)
-marked word = option_or (after_0x word) (before_letter 72 104 word)
+use Rattle.omf_text.specs.Numerals.{before_letter, digits_of, marked}
 
 -- A number of 1 to most hexadecimal digits, marked or not.
 abbrev pub number : ℕ → List ℕ → Option ℕ
-number most word = hexadecimal most (unwrap_or (marked word) word)
+number most word = hexadecimal most (digits_of word)
 
 -- A number of 1 to 7 decimal digits.
 abbrev pub decimal : List ℕ → Option ℕ

@@ -3,6 +3,7 @@
 use std::alloc::{AllocError, Global};
 use std::fs::{File, Metadata};
 use std::io::{ErrorKind, Read, Write};
+use std::os::unix::fs::{MetadataExt, chown};
 use std::{fs, io};
 
 /// The bytes of a file, or of the standard input if its name is `-`. They take no room beyond their own, since a program may hold
@@ -33,18 +34,40 @@ pub enum Written {
     Failed(io::Error),
 }
 
-/// Gives a file the mode of another one, if there is one, and then its bytes.
-fn fill(file: &mut File, bytes: &[u8], like: Option<&Metadata>) -> io::Result<()> {
+/// Gives a new file the group and the owner of another one, as far as the system lets the process do so.
+fn take_owner(rt: &HostRuntime, path: &str, new: &Metadata, like: &Metadata) {
+    if new.gid() != like.gid() {
+        let _ = chown(rt, path, None, Some(like.gid()));
+    }
+    if new.uid() != like.uid() {
+        let _ = chown(rt, path, Some(like.uid()), None);
+    }
+}
+
+/// Gives a new file the owner and the mode of another one. An owner that the system does not let the process give stays as it is.
+fn make_like(rt: &HostRuntime, path: &str, file: &File, like: &Metadata) -> io::Result<()> {
+    take_owner(rt, path, &file.metadata()?, like);
+    file.set_permissions(like.permissions())
+}
+
+/// Gives a new file the owner and the mode of another one, if there is one, and then its bytes.
+fn fill(
+    rt: &HostRuntime,
+    path: &str,
+    file: &mut File,
+    bytes: &[u8],
+    like: Option<&Metadata>,
+) -> io::Result<()> {
     if let Some(like) = like {
-        file.set_permissions(like.permissions())?;
+        make_like(rt, path, file, like)?;
     }
     file.write_all(bytes)
 }
 
-/// Writes a file under a name that is not there yet, with the mode of another one, if there is one. An error leaves no such file.
+/// Writes a file under a name that is not there yet, with the owner and the mode of another one, if there is one. An error leaves no such file.
 fn fill_new(rt: &HostRuntime, path: &str, bytes: &[u8], like: Option<&Metadata>) -> io::Result<()> {
     let mut file = File::create_new(rt, path)?;
-    match fill(&mut file, bytes, like) {
+    match fill(rt, path, &mut file, bytes, like) {
         Ok(()) => Ok(()),
         Err(error) => {
             let _ = fs::remove_file(rt, path);

@@ -1,60 +1,19 @@
 //! Numbers as a person types them.
 
-ghost use Rattle.std.specs.Prelude.{◌≡◌, ◌==◌, ◌||◌, ◌<◌, ◌≤◌, ◌^◌, IfSome, option_map};
-ghost use Rattle.omf_host.specs.Numbers.{after_0x, amount, before_letter, decimal, kilobytes, marked, number, size};
+ghost use Rattle.std.specs.Prelude.{◌≡◌, ◌<◌, ◌≤◌, ◌^◌, IfSome};
+ghost use Rattle.omf_host.specs.Numbers.{amount, decimal, kilobytes, number, size};
 
 use omf_placement::hexadecimal;
+use omf_text::{before_letter, digits_of, marked};
 
-/// Whether a byte is one of two letters.
-fn is_either(byte: u8, upper: u8, lower: u8) -> bool
-    ensures { result ≡ (byte == upper || byte == lower) }
-{
-    byte == upper || byte == lower
-}
-
-/// What is before one of two letters at the end of a word; None if it ends otherwise.
-#[tactic(auto, using(crate::proofs::NumberLaws::letter_goes, crate::proofs::NumberLaws::other_ends, crate::proofs::NumberLaws::nothing_before))]
-fn before_letter(word: &[u8], upper: u8, lower: u8) -> Option<&[u8]>
-    ensures { option_map (λ front. front.now) result ≡ before_letter upper lower word.now }
-{
-    let (last, front) = word.split_last()?;
-    if is_either(*last, upper, lower) {
-        Some(front)
-    } else {
-        None
-    }
-}
-
-/// What is after `0x` at the start of a word; None if it starts otherwise.
-fn after_0x(word: &[u8]) -> Option<&[u8]>
-    ensures { option_map (λ digits. digits.now) result ≡ after_0x word.now }
-{
-    match word {
-        [zero, x, digits @ ..] if *zero == b'0' && (*x == b'x' || *x == b'X') => Some(digits),
-        _ => None,
-    }
-}
-
-/// The digits of a word that is marked as hexadecimal: those after `0x`, or before an H at the end. None if it is not marked.
-fn marked(word: &[u8]) -> Option<&[u8]>
-    ensures { option_map (λ digits. digits.now) result ≡ marked word.now }
-{
-    match after_0x(word) {
-        Some(digits) => Some(digits),
-        None => before_letter(word, b'H', b'h'),
-    }
-}
-
-/// Parses a number of 1 to `most` hexadecimal digits, alone, after `0x`, or before an H. `most` is at most 8.
+/// Parses a number of 1 to `most` hexadecimal digits, alone, after `0x`, or before an H (there a zero in front of others is not
+/// counted: `0FFH`). `most` is at most 8.
 pub fn number(word: &[u8], most: usize) -> Option<u32>
     requires { most ≤ 8 }
     ensures value { result ≡ number most word.now }
     ensures bound { IfSome result (λ n. n < 16 ^ most) }
 {
-    match marked(word) {
-        Some(digits) => hexadecimal(digits, most),
-        None => hexadecimal(word, most),
-    }
+    hexadecimal(digits_of(word), most)
 }
 
 /// Parses a number of 1 to 7 decimal digits.

@@ -30,7 +30,8 @@ impl Words<'_> {
         !self.is_value && !self.is_ended
     }
 
-    /// Takes an argument. What follows `--` is a file: a name there that begins with a dash gets `./` before it.
+    /// Takes an argument: two, if it is an option, `=` and its value. What follows `--` is a file: a name there that begins with a dash gets `./`
+    /// before it.
     fn take(&mut self, alloc: Global, word: String) -> Result<(), AllocError> {
         if self.is_ended && is_option(word.as_str()) {
             let mut name = String::from_str(alloc, "./")?;
@@ -40,6 +41,13 @@ impl Words<'_> {
         if self.is_open() && word.as_str() == "--" {
             self.is_ended = true;
             return Ok(());
+        }
+        if self.is_open()
+            && let Some((option, value)) = word.as_str().split_once('=')
+            && has_word(shown_of(self.usage, option))
+        {
+            self.taken.push(String::from_str(alloc, option)?)?;
+            return Ok(self.taken.push(String::from_str(alloc, value)?)?);
         }
         self.is_value = self.is_open() && has_word(shown_of(self.usage, word.as_str()));
         Ok(self.taken.push(word)?)
@@ -95,6 +103,11 @@ pub fn words_of(alloc: Global, text: &str) -> Result<Vec<String>, AllocError> {
     Ok(words)
 }
 
+/// A text without a byte-order mark at its front, as some editors write one.
+fn unmarked(text: &str) -> &str {
+    text.strip_prefix('\u{FEFF}').unwrap_or(text)
+}
+
 /// The words of the file that is named after `@`; None if the argument does not begin so, or if there is no such file of UTF-8.
 fn response(rt: &HostRuntime, argument: &str) -> Result<Option<Vec<String>>, AllocError> {
     let Some(name) = argument.strip_prefix('@') else {
@@ -102,7 +115,7 @@ fn response(rt: &HostRuntime, argument: &str) -> Result<Option<Vec<String>>, All
     };
     match read_input(rt, name) {
         Ok(bytes) => match String::from_utf8(bytes) {
-            Ok(text) => Ok(Some(words_of(rt.alloc(), text.as_str())?)),
+            Ok(text) => Ok(Some(words_of(rt.alloc(), unmarked(text.as_str()))?)),
             Err(_) => Ok(None),
         },
         Err(error) if error.kind() == ErrorKind::OutOfMemory => Err(AllocError),
@@ -236,7 +249,8 @@ pub fn spelled_arguments(rt: &HostRuntime, usage: &str) -> Result<SpelledArgumen
 }
 
 /// The arguments of the process without the program's own name, for a program with this usage; None if one of them is not UTF-8. `@FILE` is
-/// the words of a file, if it can be read. `--` ends the options: a name after it that begins with a dash has `./` before it.
+/// the words of a file, if it can be read. An option and its value may be one argument, with `=` between them. `--` ends the options: a name after
+/// it that begins with a dash has `./` before it.
 ///
 /// # Errors
 ///

@@ -95,7 +95,7 @@ fn is_path_of(rt: &HostRuntime, path: &str, found: Option<&Metadata>) -> bool {
     }
 }
 
-/// Writes the bytes of an output beside the file to which its name leads, with the mode of that file if it is there.
+/// Writes the bytes of an output beside the file to which its name leads, with the owner and the mode of that file if it is there.
 fn ready_beside(
     rt: &HostRuntime,
     output: OutputFile<'_>,
@@ -231,9 +231,9 @@ fn write_two<'a, K: Sink>(
 /// Writes the outputs of a run: one, or two. Both are first written beside their files, as `FILE.tmp`, and then get their names: so a file has
 /// all bytes, or is as it was before or not there; and where the second cannot be written, mostly the first is not either.
 ///
-/// Through a symbolic link its target is written. A file that is there is replaced, and keeps its mode; other names of it (hard links) keep
-/// what it was, and its owner may change. One that may not be written is not replaced. A device, a pipe or a socket is written into, and may
-/// have a front of the bytes after an error, as the standard output may.
+/// Through a symbolic link its target is written. A file that is there is replaced, and keeps its mode, and its owner and group where the system
+/// lets the process give them; other names of it (hard links) keep what it was. One that may not be written is not replaced. A device, a pipe or a
+/// socket is written into, and may have a front of the bytes after an error, as the standard output may.
 ///
 /// Returns what could not be written; None if all is.
 ///

@@ -1,3 +1,4 @@
 pub mod ZeroLaws
 pub mod DigitLaws
 pub mod PrintedLaws
+pub mod NumeralLaws
