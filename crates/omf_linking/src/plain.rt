@@ -1,7 +1,7 @@
-//! A link text as it is read: tabs are spaces, and the digits of escapes are capital.
+//! A link text as it is read: tabs are spaces, several spaces are one, and the digits of escapes are capital.
 
 ghost use Rattle.std.specs.Prelude.{◌≡◌, IfOk};
-ghost use Rattle.omf_linking.specs.PlainText.{in_name, next_side, plain_byte, plain_text, spaced, without_mark};
+ghost use Rattle.omf_linking.specs.PlainText.{in_name, is_again, is_space, next_side, outside_after, plain_byte, plain_text, spaced, without_mark};
 
 use std::alloc::{AllocError, Global};
 
@@ -10,6 +10,8 @@ use std::alloc::{AllocError, Global};
 pub enum Side {
     /// Outside of names.
     Outside,
+    /// Outside of names, after a space.
+    Spaces,
     /// In a name. After a backslash it is one of this many bytes of an escape: an `x` and two digits.
     Name { left: u8 },
     /// In a comment.
@@ -32,6 +34,25 @@ fn in_name(left: u8, byte: u8) -> Side
     Side::Name { left: 0 }
 }
 
+/// Whether a byte is a space or a tab.
+fn is_space(byte: u8) -> bool
+    ensures { result ≡ is_space byte }
+{
+    byte == b' ' || byte == b'\t'
+}
+
+/// Where the byte after this one is, which is outside of names.
+fn outside_after(byte: u8) -> Side
+    ensures { result ≡ outside_after byte }
+{
+    match byte {
+        b'"' => Side::Name { left: 0 },
+        b';' => Side::Comment,
+        _ if is_space(byte) => Side::Spaces,
+        _ => Side::Outside,
+    }
+}
+
 /// Where the byte after this one is.
 fn next_side(side: Side, byte: u8) -> Side
     ensures { result ≡ next_side side byte }
@@ -40,11 +61,7 @@ fn next_side(side: Side, byte: u8) -> Side
         return Side::Outside;
     }
     match side {
-        Side::Outside => match byte {
-            b'"' => Side::Name { left: 0 },
-            b';' => Side::Comment,
-            _ => Side::Outside,
-        },
+        Side::Outside | Side::Spaces => outside_after(byte),
         Side::Name { left } => in_name(left, byte),
         Side::Comment => Side::Comment,
     }
@@ -62,13 +79,23 @@ fn plain_byte(side: Side, byte: u8) -> u8
     ensures { result ≡ plain_byte side byte }
 {
     match side {
-        Side::Outside => spaced(byte),
+        Side::Outside | Side::Spaces => spaced(byte),
         Side::Name { left } => match left {
             1 => byte.to_ascii_uppercase(),
             2 => byte.to_ascii_uppercase(),
             _ => byte,
         },
         Side::Comment => spaced(byte),
+    }
+}
+
+/// Whether a byte is one more space after another one.
+fn is_again(side: Side, byte: u8) -> bool
+    ensures { result ≡ is_again side byte }
+{
+    match side {
+        Side::Spaces => is_space(byte),
+        Side::Outside | Side::Name { .. } | Side::Comment => false,
     }
 }
 
@@ -82,8 +109,8 @@ fn without_mark(text: &[u8]) -> &[u8]
     }
 }
 
-/// A link text as it is read: without a byte-order mark, with spaces for tabs outside of names, and with capital digits in the escapes of names
-/// (`\x1B` for `\x1b`). Its lines are those of the text.
+/// A link text as it is read: without a byte-order mark, outside of names with one space for several spaces and tabs, and with capital digits in
+/// the escapes of names (`\x1B` for `\x1b`). Its lines are those of the text.
 ///
 /// # Errors
 ///
@@ -95,7 +122,9 @@ pub fn plain_text(alloc: Global, text: &[u8]) -> Result<Vec<u8>, AllocError>
     let mut plain = Vec::with_capacity(alloc, text.len())?;
     let mut side = Side::Outside;
     for byte in text {
-        plain.push(plain_byte(side, *byte))?;
+        if !is_again(side, *byte) {
+            plain.push(plain_byte(side, *byte))?;
+        }
         side = next_side(side, *byte);
     }
     Ok(plain)

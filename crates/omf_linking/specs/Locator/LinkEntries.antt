@@ -9,6 +9,7 @@ use Rattle.omf_placement.specs.Inner.EntryReading.{frame_of, hexadecimal, placed
 use Rattle.omf_placement.specs.PlacementText.{numbered_lines}
 use Rattle.omf_placement.specs.declared.frame.Frame.{Frame}
 use Rattle.omf_placement.specs.declared.frame.Placed.{Placed}
+use Rattle.omf_text.specs.Numerals.{digits_of}
 
 -- A key names a module, or an entry of a module's table: by its name, as it is between the quotes; by its name and class; or by its number.
 pub data Key : Type 0 where
@@ -33,15 +34,15 @@ pub data LinkEntry : Type 0 where
   Opens : Key → LinkEntry
   Gives : Key → Told → LinkEntry
 
--- A place is `address base selector` or `address real`; a frame is `base selector` or `real`.
+-- A place is `address base selector` or `address real`; a frame is `base selector` or `real`. Numbers may be marked as hexadecimal: 0x7C00, 7C00H.
 abbrev pub place_in : List (List ℕ) → Option Placed
-place_in (a ∷ r ∷ []) = if bytes_eq r (codes "real") then real_of a else None
-place_in (a ∷ b ∷ s ∷ []) = placed_of a b s
+place_in (a ∷ r ∷ []) = if bytes_eq r (codes "real") then real_of (digits_of a) else None
+place_in (a ∷ b ∷ s ∷ []) = placed_of (digits_of a) (digits_of b) (digits_of s)
 place_in _ = None
 
 abbrev pub frame_in : List (List ℕ) → Option (Option Frame)
 frame_in (r ∷ []) = if bytes_eq r (codes "real") then Some None else None
-frame_in (b ∷ s ∷ []) = option_map Some (frame_of b s)
+frame_in (b ∷ s ∷ []) = option_map Some (frame_of (digits_of b) (digits_of s))
 frame_in _ = None
 
 -- A segment's line may say `address shared`, and a group's `shared`.
@@ -49,7 +50,7 @@ abbrev pub is_shared : List ℕ → Bool
 is_shared w = bytes_eq w (codes "shared")
 
 abbrev pub shared_place : List (List ℕ) → Option Told
-shared_place (a ∷ w ∷ []) = if is_shared w then option_map SharedPlace (hexadecimal 8 a) else None
+shared_place (a ∷ w ∷ []) = if is_shared w then option_map SharedPlace (hexadecimal 8 (digits_of a)) else None
 shared_place _ = None
 
 abbrev pub shared_word : List (List ℕ) → Option Told

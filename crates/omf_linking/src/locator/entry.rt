@@ -8,6 +8,7 @@ ghost use Rattle.omf_linking.specs.Inner.LineParsing.{key_seen, seen, told_seen,
 
 use omf_placement::cut::cut;
 use omf_placement::{Frame, Placed, hexadecimal, placed_of, said_by};
+use omf_text::digits_of;
 
 /// A key: what names a module, or an entry of a module's table.
 #[derive(Clone, Copy)]
@@ -116,7 +117,7 @@ fn place_in(words: Option<&[u8]>) -> Option<Placed>
     let (second, more) = cut(more?, b' ');
     let Some(more) = more else {
         return if second == b"real".as_slice() {
-            real_of(address)
+            real_of(digits_of(address))
         } else {
             None
         };
@@ -125,7 +126,7 @@ fn place_in(words: Option<&[u8]>) -> Option<Placed>
     if more.is_some() {
         return None;
     }
-    placed_of(address, second, third)
+    placed_of(digits_of(address), digits_of(second), digits_of(third))
 }
 
 /// Parses a frame: `base selector`, or `real` for none.
@@ -144,7 +145,7 @@ fn frame_in(words: Option<&[u8]>) -> Option<Option<Frame>>
     if more.is_some() {
         return None;
     }
-    Some(Some(frame_of(first, second)?))
+    Some(Some(frame_of(digits_of(first), digits_of(second))?))
 }
 
 /// Returns whether a word is `shared`.
@@ -166,7 +167,7 @@ fn shared_place(words: Option<&[u8]>) -> Option<Told>
     if !is_shared(second) {
         return None;
     }
-    Some(Told::SharedPlace(hexadecimal(address, 8)?))
+    Some(Told::SharedPlace(hexadecimal(digits_of(address), 8)?))
 }
 
 /// Parses what an `S` line says: a place, or `address shared`.
