@@ -1,4 +1,5 @@
--- What DOS makes of an MZ file that it loads at a paragraph (the header's fields by their offsets in the file).
+-- What DOS makes of an MZ file that it loads at a paragraph. The header's fields, by their offsets in the file, and what DOS does with each: MS-DOS
+-- Programmer's Reference (Microsoft Press), "EXE File Header"; Ralf Brown's Interrupt List, INT 21h AH=4Bh, "Format of .EXE file header".
 use Rattle.std.specs.Prelude.{ℕ, zero, suc, ◌+◌, ◌-◌, ◌*◌, ◌%◌, ◌==◌, List, [], ◌∷◌, take, drop, if◌then◌else◌}
 use Rattle.byteorder.specs.Endian.{little_number}
 use Rattle.omf_output.specs.Exe.Relocations.{words_moved}
