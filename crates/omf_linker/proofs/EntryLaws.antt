@@ -12,7 +12,7 @@ use Rattle.omf_placement.specs.Derive.{named_externals}
 use Rattle.omf_placement.specs.declared.frame.Frame.{Frame}
 use Rattle.omf_placement.specs.declared.frame.Placed.{Placed}
 use Rattle.omf_placement.specs.Entries.{IsHexadecimal, in_words}
-use Rattle.omf_placement.specs.Inner.EntryReading.{hexadecimal}
+use Rattle.omf_placement.specs.Inner.EntryReading.{frame_of, hexadecimal, placed_of, real_of}
 use Rattle.omf_placement.specs.Placement.{Places, real_frame}
 use Rattle.omf_placement.specs.Quoted.{number, quoted, named}
 use Rattle.omf_placement.proofs.EntryLaws.{hexadecimal-to, placed-to}
@@ -22,7 +22,9 @@ use Rattle.omf_layout.specs.declared.options.Frames.TheVariants.{Real, Flat}
 use Rattle.omf_layout.specs.Draft.{alignment_text, is_same_frame, room_text}
 use Rattle.omf_layout.specs.Reading.{IsShortFrame, IsShortPlace, AreShort}
 use Rattle.omf_layout.specs.Wants.{alignments, bytes_aligned, rooms}
+use Rattle.omf_text.specs.Numerals.{digits_of}
 use Rattle.omf_text.proofs.DigitLaws.{eight-digits, four-digits, marks-number}
+use Rattle.omf_text.proofs.NumeralLaws.{plain-digits}
 use Rattle.omf_layout.proofs.LineLaws.{printed-room}
 use Rattle.omf_text.proofs.PrintedLaws.{printed-decimal, printed-quoted, Passes, both-pass, is_printed}
 use Rattle.omf_layout.proofs.SaidLaws.{IsWord, tight-two, tight-word}
@@ -91,13 +93,25 @@ record IsPlace (text : List ℕ) (p : Placed) : Type 0 where
   pub are : AreWords text words
   pub gives : place_in words ≡ Some p
 
+-- Their numbers are not marked.
+plain-eight : (n : ℕ) → n < 2 ^ 32 → digits_of (number n) ≡ number n
+plain-eight n h = plain-digits 8 (number n) n (eight-digits n h)
+
+plain-four : (n : ℕ) → n < 2 ^ 16 → digits_of (number n) ≡ number n
+plain-four n h = plain-digits 4 (number n) n (four-digits n h)
+
+plain-place : (p : Placed) → IsShortPlace p → place_in (number p.address ∷ number p.frame.base ∷ number p.frame.selector ∷ []) ≡ placed_of (number p.address) (number p.frame.base) (number p.frame.selector)
+plain-place p k =
+    ap (λ a. placed_of a (digits_of (number p.frame.base)) (digits_of (number p.frame.selector))) (plain-eight p.address k.address)
+    ∙ ap₂ (λ b s. placed_of (number p.address) b s) (plain-eight p.frame.base k.frame.base) (plain-four p.frame.selector k.frame.selector)
+
 full-place : (p : Placed) → IsShortPlace p → IsPlace (full_place p) p
 full-place p k = record {
   words = number p.address ∷ number p.frame.base ∷ number p.frame.selector ∷ [];
   are = and-more (number p.address) _ _ (number-part 8 p.address (eight-digits p.address k.address))
       (and-more (number p.frame.base) _ _ (number-part 8 p.frame.base (eight-digits p.frame.base k.frame.base))
       (last-of (number p.frame.selector) (number-part 4 p.frame.selector (four-digits p.frame.selector k.frame.selector))));
-  gives = placed-to (codes "S") (in_words (codes "S" ∷ number p.address ∷ number p.frame.base ∷ number p.frame.selector ∷ [])) p (record {
+  gives = plain-place p k ∙ placed-to (codes "S") (in_words (codes "S" ∷ number p.address ∷ number p.frame.base ∷ number p.frame.selector ∷ [])) p (record {
     address = number p.address;
     base = number p.frame.base;
     selector = number p.frame.selector;
@@ -121,7 +135,7 @@ real-place : (p : Placed) → IsShortPlace p → is_same_frame (real_frame p.add
 real-place p k h = record {
   words = number p.address ∷ codes "real" ∷ [];
   are = and-more (number p.address) _ _ (number-part 8 p.address (eight-digits p.address k.address)) (last-of (codes "real") real-part);
-  gives = ap (option_and_then (λ a. option_map (at_address a) (real_frame a))) (hexadecimal-to 8 (number p.address) p.address (eight-digits p.address k.address))
+  gives = ap real_of (plain-eight p.address k.address) ∙ ap (option_and_then (λ a. option_map (at_address a) (real_frame a))) (hexadecimal-to 8 (number p.address) p.address (eight-digits p.address k.address))
       ∙ ap (option_map (at_address p.address)) (same-frame (real_frame p.address) p.frame h);
 }
 
@@ -139,7 +153,7 @@ place-given : (frames : Frames) (shared : Bool) (p : Placed) → IsShortPlace p 
 place-given frames true p k = record {
   words = number p.address ∷ codes "shared" ∷ [];
   are = and-more (number p.address) _ _ (number-part 8 p.address (eight-digits p.address k.address)) (last-of (codes "shared") shared-part);
-  gives = ap (option_map SharedPlace) (hexadecimal-to 8 (number p.address) p.address (eight-digits p.address k.address));
+  gives = ap (λ a. option_map SharedPlace (hexadecimal 8 a)) (plain-eight p.address k.address) ∙ ap (option_map SharedPlace) (hexadecimal-to 8 (number p.address) p.address (eight-digits p.address k.address));
 }
 place-given frames false p k =
     let is = place-is frames p k in
@@ -153,7 +167,7 @@ frame-words f k = and-more (number f.base) _ _ (number-part 8 f.base (eight-digi
 
 frame-gives : (f : Frame) → IsShortFrame f → frame_in (number f.base ∷ number f.selector ∷ []) ≡ Some (Some f)
 frame-gives f k =
-    ap (option_map Some) (ap (option_and_then (λ b. option_map (in_frame b) (hexadecimal 4 (number f.selector)))) (hexadecimal-to 8 (number f.base) f.base (eight-digits f.base k.base))
+    ap₂ (λ b s. option_map Some (frame_of b s)) (plain-eight f.base k.base) (plain-four f.selector k.selector) ∙ ap (option_map Some) (ap (option_and_then (λ b. option_map (in_frame b) (hexadecimal 4 (number f.selector)))) (hexadecimal-to 8 (number f.base) f.base (eight-digits f.base k.base))
     ∙ ap (option_map (in_frame f.base)) (hexadecimal-to 4 (number f.selector) f.selector (four-digits f.selector k.selector)))
 
 frame-given : (shared : Bool) (f : Frame) → IsShortFrame f → AreGiven group_in (frame_text shared f) (group_told shared f)

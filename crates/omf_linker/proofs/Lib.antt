@@ -20,6 +20,7 @@ pub mod PlacesLaws
 pub mod MapLaws
 pub mod PublicLaws
 pub mod SeenLaws
+pub mod LookLaws
 pub mod ExeLaws
 pub mod UnresolvedLaws
 pub mod RepeatedLaws

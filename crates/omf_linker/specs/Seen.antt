@@ -5,3 +5,5 @@ pub mod Wide
 pub mod Frames
 pub mod RealMode
 pub mod Unseen
+pub mod Lines
+pub mod Looks

@@ -8,10 +8,11 @@ ghost use Rattle.omf_cmd.specs.FaultLine.{cause_name, fault_line as run_line};
 ghost use Rattle.omf_cmd.specs.declared.fault.RunFault.TheVariants.{Reach};
 ghost use Rattle.omf_linker.specs.Link.Unresolved.{label_of};
 ghost use Rattle.omf_linker.specs.Link.Named.{IsReachLine, after_space, beyond_line, far_line, high_line, missing_front, missing_text, name_at, outside_front, outside_line, overlap_line, owner_text, segment_text, spot_text, starts_line};
+ghost use Rattle.omf_linker.specs.Seen.Lines.{AddsNear, in_text, near_line, target_text};
 
 use crate::link::put_own;
 use crate::map::print_digits;
-use crate::spot::{Spot, external_at, spot_of};
+use crate::spot::{Spot, external_at, public_of, spot_of};
 use omf_check::Checked;
 use omf_cmd::{RunFault, fault_line};
 use omf_frame::{Name, Place};
@@ -33,7 +34,12 @@ pub(crate) struct Labeled<'a> {
 }
 
 /// The name of an entry of a module's table, by the number of the module from 0 and the index of the entry from 1; none if it has none.
-fn name_at<'a>(modules: &'a [Checked], module: u32, kind: Kind, index: u16) -> Option<Name<'a>>
+pub(crate) fn name_at<'a>(
+    modules: &'a [Checked],
+    module: u32,
+    kind: Kind,
+    index: u16,
+) -> Option<Name<'a>>
     ensures { result ≡ name_at (typed_modules modules.now) «module» kind index }
 {
     let Some(module) = modules.get(module as usize) else {
@@ -56,7 +62,7 @@ fn put_after(text: &mut String, name: Option<Name<'_>>) -> Result<(), AllocError
 }
 
 /// Appends a segment of a module: its name, or its index if it has none.
-fn put_segment(
+pub(crate) fn put_segment(
     text: &mut String,
     modules: &[Checked],
     module: u32,
@@ -92,7 +98,11 @@ fn put_spot(
 }
 
 /// Appends a module, and a segment of it.
-fn put_owner(text: &mut String, named: Labeled<'_>, owner: Owner) -> Result<(), AllocError>
+pub(crate) fn put_owner(
+    text: &mut String,
+    named: Labeled<'_>,
+    owner: Owner,
+) -> Result<(), AllocError>
     ensures { AddsText result (string_bytes text.old) (string_bytes text.new) (owner_text (map string_bytes named.entry.labels.now) (typed_modules named.entry.modules.now) owner) }
 {
     put_own(text, named.labels, owner.module)?;
@@ -125,23 +135,116 @@ pub(crate) fn put_part(
     text.push_str(what)
 }
 
+/// Appends the segment that a near reference is into; nothing for none.
+fn put_into(text: &mut String, modules: &[Checked], into: Option<Owner>) -> Result<(), AllocError>
+    ensures { AddsText result (string_bytes text.old) (string_bytes text.new) (in_text (typed_modules modules.now) into) }
+{
+    match into {
+        Some(owner) => {
+            text.push_str(" in")?;
+            put_segment(text, modules, owner.module, owner.segment)
+        }
+        None => Ok(()),
+    }
+}
+
+/// Appends the external that a near reference is to, and the segment of its public.
+fn put_target(
+    text: &mut String,
+    modules: &[Checked],
+    to: Option<Name<'_>>,
+    into: Option<Owner>,
+) -> Result<(), AllocError>
+    ensures { AddsText result (string_bytes text.old) (string_bytes text.new) (target_text (typed_modules modules.now) to.entry into) }
+{
+    match to {
+        Some(name) => {
+            put_after(text, Some(name))?;
+            put_into(text, modules, into)
+        }
+        None => text.push_str(" its target"),
+    }
+}
+
+/// A near reference into another frame.
+#[derive(Drop)]
+struct NearSpot<'a> {
+    /// Where its data is; none for a start.
+    spot: Option<Spot>,
+    /// The name of the external that it is to, if it is to one.
+    to: Option<Name<'a>>,
+    /// The segment of that one's public, if there is one.
+    into: Option<Owner>,
+}
+
+/// The near reference at a place of a module.
+fn near_at(modules: &[Checked], stray: Stray) -> NearSpot<'_> {
+    match modules.get(stray.module as usize) {
+        Some(module) => NearSpot {
+            spot: spot_of(module, stray.place),
+            to: external_at(module, stray.place),
+            into: public_of(modules, stray.module, stray.place),
+        },
+        None => NearSpot {
+            spot: None,
+            to: None,
+            into: None,
+        },
+    }
+}
+
+/// Appends where a near reference into another frame is.
+fn put_near_spot(
+    text: &mut String,
+    named: Labeled<'_>,
+    stray: Stray,
+    spot: Option<Spot>,
+) -> Result<(), AllocError>
+    ensures { AddsText result (string_bytes text.old) (string_bytes text.new) (codes "near: " ++ label_of (map string_bytes named.entry.labels.now) stray.«module» ++ spot_text (typed_modules named.entry.modules.now) stray.«module» spot stray.place.number ++ codes ":") }
+{
+    text.push_str("near: ")?;
+    put_own(text, named.labels, stray.module)?;
+    put_spot(text, named.modules, stray.module, spot, stray.place.number)?;
+    text.push_str(":")
+}
+
+/// Appends what a near reference into another frame is to.
+fn put_near_target(
+    text: &mut String,
+    modules: &[Checked],
+    to: Option<Name<'_>>,
+    into: Option<Owner>,
+) -> Result<(), AllocError>
+    ensures { AddsText result (string_bytes text.old) (string_bytes text.new) (target_text (typed_modules modules.now) to.entry into ++ codes " is in another frame" ++ 10 ∷ []) }
+{
+    put_target(text, modules, to, into)?;
+    text.push_str(" is in another frame")?;
+    text.push_str("\n")
+}
+
+/// Appends the line of this near reference into another frame.
+fn put_near(
+    text: &mut String,
+    named: Labeled<'_>,
+    stray: Stray,
+    near: NearSpot<'_>,
+) -> Result<(), AllocError>
+    ensures { AddsText result (string_bytes text.old) (string_bytes text.new) (near_line (map string_bytes named.entry.labels.now) (typed_modules named.entry.modules.now) stray.«module» stray.place.number near.entry.spot near.entry.to near.entry.into) }
+{
+    let NearSpot { spot, to, into } = near;
+    put_near_spot(text, named, stray, spot)?;
+    put_near_target(text, named.modules, to, into)
+}
+
 /// Appends the line of a near reference into another frame.
 pub(crate) fn put_stray(
     text: &mut String,
     named: Labeled<'_>,
     stray: Stray,
-) -> Result<(), AllocError> {
-    text.push_str("near: ")?;
-    put_part(text, named, stray.module, stray.place, ":")?;
-    let name = match named.modules.get(stray.module as usize) {
-        Some(module) => external_at(module, stray.place),
-        None => None,
-    };
-    match name {
-        Some(_) => put_after(text, name)?,
-        None => text.push_str(" its target")?,
-    }
-    text.push_str(" is in another frame\n")
+) -> Result<(), AllocError>
+    ensures { AddsNear result (map string_bytes named.entry.labels.now) (typed_modules named.entry.modules.now) stray (string_bytes text.old) (string_bytes text.new) }
+{
+    put_near(text, named, stray, near_at(named.modules, stray))
 }
 
 /// The line of an external whose address is too high.

@@ -2,7 +2,8 @@
 
 use omf_check::{Checked, Data, Undecoded};
 use omf_frame::{Name, Place};
-use omf_records::Kind;
+use omf_linking::space::Owner;
+use omf_records::{Items, Kind, Public};
 use omf_reloc::{Piece, PlainReference, pieces_of};
 
 /// Where a part of a module is: the index of the segment of its data, and its offset there.
@@ -68,34 +69,90 @@ pub(crate) fn spot_of(module: &Checked, place: Place) -> Option<Spot> {
     None
 }
 
-/// The name of the external that a reference is to; none if it is to none.
-fn target_of<'a>(module: &'a Checked, reference: &PlainReference) -> Option<Name<'a>> {
+/// The index of the external that a reference is to; none if it is to none.
+fn target_of(reference: &PlainReference) -> Option<u16> {
     match reference.target.kind {
-        Kind::External => module.external(reference.target.index.0),
+        Kind::External => Some(reference.target.index.0),
         Kind::Segment => None,
         Kind::Group => None,
     }
 }
 
-/// The name of the external that a piece, a fixup or a start, refers to; none if it refers to none.
-fn external_of<'a>(module: &'a Checked, piece: &Piece<'_>) -> Option<Name<'a>> {
+/// The index of the external that a piece, a fixup or a start, refers to; none if it refers to none.
+fn external_of(piece: &Piece<'_>) -> Option<u16> {
     match piece {
         Piece::Kept(_) => None,
-        Piece::Fixed { fixup, .. } => target_of(module, &fixup.reference),
+        Piece::Fixed { fixup, .. } => target_of(&fixup.reference),
         Piece::End {
             start: Some(start),
             ..
-        } => target_of(module, start),
+        } => target_of(start),
         Piece::End { start: None, .. } => None,
     }
 }
 
-/// The name of the external that the fixup or the start at a place of a module refers to; none if it refers to none.
-pub(crate) fn external_at(module: &Checked, place: Place) -> Option<Name<'_>> {
+/// The index of the external that the fixup or the start at a place of a module refers to; none if it refers to none.
+fn index_at(module: &Checked, place: Place) -> Option<u16> {
     for (here, piece) in pieces_of(module) {
         if here.number == place.number && here.within == place.within {
-            return external_of(module, &piece);
+            return external_of(&piece);
         }
     }
     None
+}
+
+/// The name of the external that the fixup or the start at a place of a module refers to; none if it refers to none.
+pub(crate) fn external_at(module: &Checked, place: Place) -> Option<Name<'_>> {
+    let index = index_at(module, place)?;
+    module.external(index)
+}
+
+/// Whether one of these publics has a name.
+fn has_name(publics: Items<Public<'_>>, name: &[u8]) -> bool {
+    for public in publics {
+        if public.item.name.0 == name {
+            return true;
+        }
+    }
+    false
+}
+
+/// The index of the segment of a local public of a module, or of one that is not local; none if it has no such public, or that has no segment.
+fn segment_of(module: &Checked, local: bool, name: &[u8]) -> Option<u16> {
+    for (_, rec) in module.undecoded() {
+        let Some(publics) = rec.as_publics(local) else {
+            continue;
+        };
+        let segment = publics.segment.item.0;
+        if segment > 0 && has_name(publics.items, name) {
+            return Some(segment);
+        }
+    }
+    None
+}
+
+/// The module and the segment of the first public of a name that is not local; none if there is no such public.
+fn shared_segment(modules: &[Checked], name: &[u8]) -> Option<Owner> {
+    for (j, module) in modules.iter().enumerate() {
+        if let Some(segment) = segment_of(module, false, name) {
+            let module = u32::try_from(j).ok()?;
+            return Some(Owner { module, segment });
+        }
+    }
+    None
+}
+
+/// The module and the segment of the public to which the fixup or the start at a place of a module refers; none if it refers to none.
+pub(crate) fn public_of(modules: &[Checked], number: u32, place: Place) -> Option<Owner> {
+    let module = modules.get(number as usize)?;
+    let index = index_at(module, place)?;
+    let name = module.external(index)?;
+    if !module.local(index).unwrap_or(false) {
+        return shared_segment(modules, name.0);
+    }
+    let segment = segment_of(module, true, name.0)?;
+    Some(Owner {
+        module: number,
+        segment,
+    })
 }

@@ -1,5 +1,5 @@
 -- The externals for which no public or more than one is found, as text: a line for each name (a rule of this profile).
-use Rattle.std.specs.Prelude.{◌≡◌, ℕ, ◌+◌, ◌-◌, List, [], ◌∷◌, ◌++◌, length, map, filter, flat_map, set, Bool, true, false, Option, Some, None, Ok, option_and_then, option_map, slice_get, unwrap_or, bytes_eq, codes, decimal, ◌==◌, ◌&&◌, ◌||◌, if◌then◌else◌}
+use Rattle.std.specs.Prelude.{◌≡◌, ℕ, ◌+◌, ◌-◌, List, [], ◌∷◌, ◌++◌, length, map, filter, flat_map, set, Bool, true, false, not, Option, Some, None, Ok, option_and_then, option_map, slice_get, unwrap_or, bytes_eq, codes, decimal, ◌==◌, ◌&&◌, ◌||◌, if◌then◌else◌}
 use Rattle.std.specs.BTreeMap.{BTreeMap, get_by}
 use Rattle.std.specs.Cmp.Lexicographic.{slice_cmp}
 use Rattle.std.specs.List.{enumerate_from}
@@ -109,15 +109,20 @@ all_settled ms by_hand = map (settled_in (all_rows ms) by_hand) (enumerate_from 
 abbrev pub is_settled : List (List Bool) → ℕ → ℕ → Bool
 is_settled settled j i = unwrap_or (option_and_then (λ marks. entry marks i) (slice_get settled j)) false
 
--- The other externals of all modules that are not local: they look among the publics of all modules.
-abbrev pub asked_row : List (List Bool) → ℕ → ℕ × (List ℕ × Bool) → List Row
-asked_row settled j e = if e.1.1 then [] else if is_settled settled j e.0 then [] else (e.1.0, spot j e.0) ∷ []
+-- The other externals of a module: the local ones, or those that are not local.
+abbrev pub is_other : Bool → Bool → Bool
+is_other true local = not local
+is_other false local = local
 
-abbrev pub asked_rows : List (List Bool) → ℕ × List Rec → List Row
-asked_rows settled m = flat_map (asked_row settled m.0) (enumerate_from 1 (named_externals m.1))
+abbrev pub asked_row : Bool → List (List Bool) → ℕ → ℕ × (List ℕ × Bool) → List Row
+asked_row local settled j e = if is_other local e.1.1 then [] else if is_settled settled j e.0 then [] else (e.1.0, spot j e.0) ∷ []
 
+abbrev pub asked_rows : Bool → List (List Bool) → ℕ × List Rec → List Row
+asked_rows local settled m = flat_map (asked_row local settled m.0) (enumerate_from 1 (named_externals m.1))
+
+-- Those of all modules that are not local.
 abbrev pub all_asked : List (List Bool) → List (List Rec) → List Row
-all_asked settled ms = flat_map (asked_rows settled) (enumerate_from 0 ms)
+all_asked settled ms = flat_map (asked_rows false settled) (enumerate_from 0 ms)
 
 -- ---- the lines
 
@@ -163,18 +168,21 @@ is_spot (Some t) s = is_same t s
 abbrev pub is_first : List Spot → Spot → Bool
 is_first ss s = is_spot (slice_get ss 0) s
 
--- The text of an external that needs a public. A local one looks among the local publics of its module, any other among those of all modules that are not
--- local; its name has a line at the first external that asks for it.
-abbrev pub asked_text : List (List ℕ) → List Row → List Row → List Row → List ℕ → Bool → Spot → List ℕ
-asked_text labels publics asks own name true s = found_text labels name (spots_of own name) (s ∷ [])
-asked_text labels publics asks own name false s = if is_first (spots_of asks name) s then found_text labels name (spots_of publics name) (spots_of asks name) else []
+-- The text of an external that looks among these publics, as all of these do: its name has a line at the first that asks for it.
+abbrev pub asked_text : List (List ℕ) → List Row → List Row → List ℕ → Spot → List ℕ
+asked_text labels publics asks name s = if is_first (spots_of asks name) s then found_text labels name (spots_of publics name) (spots_of asks name) else []
 
-abbrev pub external_text : List (List ℕ) → List (List Bool) → List Row → List Row → List Row → ℕ → ℕ × (List ℕ × Bool) → List ℕ
-external_text labels settled publics asks own j e = if is_settled settled j e.0 then [] else asked_text labels publics asks own e.1.0 e.1.1 (spot j e.0)
+-- A local one looks among the local publics of its module, any other among those of all modules that are not local.
+abbrev pub named_text : List (List ℕ) → List Row → List Row → List Row → List Row → List ℕ → Bool → Spot → List ℕ
+named_text labels publics asks own own_asks name true s = asked_text labels own own_asks name s
+named_text labels publics asks own own_asks name false s = asked_text labels publics asks name s
+
+abbrev pub external_text : List (List ℕ) → List (List Bool) → List Row → List Row → List Row → List Row → ℕ → ℕ × (List ℕ × Bool) → List ℕ
+external_text labels settled publics asks own own_asks j e = if is_settled settled j e.0 then [] else named_text labels publics asks own own_asks e.1.0 e.1.1 (spot j e.0)
 
 abbrev pub module_text : List (List ℕ) → List (List Bool) → List Row → List Row → ℕ × List Rec → List ℕ
 module_text labels settled publics asks m =
-    flat_map (external_text labels settled publics asks (rows_in m.0 (public_names true m.1)) m.0) (enumerate_from 1 (named_externals m.1))
+    flat_map (external_text labels settled publics asks (rows_in m.0 (public_names true m.1)) (asked_rows true settled m) m.0) (enumerate_from 1 (named_externals m.1))
 
 -- The lines of modules, by which of their externals need no public.
 abbrev pub settled_text : List (List ℕ) → List (List Rec) → List (List Bool) → List ℕ

@@ -124,17 +124,25 @@ impl<'a> Origins<'a> {
     /// The line of a segment, or of a member of a group, that ends too far from its frame.
     pub(crate) fn long_line(&self, alloc: Global, far: FarMember) -> Result<String, AllocError> {
         let labels = self.labels(alloc)?;
+        let named = Labeled {
+            labels: &labels,
+            modules: self.modules,
+        };
         let mut text = String::new(alloc);
-        put_line(&mut text, &labels, self.modules, Finding::Group(far))?;
+        put_line(&mut text, named, Finding::Group(far))?;
         Ok(text)
     }
 
     /// The line of a segment between the parts of the stack.
     pub(crate) fn stack_line(&self, alloc: Global, found: Interval) -> Result<Vec<u8>, AllocError> {
         let labels = self.labels(alloc)?;
+        let named = Labeled {
+            labels: &labels,
+            modules: self.modules,
+        };
         let mut text = String::new(alloc);
         text.push_str("stack: ")?;
-        put_range(&mut text, &labels, self.modules, range_of(found))?;
+        put_range(&mut text, named, range_of(found))?;
         text.push_str(" is between its parts\n")?;
         Ok(text.into_bytes())
     }

@@ -5,7 +5,7 @@ ghost use Rattle.omf_check.specs.Module.{recs_of, typed_modules};
 ghost use Rattle.omf_check.specs.Tables.{entry, externals};
 ghost use Rattle.omf_placement.specs.Derive.{named_externals};
 ghost use Rattle.omf_linker.specs.Drafting.Names.{names_asked, names_of, public_names};
-ghost use Rattle.omf_linker.specs.Link.Unresolved.{HasMore, IsByName, Row, all_asked, all_rows, asked_row, asked_rows, has_place, is_given, items_or, rows_in, spots_of};
+ghost use Rattle.omf_linker.specs.Link.Unresolved.{HasMore, IsByName, Row, all_asked, all_rows, asked_row, asked_rows, has_place, is_given, is_other, items_or, rows_in, spots_of};
 
 use crate::link::settled::{Settled, is_settled};
 use omf_check::{Checked, Undecoded, entry_of};
@@ -51,6 +51,13 @@ pub(crate) fn external_at<'a>(module: &'a Checked, spot: Spot) -> External<'a>
         local,
         spot,
     }
+}
+
+/// Whether an external is of the other kind: not local where local ones are wanted, or local where they are not.
+fn is_other(wanted: bool, local: bool) -> bool
+    ensures { result ≡ is_other wanted local }
+{
+    if wanted { !local } else { local }
 }
 
 /// Whether an entry of a text's table is there and has a place.
@@ -194,16 +201,17 @@ impl<'a> ByName<'a> {
         Ok(table)
     }
 
-    /// Adds an external, if it is not local and needs a public.
+    /// Adds an external, if it needs a public and is local; or not local, if `local` is not set.
     fn add_external(
         &mut self,
         alloc: Global,
         settled: &[Settled],
+        local: bool,
         external: External<'a>,
     ) -> Result<(), AllocError>
-        ensures { OnOk result (HasMore self.old.spots self.new.spots (asked_row settled.now external.entry.spot.«module» (external.entry.spot.external, (external.entry.name.now, external.entry.local)))) }
+        ensures { OnOk result (HasMore self.old.spots self.new.spots (asked_row local settled.now external.entry.spot.«module» (external.entry.spot.external, (external.entry.name.now, external.entry.local)))) }
     {
-        if external.local {
+        if is_other(local, external.local) {
             return Ok(());
         }
         if is_settled(settled, external.spot.module, external.spot.external) {
@@ -212,24 +220,41 @@ impl<'a> ByName<'a> {
         self.add(alloc, external.name, external.spot)
     }
 
-    /// Adds the externals of a module with this number that are not local and need a public.
+    /// Adds the externals of a module with this number that need a public: the local ones, or the others.
     fn add_externals(
         &mut self,
         alloc: Global,
         settled: &[Settled],
+        local: bool,
         number: u32,
         module: &'a Checked,
     ) -> Result<(), AllocError>
-        ensures { OnOk result (HasMore self.old.spots self.new.spots (asked_rows settled.now (number, recs_of «module».entry.now.bytes))) }
+        ensures { OnOk result (HasMore self.old.spots self.new.spots (asked_rows local settled.now (number, recs_of «module».entry.now.bytes))) }
     {
         for before in 0..module.externals() {
             let spot = Spot {
                 module: number,
                 external: before + 1,
             };
-            self.add_external(alloc, settled, external_at(module, spot))?;
+            self.add_external(alloc, settled, local, external_at(module, spot))?;
         }
         Ok(())
+    }
+
+    /// Returns the local externals of a module with this number that need a public.
+    pub(crate) fn of_local_externals(
+        alloc: Global,
+        settled: &[Settled],
+        number: u32,
+        module: &'a Checked,
+    ) -> Result<ByName<'a>, AllocError>
+        ensures { IfOk result (λ t. IsByName t.spots (asked_rows true settled.now (number, recs_of «module».entry.now.bytes))) }
+    {
+        let mut table = ByName {
+            spots: BTreeMap::new(alloc),
+        };
+        table.add_externals(alloc, settled, true, number, module)?;
+        Ok(table)
     }
 
     /// Returns the externals of all modules that are not local and need a public.
@@ -245,7 +270,7 @@ impl<'a> ByName<'a> {
             spots: BTreeMap::new(alloc),
         };
         for (j, module) in modules.iter().enumerate() {
-            table.add_externals(alloc, settled, j as u32, module)?;
+            table.add_externals(alloc, settled, false, j as u32, module)?;
         }
         Ok(table)
     }

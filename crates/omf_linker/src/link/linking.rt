@@ -1,8 +1,9 @@
 //! The memory image of several modules as text, and their map.
 
-ghost use Rattle.std.specs.Prelude.{◌≡◌, ◌<◌, ◌^◌, IfOk, length, map, string_bytes};
+ghost use Rattle.std.specs.Prelude.{◌≡◌, ◌<◌, ◌^◌, IfOk, Ok, length, map, string_bytes};
 ghost use Rattle.omf_records.specs.Inner.Seen.{map_ok};
 ghost use Rattle.omf_check.specs.Module.{typed_modules};
+ghost use Rattle.omf_linking.specs.Placing.{linked};
 ghost use Rattle.omf_linker.specs.Link.Linked.{AreLinked, IsLinked};
 ghost use Rattle.omf_linker.specs.Link.Mapped.{IsMapped};
 
@@ -59,6 +60,7 @@ pub(crate) fn text_at(
     requires { length modules.now < 2 ^ 32 }
     ensures shown { IsLinked (typed_modules modules.now) text.now (map_ok (λ r. r.0) result) }
     ensures placed { IfOk result (λ r. length r.1.items ≡ length modules.now) }
+    ensures linked { IfOk result (λ r. linked (typed_modules modules.now) text.now ≡ Ok r.1.items) }
 {
     let linked = linked_modules(alloc, modules, text)?;
     let LinkedModules {

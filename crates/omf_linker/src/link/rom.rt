@@ -1,8 +1,9 @@
 //! The memory of several modules as a file for a chip.
 
-ghost use Rattle.std.specs.Prelude.{◌≡◌, ◌<◌, ◌^◌, IfOk, is_some, length, map, string_bytes};
+ghost use Rattle.std.specs.Prelude.{◌≡◌, ◌<◌, ◌^◌, IfOk, Ok, is_some, length, map, string_bytes};
 ghost use Rattle.omf_check.specs.Module.{typed_modules};
 ghost use Rattle.omf_records.specs.Inner.Seen.{map_ok};
+ghost use Rattle.omf_linking.specs.Placing.{linked};
 ghost use Rattle.omf_linking.specs.Space.Segments.{segment_at, segments_at, share_in};
 ghost use Rattle.omf_linking.specs.Together.{segments_of};
 ghost use Rattle.omf_linker.specs.Link.Rom.{IsLinkedFile, IsOutside, IsOwned, IsRom, first_owner};
@@ -113,6 +114,7 @@ fn placed_file(
     requires placed { length linked.placements.items ≡ length labeled.modules.now }
     ensures file { IsLinkedFile form (map string_bytes labeled.entry.labels.now) (typed_modules labeled.entry.modules.now) linked (map_ok (λ r. r.0.items) result) }
     ensures placed { IfOk result (λ r. length r.1.items ≡ length labeled.entry.modules.now) }
+    ensures kept { IfOk result (λ r. r.1.items ≡ linked.placements.items) }
 {
     match linked_file(alloc, form, labeled, &linked) {
         Ok(file) => {
@@ -134,6 +136,7 @@ pub(crate) fn file_at(
     requires { length labeled.modules.now < 2 ^ 32 }
     ensures file { IsRom form (map string_bytes labeled.entry.labels.now) (typed_modules labeled.entry.modules.now) text.now (map_ok (λ r. r.0.items) result) }
     ensures placed { IfOk result (λ r. length r.1.items ≡ length labeled.entry.modules.now) }
+    ensures linked { IfOk result (λ r. linked (typed_modules labeled.entry.modules.now) text.now ≡ Ok r.1.items) }
 {
     match linked_modules(alloc, labeled.modules, text) {
         Ok(linked) => placed_file(alloc, form, labeled, linked),

@@ -1,6 +1,6 @@
 //! A run of `omf-link`, from a reader to a writer.
 
-ghost use Rattle.std.specs.Prelude.{◌≡◌, ◌<◌, ◌^◌, [], ℕ, IfOk, IfSome, List, None, Some, length, map, string_bytes};
+ghost use Rattle.std.specs.Prelude.{◌≡◌, ◌<◌, ◌^◌, [], ℕ, IfOk, IfSome, List, None, Some, length, map, option_map, string_bytes};
 ghost use Rattle.omf_records.specs.Inner.Seen.{map_ok};
 ghost use Rattle.omf_check.specs.Module.{typed_modules};
 ghost use Rattle.omf_linker.specs.Link.Drafted.{IsDrafted};
@@ -10,7 +10,10 @@ ghost use Rattle.omf_linker.specs.Link.Mapped.{IsMapped};
 ghost use Rattle.omf_linker.specs.Link.Rom.{IsRom};
 ghost use Rattle.omf_linker.specs.Link.Runs.{IsRun, IsShowCause, Shows};
 ghost use Rattle.omf_linker.specs.Link.Shown.{AreShown, AreShownAt, IsNamedAs, IsShownOf};
+ghost use Rattle.omf_linking.specs.PlainText.{plain_text};
+ghost use Rattle.omf_linker.specs.Seen.Looks.{ArePlaced};
 ghost use Rattle.omf_linker.specs.Suiting.{options_for};
+ghost use Rattle.omf_linker.specs.declared.link.words.Task.TheVariants.{Draft, Image, Map, Rom};
 
 use crate::drafting::link_draft;
 use crate::lines::Labeled;
@@ -44,6 +47,7 @@ fn image_shown(alloc: Global, labeled: Labeled<'_>, text: &[u8]) -> Result<Shown
     requires { length labeled.modules.now < 2 ^ 32 }
     ensures shown { IsNamedAs (IsLinked (typed_modules labeled.entry.modules.now) text.now) (map string_bytes labeled.entry.labels.now) (typed_modules labeled.entry.modules.now) text.now (map_ok (λ s. s.shown) result) }
     ensures placed { IfOk result (λ s. IfSome s.placements (λ p. length p.items ≡ length labeled.entry.modules.now)) }
+    ensures linked { IfOk result (λ s. ArePlaced Image (typed_modules labeled.entry.modules.now) text.now (option_map (λ p. p.items) s.placements)) }
 {
     match text_at(alloc, labeled.modules, text) {
         Ok((shown, placements)) => Ok(ShownAt {
@@ -64,6 +68,7 @@ fn file_shown(
     requires { length labeled.modules.now < 2 ^ 32 }
     ensures shown { IsRom form (map string_bytes labeled.entry.labels.now) (typed_modules labeled.entry.modules.now) text.now (map_ok (λ s. s.shown) result) }
     ensures placed { IfOk result (λ s. IfSome s.placements (λ p. length p.items ≡ length labeled.entry.modules.now)) }
+    ensures linked { IfOk result (λ s. ArePlaced (Rom form) (typed_modules labeled.entry.modules.now) text.now (option_map (λ p. p.items) s.placements)) }
 {
     match file_at(alloc, form, labeled, text) {
         Ok((file, placements)) => Ok(ShownAt {
@@ -123,6 +128,31 @@ fn made(alloc: Global, made: Result<Vec<u8>, ImageFault>) -> Result<ShownAt, Ima
     }
 }
 
+/// The map of modules, as a result.
+fn map_at(alloc: Global, labeled: Labeled<'_>, text: &[u8]) -> Result<ShownAt, ImageFault>
+    requires { length labeled.modules.now < 2 ^ 32 }
+    ensures shown { IsNamedAs (IsMapped (map string_bytes labeled.entry.labels.now) (typed_modules labeled.entry.modules.now) text.now) (map string_bytes labeled.entry.labels.now) (typed_modules labeled.entry.modules.now) text.now (map_ok (λ s. s.shown) result) }
+    ensures placed { IfOk result (λ s. s.placements ≡ None) }
+    ensures linked { IfOk result (λ s. ArePlaced Map (typed_modules labeled.entry.modules.now) text.now (option_map (λ p. p.items) s.placements)) }
+{
+    made(alloc, map_shown(alloc, labeled, text))
+}
+
+/// The draft of a link text for modules, as a result.
+fn draft_at(
+    alloc: Global,
+    labeled: Labeled<'_>,
+    text: &[u8],
+    asked: AskedOptions,
+) -> Result<ShownAt, ImageFault>
+    requires { length labeled.modules.now < 2 ^ 32 }
+    ensures shown { IsDrafted (options_for (typed_modules labeled.entry.modules.now) asked) (typed_modules labeled.entry.modules.now) (map_ok (λ s. s.shown) result) }
+    ensures placed { IfOk result (λ s. s.placements ≡ None) }
+    ensures linked { IfOk result (λ s. ArePlaced (Draft asked) (typed_modules labeled.entry.modules.now) text.now (option_map (λ p. p.items) s.placements)) }
+{
+    made(alloc, draft_asked(alloc, labeled.modules, asked))
+}
+
 /// What a task prints for modules and a link text as it is read, and where the modules are.
 fn plain_shown_at(
     alloc: Global,
@@ -133,12 +163,13 @@ fn plain_shown_at(
     requires { length labeled.modules.now < 2 ^ 32 }
     ensures shown { AreShownAt task (map string_bytes labeled.entry.labels.now) (typed_modules labeled.entry.modules.now) text.now (map_ok (λ s. s.shown) result) }
     ensures placed { IfOk result (λ s. IfSome s.placements (λ p. length p.items ≡ length labeled.entry.modules.now)) }
+    ensures linked { IfOk result (λ s. ArePlaced task (typed_modules labeled.entry.modules.now) text.now (option_map (λ p. p.items) s.placements)) }
 {
     match task {
         Task::Image => image_shown(alloc, labeled, text),
         Task::Rom(form) => file_shown(alloc, form, labeled, text),
-        Task::Map => made(alloc, map_shown(alloc, labeled, text)),
-        Task::Draft(asked) => made(alloc, draft_asked(alloc, labeled.modules, asked)),
+        Task::Map => map_at(alloc, labeled, text),
+        Task::Draft(asked) => draft_at(alloc, labeled, text, asked),
     }
 }
 
@@ -152,6 +183,7 @@ pub(crate) fn shown_at(
     requires { length labeled.modules.now < 2 ^ 32 }
     ensures shown { AreShown task (map string_bytes labeled.entry.labels.now) (typed_modules labeled.entry.modules.now) text.now (map_ok (λ s. s.shown) result) }
     ensures placed { IfOk result (λ s. IfSome s.placements (λ p. length p.items ≡ length labeled.entry.modules.now)) }
+    ensures linked { IfOk result (λ s. ArePlaced task (typed_modules labeled.entry.modules.now) (plain_text text.now) (option_map (λ p. p.items) s.placements)) }
 {
     match plain_text(alloc, text) {
         Ok(text) => plain_shown_at(alloc, task, labeled, &text),

@@ -1,6 +1,6 @@
 //! The externals of several modules for which no public or more than one is found, as text.
 
-ghost use Rattle.std.specs.Prelude.{◌≡◌, ◌++◌, ◌∷◌, [], ◌<◌, ◌^◌, Bool, IfOk, List, None, OnOk, Some, ℕ, codes, false, flat_map, length, map, string_bytes};
+ghost use Rattle.std.specs.Prelude.{◌≡◌, ◌++◌, ◌∷◌, [], ◌<◌, ◌^◌, Bool, IfOk, List, None, OnOk, Some, ℕ, codes, flat_map, length, map, string_bytes};
 ghost use Rattle.std.specs.BTreeMap.{IsOrdered};
 ghost use Rattle.std.specs.Cmp.Lexicographic.{slice_cmp};
 ghost use Rattle.std.specs.List.{enumerate_from};
@@ -9,7 +9,7 @@ ghost use Rattle.omf_check.specs.Module.{recs_of, typed_modules};
 ghost use Rattle.omf_frame.specs.Bytes.{AddsText};
 ghost use Rattle.omf_placement.specs.Derive.{named_externals};
 ghost use Rattle.omf_linker.specs.Link.Repeated.{IsRepeatedText, repeated_line};
-ghost use Rattle.omf_linker.specs.Link.Unresolved.{IsByName, Row, after, all_rows, asked_text, external_text, found_text, is_first, is_last, is_same, label_of, module_text, modules_text, name_line, next_text, spots_of, unresolved_text};
+ghost use Rattle.omf_linker.specs.Link.Unresolved.{IsByName, Row, after, all_rows, asked_text, external_text, found_text, is_first, is_last, is_same, label_of, module_text, modules_text, name_line, named_text, next_text, spots_of, unresolved_text};
 
 use crate::drafting::names::NameTable;
 use crate::link::by_name::{ByName, External, Spot, external_at};
@@ -134,37 +134,24 @@ fn is_first(spots: &[Spot], spot: Spot) -> bool
     }
 }
 
-/// The publics and the externals of all modules, by name.
+/// Publics and the externals that look among them, by name: those of all modules that are not local, or the local ones of one module.
 #[derive(Drop)]
 struct Tables<'a> {
-    /// The publics that are not local.
+    /// The publics.
     publics: ByName<'a>,
-    /// The externals that are not local and need a public.
+    /// The externals that need a public.
     asks: ByName<'a>,
 }
 
-/// Appends the line of a local external, by the local publics of its module.
-fn put_local<'a>(
-    text: &mut String,
-    labels: &[String],
-    own: &ByName<'a>,
-    name: &'a [u8],
-    spot: Spot,
-) -> Result<(), AllocError>
-    ensures { (rows : List Row) → IsByName own.now.spots rows → AddsText result (string_bytes text.old) (string_bytes text.new) (found_text (map string_bytes labels.now) name.now (spots_of rows name.now) (spot ∷ [])) }
-{
-    put_found(text, labels, name, own.spots(name), &[spot])
-}
-
-/// Appends the line of the name of an external that is not local, if it is the first that asks for it.
-fn put_shared<'a>(
+/// Appends the line of the name of an external, if it is the first that asks for it.
+fn put_asked<'a>(
     text: &mut String,
     labels: &[String],
     tables: &Tables<'a>,
     name: &'a [u8],
     spot: Spot,
 ) -> Result<(), AllocError>
-    ensures { (publics asks : List Row) → IsByName tables.now.publics.spots publics → IsByName tables.now.asks.spots asks → AddsText result (string_bytes text.old) (string_bytes text.new) (asked_text (map string_bytes labels.now) publics asks [] name.now false spot) }
+    ensures { (publics asks : List Row) → IsByName tables.now.publics.spots publics → IsByName tables.now.asks.spots asks → AddsText result (string_bytes text.old) (string_bytes text.new) (asked_text (map string_bytes labels.now) publics asks name.now spot) }
 {
     let askers = tables.asks.spots(name);
     if !is_first(askers, spot) {
@@ -173,20 +160,20 @@ fn put_shared<'a>(
     put_found(text, labels, name, tables.publics.spots(name), askers)
 }
 
-/// Appends the line of an external that needs a public.
-fn put_asked<'a>(
+/// Appends the line of an external that needs a public, by the tables of its module if it is local.
+fn put_named<'a>(
     text: &mut String,
     labels: &[String],
     tables: &Tables<'a>,
-    own: &ByName<'a>,
+    own: &Tables<'a>,
     external: External<'a>,
 ) -> Result<(), AllocError>
-    ensures { (publics asks rows : List Row) → IsByName tables.now.publics.spots publics → IsByName tables.now.asks.spots asks → IsByName own.now.spots rows → AddsText result (string_bytes text.old) (string_bytes text.new) (asked_text (map string_bytes labels.now) publics asks rows external.entry.name.now external.entry.local external.entry.spot) }
+    ensures { (publics asks rows own_asks : List Row) → IsByName tables.now.publics.spots publics → IsByName tables.now.asks.spots asks → IsByName own.now.publics.spots rows → IsByName own.now.asks.spots own_asks → AddsText result (string_bytes text.old) (string_bytes text.new) (named_text (map string_bytes labels.now) publics asks rows own_asks external.entry.name.now external.entry.local external.entry.spot) }
 {
     if external.local {
-        put_local(text, labels, own, external.name, external.spot)
+        put_asked(text, labels, own, external.name, external.spot)
     } else {
-        put_shared(text, labels, tables, external.name, external.spot)
+        put_asked(text, labels, tables, external.name, external.spot)
     }
 }
 
@@ -196,15 +183,15 @@ fn put_external<'a>(
     labels: &[String],
     settled: &[Settled],
     tables: &Tables<'a>,
-    own: &ByName<'a>,
+    own: &Tables<'a>,
     external: External<'a>,
 ) -> Result<(), AllocError>
-    ensures { (publics asks rows : List Row) → IsByName tables.now.publics.spots publics → IsByName tables.now.asks.spots asks → IsByName own.now.spots rows → AddsText result (string_bytes text.old) (string_bytes text.new) (external_text (map string_bytes labels.now) settled.now publics asks rows external.entry.spot.«module» (external.entry.spot.external, (external.entry.name.now, external.entry.local))) }
+    ensures { (publics asks rows own_asks : List Row) → IsByName tables.now.publics.spots publics → IsByName tables.now.asks.spots asks → IsByName own.now.publics.spots rows → IsByName own.now.asks.spots own_asks → AddsText result (string_bytes text.old) (string_bytes text.new) (external_text (map string_bytes labels.now) settled.now publics asks rows own_asks external.entry.spot.«module» (external.entry.spot.external, (external.entry.name.now, external.entry.local))) }
 {
     if is_settled(settled, external.spot.module, external.spot.external) {
         return Ok(());
     }
-    put_asked(text, labels, tables, own, external)
+    put_named(text, labels, tables, own, external)
 }
 
 /// Appends the lines of the externals of the module with this number.
@@ -213,11 +200,11 @@ fn put_module<'a>(
     labels: &[String],
     settled: &[Settled],
     tables: &Tables<'a>,
-    own: &ByName<'a>,
+    own: &Tables<'a>,
     module: &'a Checked,
     number: u32,
 ) -> Result<(), AllocError>
-    ensures { (publics asks rows : List Row) → IsByName tables.now.publics.spots publics → IsByName tables.now.asks.spots asks → IsByName own.now.spots rows → AddsText result (string_bytes text.old) (string_bytes text.new) (flat_map (external_text (map string_bytes labels.now) settled.now publics asks rows number) (enumerate_from 1 (named_externals (recs_of «module».entry.now.bytes)))) }
+    ensures { (publics asks rows own_asks : List Row) → IsByName tables.now.publics.spots publics → IsByName tables.now.asks.spots asks → IsByName own.now.publics.spots rows → IsByName own.now.asks.spots own_asks → AddsText result (string_bytes text.old) (string_bytes text.new) (flat_map (external_text (map string_bytes labels.now) settled.now publics asks rows own_asks number) (enumerate_from 1 (named_externals (recs_of «module».entry.now.bytes)))) }
 {
     for before in 0..module.externals() {
         let spot = Spot {
@@ -243,15 +230,17 @@ fn put_all<'a>(
     ensures { (publics asks : List Row) → IsByName tables.now.publics.spots publics → IsByName tables.now.asks.spots asks → AddsText result (string_bytes text.old) (string_bytes text.new) (flat_map (module_text (map string_bytes labels.now) settled.now publics asks) (enumerate_from 0 (typed_modules modules.entry.now))) }
 {
     for (j, module) in modules.iter().enumerate() {
-        let own = ByName::of_locals(alloc, j as u32, module)?;
+        let publics = ByName::of_locals(alloc, j as u32, module)?;
+        let asks = ByName::of_local_externals(alloc, settled, j as u32, module)?;
+        let own = Tables { publics, asks };
         put_module(text, labels, settled, tables, &own, module, j as u32)?;
     }
     Ok(())
 }
 
 /// The externals of modules for which no public or more than one is found, as text: a line for each name, in the order in which the names
-/// first appear. `undefined "NAME": M, N` has the modules that ask for it, and `twice "NAME": M, N` the modules that define it. A local
-/// external has a line of its own. Externals that are given a place by hand are left out, and so are weak ones without a public whose default
+/// first appear. `undefined "NAME": M, N` has the modules that ask for it, and `twice "NAME": M, N` the modules that define it. The local
+/// externals of a module have lines of their own, one for each name. Externals that are given a place by hand are left out, and so are weak ones without a public whose default
 /// has a place by hand or the one public of its name. A module is named by its label, or if it has
 /// none by its number from 1, as `module 1`.
 ///

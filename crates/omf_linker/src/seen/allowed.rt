@@ -1,5 +1,8 @@
 //! What a link text may do: the option `--allow`.
 
+ghost use Rattle.std.specs.Prelude.{◌≡◌};
+ghost use Rattle.omf_linker.specs.Seen.Looks.{is_allowed};
+
 use crate::seen::finding::Finding;
 use std::alloc::{AllocError, Global};
 
@@ -70,12 +73,15 @@ impl Allowed {
     }
 
     /// Returns whether what is found is allowed.
-    pub(crate) fn has(&self, found: Finding) -> bool {
+    pub(crate) fn has(&self, found: Finding) -> bool
+        ensures { result ≡ is_allowed self.now found }
+    {
         match found {
             Finding::Overlap { .. } => self.overlap,
             Finding::Align { .. } => self.align,
             Finding::Group(_) => self.group,
-            Finding::Frames { .. } | Finding::Selector(_) => self.frame,
+            Finding::Frames { .. } => self.frame,
+            Finding::Selector(_) => self.frame,
             Finding::Near(_) => self.near,
         }
     }

@@ -1,10 +1,12 @@
 //! A task of `omf-link` over files or an input, with a look at what the link text does unseen.
 
-ghost use Rattle.std.specs.Prelude.{◌≡◌, ◌<◌, ◌^◌, [], IfSome, length, map, string_bytes};
+ghost use Rattle.std.specs.Prelude.{◌≡◌, ◌∷◌, ◌<◌, ◌^◌, [], IfOk, IfSome, OnOk, filter, length, map, option_map, string_bytes};
 ghost use Rattle.omf_check.specs.Module.{typed_modules};
 ghost use Rattle.omf_records.specs.Inner.Seen.{map_ok};
 ghost use Rattle.omf_linker.specs.Link.Files.{AreFilesShown, IsShownAs};
 ghost use Rattle.omf_linker.specs.Link.Shown.{AreShown, IsShownOf};
+ghost use Rattle.omf_linker.specs.Seen.Lines.{HasLines};
+ghost use Rattle.omf_linker.specs.Seen.Looks.{AreFound, AreFoundAt, AreLookedFrom, AreLookedIn, AreLookedOf, counts, counts_twice, repeated_by};
 
 use crate::lines::Labeled;
 use crate::link::{
@@ -15,6 +17,7 @@ use crate::seen::allowed::Allowed;
 use crate::seen::finding::{Finding, unseen};
 use crate::seen::lines::put_line;
 use omf_check::Checked;
+use omf_placement::Placement;
 use std::alloc::{AllocError, Global};
 
 /// The output of a task, and a line for each thing that the link text does unseen.
@@ -37,19 +40,13 @@ pub struct SeenLines {
 
 impl SeenLines {
     /// No lines.
-    fn new(alloc: Global) -> SeenLines {
+    fn new(alloc: Global) -> SeenLines
+        ensures faults { string_bytes result.faults ≡ [] }
+        ensures warnings { string_bytes result.warnings ≡ [] }
+    {
         SeenLines {
             faults: String::new(alloc),
             warnings: String::new(alloc),
-        }
-    }
-
-    /// The lines of what is allowed, or of what is not.
-    fn of(&mut self, is_allowed: bool) -> &mut String {
-        if is_allowed {
-            &mut self.warnings
-        } else {
-            &mut self.faults
         }
     }
 }
@@ -75,63 +72,131 @@ pub fn is_looked_at(task: Task) -> bool {
     }
 }
 
-/// What a link text does unseen with modules at their placements; nothing for a task that puts no modules into memory.
-fn found_at(alloc: Global, modules: &[Checked], at: &ShownAt) -> Result<Vec<Finding>, AllocError>
-    requires few { length modules.now < 2 ^ 32 }
-    requires placed { IfSome at.now.placements (λ p. length p.items ≡ length modules.now) }
+/// Whether what is found counts as a warning, or as a fault.
+fn counts(allowed: Allowed, as_warning: bool, found: Finding) -> bool
+    ensures { result ≡ counts allowed as_warning found }
 {
-    match &at.placements {
-        Some(placements) => unseen(alloc, modules, placements),
-        None => Ok(Vec::new(alloc)),
+    if as_warning {
+        allowed.has(found)
+    } else {
+        !allowed.has(found)
     }
 }
 
-/// Appends the lines of the names that more than one public has, if a task puts modules into memory.
-fn add_repeated(
-    alloc: Global,
-    lines: &mut SeenLines,
-    allowed: Allowed,
-    labeled: Labeled<'_>,
-    at: &ShownAt,
-) -> Result<(), AllocError>
-    requires { length labeled.modules.now < 2 ^ 32 }
+/// Whether names that more than one public has count as a warning, or as a fault.
+fn counts_twice(allowed: Allowed, as_warning: bool) -> bool
+    ensures { result ≡ counts_twice allowed as_warning }
 {
-    if at.placements.is_none() {
+    if as_warning {
+        allowed.twice
+    } else {
+        !allowed.twice
+    }
+}
+
+/// Appends the line of what is found, if it counts as a warning, or as a fault.
+fn add_one(
+    text: &mut String,
+    allowed: Allowed,
+    as_warning: bool,
+    labeled: Labeled<'_>,
+    found: Finding,
+) -> Result<(), AllocError>
+    ensures { OnOk result (HasLines (map string_bytes labeled.entry.labels.now) (typed_modules labeled.entry.modules.now) (filter (counts allowed as_warning) (found ∷ [])) (string_bytes text.old) (string_bytes text.new)) }
+{
+    if !counts(allowed, as_warning, found) {
         return Ok(());
     }
-    let repeated = repeated_text(alloc, labeled.labels, labeled.modules)?;
-    lines.of(allowed.twice).push_str(repeated.as_str())
+    put_line(text, labeled, found)
 }
 
-/// Appends the lines of what is found: of what is not allowed, and of what is.
+/// Appends the lines of what is found that counts as a warning, or as a fault.
 fn add_found(
-    lines: &mut SeenLines,
+    text: &mut String,
     allowed: Allowed,
+    as_warning: bool,
     labeled: Labeled<'_>,
     found: &[Finding],
-) -> Result<(), AllocError> {
+) -> Result<(), AllocError>
+    ensures { OnOk result (HasLines (map string_bytes labeled.entry.labels.now) (typed_modules labeled.entry.modules.now) (filter (counts allowed as_warning) found.now) (string_bytes text.old) (string_bytes text.new)) }
+{
     for one in found {
-        let text = lines.of(allowed.has(*one));
-        put_line(text, labeled.labels, labeled.modules, *one)?;
+        add_one(text, allowed, as_warning, labeled, *one)?;
     }
     Ok(())
 }
 
-/// The lines of what a link text does unseen with modules at their placements.
+/// These lines of names that more than one public has, if they are wanted; no lines if not.
+fn repeated_by(alloc: Global, said: bool, repeated: &str) -> Result<String, AllocError>
+    ensures { IfOk result (λ t. string_bytes t ≡ repeated_by said repeated.now) }
+{
+    let mut text = String::new(alloc);
+    if !said {
+        return Ok(text);
+    }
+    text.push_str(repeated)?;
+    Ok(text)
+}
+
+/// What a look at modules finds.
+#[derive(Drop)]
+struct Looked {
+    /// The lines of the names that more than one public has.
+    repeated: String,
+    /// What their placements do that may not be meant.
+    found: Vec<Finding>,
+}
+
+/// The lines of what counts as a warning, or as a fault.
+fn lines_of(
+    alloc: Global,
+    allowed: Allowed,
+    as_warning: bool,
+    labeled: Labeled<'_>,
+    looked: &Looked,
+) -> Result<String, AllocError>
+    ensures { IfOk result (λ t. HasLines (map string_bytes labeled.entry.labels.now) (typed_modules labeled.entry.modules.now) (filter (counts allowed as_warning) looked.now.found.items) (repeated_by (counts_twice allowed as_warning) (string_bytes looked.now.repeated)) (string_bytes t)) }
+{
+    let said = counts_twice(allowed, as_warning);
+    let mut text = repeated_by(alloc, said, looked.repeated.as_str())?;
+    add_found(&mut text, allowed, as_warning, labeled, &looked.found)?;
+    Ok(text)
+}
+
+/// The lines of what a link text does unseen with modules at these placements.
+fn found_at(
+    alloc: Global,
+    allowed: Allowed,
+    labeled: Labeled<'_>,
+    placements: &[Placement],
+) -> Result<SeenLines, AllocError>
+    requires few { length labeled.modules.now < 2 ^ 32 }
+    requires placed { length placements.now ≡ length labeled.modules.now }
+    ensures { IfOk result (λ l. AreFound allowed (map string_bytes labeled.entry.labels.now) labeled.entry.modules.now placements.now l) }
+{
+    let found = unseen(alloc, labeled.modules, placements)?;
+    let repeated = repeated_text(alloc, labeled.labels, labeled.modules)?;
+    let looked = Looked { repeated, found };
+    let faults = lines_of(alloc, allowed, false, labeled, &looked)?;
+    let warnings = lines_of(alloc, allowed, true, labeled, &looked)?;
+    Ok(SeenLines { faults, warnings })
+}
+
+/// The lines of what a link text does unseen with modules at their placements; none for a task that puts no modules into memory.
 fn looked_at(
     alloc: Global,
     allowed: Allowed,
     labeled: Labeled<'_>,
-    at: &ShownAt,
+    placements: Option<Vec<Placement>>,
 ) -> Result<SeenLines, AllocError>
     requires few { length labeled.modules.now < 2 ^ 32 }
-    requires placed { IfSome at.now.placements (λ p. length p.items ≡ length labeled.modules.now) }
+    requires placed { IfSome placements (λ p. length p.items ≡ length labeled.modules.now) }
+    ensures { IfOk result (λ l. AreFoundAt allowed (map string_bytes labeled.entry.labels.now) labeled.entry.modules.now (option_map (λ p. p.items) placements) l) }
 {
-    let found = found_at(alloc, labeled.modules, at)?;
-    let mut lines = SeenLines::new(alloc);
-    add_repeated(alloc, &mut lines, allowed, labeled, at)?;
-    add_found(&mut lines, allowed, labeled, &found)?;
-    Ok(lines)
+    match placements {
+        Some(placements) => found_at(alloc, allowed, labeled, &placements),
+        None => Ok(SeenLines::new(alloc)),
+    }
 }
 
 /// The output of a task for modules, with the lines of what the link text does unseen.
@@ -141,15 +206,14 @@ pub(crate) fn modules_seen(
     labeled: Labeled<'_>,
 ) -> Result<SeenText, ImageFault>
     requires { length labeled.modules.now < 2 ^ 32 }
-    ensures { AreShown request.entry.task (map string_bytes labeled.entry.labels.now) (typed_modules labeled.entry.modules.now) request.entry.text.now (map_ok (λ s. s.shown) result) }
+    ensures shown { AreShown request.entry.task (map string_bytes labeled.entry.labels.now) (typed_modules labeled.entry.modules.now) request.entry.text.now (map_ok (λ s. s.shown) result) }
+    ensures looked { IfOk result (λ s. IfOk s.looked (AreLookedIn request.entry.task request.entry.allowed (map string_bytes labeled.entry.labels.now) labeled.entry.modules.now request.entry.text.now)) }
 {
     match shown_at(alloc, request.task, labeled, request.text) {
         Ok(at) => {
-            let looked = looked_at(alloc, request.allowed, labeled, &at);
-            Ok(SeenText {
-                shown: at.shown,
-                looked,
-            })
+            let ShownAt { shown, placements } = at;
+            let looked = looked_at(alloc, request.allowed, labeled, placements);
+            Ok(SeenText { shown, looked })
         }
         Err(fault) => Err(fault),
     }
@@ -162,7 +226,8 @@ fn unlabeled_seen(
     modules: &[Checked],
 ) -> Result<SeenText, ImageFault>
     requires { length modules.now < 2 ^ 32 }
-    ensures { AreShown request.entry.task [] (typed_modules modules.now) request.entry.text.now (map_ok (λ s. s.shown) result) }
+    ensures shown { AreShown request.entry.task [] (typed_modules modules.now) request.entry.text.now (map_ok (λ s. s.shown) result) }
+    ensures looked { IfOk result (λ s. IfOk s.looked (AreLookedIn request.entry.task request.entry.allowed [] modules.entry.now request.entry.text.now)) }
 {
     let labeled = Labeled {
         labels: &[],
@@ -178,7 +243,8 @@ fn of_modules(
     labeled: Labeled<'_>,
 ) -> Result<SeenText, FilesFault>
     requires { length labeled.modules.now < 2 ^ 32 }
-    ensures { IsShownAs request.entry.task (map string_bytes labeled.entry.labels.now) (typed_modules labeled.entry.modules.now) request.entry.text.now (map_ok (λ s. s.shown) result) }
+    ensures shown { IsShownAs request.entry.task (map string_bytes labeled.entry.labels.now) (typed_modules labeled.entry.modules.now) request.entry.text.now (map_ok (λ s. s.shown) result) }
+    ensures looked { IfOk result (λ s. IfOk s.looked (AreLookedIn request.entry.task request.entry.allowed (map string_bytes labeled.entry.labels.now) labeled.entry.modules.now request.entry.text.now)) }
 {
     match modules_seen(alloc, request, labeled) {
         Ok(seen) => Ok(seen),
@@ -199,7 +265,8 @@ pub fn files_seen(
     request: Request<'_>,
     files: Vec<InputFile>,
 ) -> Result<SeenText, FilesFault>
-    ensures { AreFilesShown request.entry.task files.items request.entry.text.now (map_ok (λ s. s.shown) result) }
+    ensures shown { AreFilesShown request.entry.task files.items request.entry.text.now (map_ok (λ s. s.shown) result) }
+    ensures looked { IfOk result (λ s. IfOk s.looked (AreLookedFrom (AreLookedIn request.entry.task request.entry.allowed) files.items request.entry.text.now)) }
 {
     match LabeledModules::of(alloc, files) {
         Ok(all) => {
@@ -225,7 +292,8 @@ pub fn input_seen(
     input: Vec<u8>,
     allowed: Allowed,
 ) -> Result<SeenText, ImageFault>
-    ensures { IsShownOf task input.items (map_ok (λ s. s.shown) result) }
+    ensures shown { IsShownOf task input.items (map_ok (λ s. s.shown) result) }
+    ensures looked { IfOk result (λ s. IfOk s.looked (AreLookedOf (AreLookedIn task allowed) input.items)) }
 {
     match parted(alloc, input) {
         Ok((modules, text)) => {

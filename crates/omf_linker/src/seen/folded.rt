@@ -7,6 +7,7 @@ ghost use Rattle.omf_linking.specs.Folded.{IsFolded};
 ghost use Rattle.omf_linking.specs.FoldedText.{folded_text};
 ghost use Rattle.omf_linking.specs.PlainText.{plain_text};
 ghost use Rattle.omf_linker.specs.Link.Folded.{AreFilesFolded, IsFoldedOf, IsShownFolded, IsShownFoldedAs};
+ghost use Rattle.omf_linker.specs.Seen.Looks.{AreLookedFolded, AreLookedFrom, AreLookedOf};
 
 use crate::lines::Labeled;
 use crate::link::{FilesFault, ImageFault, InputFile, LabeledModules, Task, parted};
@@ -43,7 +44,8 @@ fn folded_seen(
     modules: Vec<Checked>,
 ) -> Result<SeenText, ImageFault>
     requires { length modules.items < 2 ^ 32 }
-    ensures { IsShownFolded request.entry.task (map string_bytes labels.now) modules.items request.entry.text.now (map_ok (λ s. s.shown) result) }
+    ensures shown { IsShownFolded request.entry.task (map string_bytes labels.now) modules.items request.entry.text.now (map_ok (λ s. s.shown) result) }
+    ensures looked { IfOk result (λ s. IfOk s.looked (AreLookedFolded request.entry.task request.entry.allowed (map string_bytes labels.now) modules.items request.entry.text.now)) }
 {
     let Ok(folded) = fold(alloc, modules, request.text) else {
         return Err(ImageFault::Link(LinkFault::Memory));
@@ -66,7 +68,8 @@ fn of_modules(
     all: LabeledModules,
 ) -> Result<SeenText, FilesFault>
     requires { length all.modules.items < 2 ^ 32 }
-    ensures { IsShownFoldedAs request.entry.task (map string_bytes all.labels.items) all.modules.items request.entry.text.now (map_ok (λ s. s.shown) result) }
+    ensures shown { IsShownFoldedAs request.entry.task (map string_bytes all.labels.items) all.modules.items request.entry.text.now (map_ok (λ s. s.shown) result) }
+    ensures looked { IfOk result (λ s. IfOk s.looked (AreLookedFolded request.entry.task request.entry.allowed (map string_bytes all.labels.items) all.modules.items request.entry.text.now)) }
 {
     let LabeledModules { modules, labels } = all;
     match folded_seen(alloc, request, &labels, modules) {
@@ -86,7 +89,8 @@ pub fn files_folded(
     request: Request<'_>,
     files: Vec<InputFile>,
 ) -> Result<SeenText, FilesFault>
-    ensures { AreFilesFolded request.entry.task files.items request.entry.text.now (map_ok (λ s. s.shown) result) }
+    ensures shown { AreFilesFolded request.entry.task files.items request.entry.text.now (map_ok (λ s. s.shown) result) }
+    ensures looked { IfOk result (λ s. IfOk s.looked (AreLookedFrom (AreLookedFolded request.entry.task request.entry.allowed) files.items request.entry.text.now)) }
 {
     match LabeledModules::of(alloc, files) {
         Ok(all) => of_modules(alloc, request, all),
@@ -106,7 +110,8 @@ pub fn input_folded(
     input: Vec<u8>,
     allowed: Allowed,
 ) -> Result<SeenText, ImageFault>
-    ensures { IsFoldedOf task input.items (map_ok (λ s. s.shown) result) }
+    ensures shown { IsFoldedOf task input.items (map_ok (λ s. s.shown) result) }
+    ensures looked { IfOk result (λ s. IfOk s.looked (AreLookedOf (AreLookedFolded task allowed) input.items)) }
 {
     match parted(alloc, input) {
         Ok((modules, text)) => {

@@ -367,7 +367,7 @@ static CASES: [Case; 37] = [
         modules: [CALLER, CALLED],
         text: "M #1\nS #1 10020 10020 1002\nM #2\nS #1 10000 10000 1000",
         allowed: NOTHING,
-        faults: "near: file \"a.obj\" module 1 segment \"T\" offset 00000001: \"X\" is in another frame\n",
+        faults: "near: file \"a.obj\" module 1 segment \"T\" offset 00000001: \"X\" in segment \"U\" is in another frame\n",
         warnings: "",
     },
     Case {
@@ -382,7 +382,7 @@ static CASES: [Case; 37] = [
             twice: false,
         },
         faults: "",
-        warnings: "near: file \"a.obj\" module 1 segment \"T\" offset 00000001: \"X\" is in another frame\n",
+        warnings: "near: file \"a.obj\" module 1 segment \"T\" offset 00000001: \"X\" in segment \"U\" is in another frame\n",
     },
     Case {
         modules: [CALLER, CALLED],

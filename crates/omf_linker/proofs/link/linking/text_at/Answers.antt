@@ -14,3 +14,6 @@ returns-in_err-linked-clause-shown c =
 
 pub returns-clause-shown : goal.returns-clause-shown
 returns-clause-shown c = (together (typed_modules c.args.modules.now) c.args.text.now c.in_ok-linked.linked c.in_ok-linked.ensures.linked, c.in_ok-shown.ensures)
+
+pub returns-clause-linked : goal.returns-clause-linked
+returns-clause-linked c = c.in_ok-linked.ensures.linked.placed

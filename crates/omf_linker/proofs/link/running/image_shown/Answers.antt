@@ -9,3 +9,6 @@ pub returns-in-Err-clause-shown : goal.returns-in-Err-clause-shown
 returns-in-Err-clause-shown c =
     let ms = typed_modules c.args.labeled.modules.now in
     with_lines (IsLinked ms c.args.text.now) (map string_bytes c.args.labeled.labels.now) ms c.args.text.now c.in-Err.fault c.named.result c.in-Err.ensures.shown c.named.ensures
+
+pub returns-in-Ok-clause-linked : goal.returns-in-Ok-clause-linked
+returns-in-Ok-clause-linked c = c.in-Ok.ensures.linked

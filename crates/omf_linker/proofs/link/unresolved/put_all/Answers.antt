@@ -17,7 +17,7 @@ loop-j-preserved c = λ publics asks h a.
     let j = c.loop-j.j in
     let m = recs (records_in c.index-modules-j.result.bytes) in
     let f = module_text (map string_bytes c.args.labels.now) c.args.settled.now publics asks in
-    part_more _ _ (f (j, m)) _ _ _ (c.in_ok-put_module.ensures publics asks _ h a c.in_ok-own.ensures)
+    part_more _ _ (f (j, m)) _ _ _ (c.in_ok-put_module.ensures publics asks _ _ h a c.in_ok-publics.ensures c.in_ok-asks.ensures)
     (ap (λ xs. flat_map f (enumerate_from j xs)) (next-one ms j c.index-modules-j.result c.index-modules-j.is c.loop-j-test.true)) (c.loop-j.invariant publics asks h a)
 
 pub returns : goal.returns

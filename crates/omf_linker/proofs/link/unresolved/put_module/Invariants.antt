@@ -12,7 +12,7 @@ use Rattle.omf_linker.proofs.link.unresolved.put_module.Given as goal
 abbrev pub invariant-loop-before : goal.invariant-loop-before
 invariant-loop-before l = let m = recs (records_in l.«module».bytes) in record {
   end : l.before-end ≡ length (externals m);
-  lines : (publics asks rows : List Row) → IsByName l.tables.publics.spots publics → IsByName l.tables.asks.spots asks → IsByName l.own.spots rows
-      → let f = external_text (map string_bytes l.labels) l.settled publics asks rows l.number in
+  lines : (publics asks rows own_asks : List Row) → IsByName l.tables.publics.spots publics → IsByName l.tables.asks.spots asks → IsByName l.own.publics.spots rows → IsByName l.own.asks.spots own_asks
+      → let f = external_text (map string_bytes l.labels) l.settled publics asks rows own_asks l.number in
       string_bytes l.text ++ flat_map f (enumerate_from (l.before + 1) (drop l.before (named_externals m))) ≡ string_bytes l.fn.text ++ flat_map f (enumerate_from 1 (named_externals m));
 }

@@ -20,12 +20,12 @@ loop-before-preserved c =
     let k = c.loop-before.before in
     let x = c.external_at.result in
     let e : x.spot ≡ spot c.args.number (k + 1) = c.external_at.ensures.same in
-    let here : HasMore c.loop-before.self.spots c.add_external.new.self.spots (asked_row c.args.settled.now c.args.number (k + 1, (x.name.now, x.local)))
-    = subst (λ (s : Spot). HasMore c.loop-before.self.spots c.add_external.new.self.spots (asked_row c.args.settled.now s.«module» (s.external, (x.name.now, x.local)))) e c.in_ok-add_external.ensures in
+    let here : HasMore c.loop-before.self.spots c.add_external.new.self.spots (asked_row c.args.local c.args.settled.now c.args.number (k + 1, (x.name.now, x.local)))
+    = subst (λ (s : Spot). HasMore c.loop-before.self.spots c.add_external.new.self.spots (asked_row c.args.local c.args.settled.now s.«module» (s.external, (x.name.now, x.local)))) e c.in_ok-add_external.ensures in
     record {
       end = c.loop-before.invariant.end;
-      filled = fill-more IsByName c.args.self.now.spots c.loop-before.self.spots c.add_external.new.self.spots (asked_row c.args.settled.now c.args.number (k + 1, (x.name.now, x.local))) _ _ _
-          (ap (λ xs. flat_map (asked_row c.args.settled.now c.args.number) (enumerate_from (k + 1) xs)) (next_entry (named_externals m) k (x.name.now, x.local) (c.external_at.ensures.named))) here c.loop-before.invariant.filled;
+      filled = fill-more IsByName c.args.self.now.spots c.loop-before.self.spots c.add_external.new.self.spots (asked_row c.args.local c.args.settled.now c.args.number (k + 1, (x.name.now, x.local))) _ _ _
+          (ap (λ xs. flat_map (asked_row c.args.local c.args.settled.now c.args.number) (enumerate_from (k + 1) xs)) (next_entry (named_externals m) k (x.name.now, x.local) (c.external_at.ensures.named))) here c.loop-before.invariant.filled;
     }
 
 pub returns : goal.returns
@@ -33,4 +33,4 @@ returns c =
     let m = recs (records_in c.args.«module».now.bytes) in
     let k = c.loop-before.before in
     fill-end IsByName c.args.self.now.spots c.loop-before.self.spots _ _
-    (ap (λ xs. flat_map (asked_row c.args.settled.now c.args.number) (enumerate_from (k + 1) xs)) (none_after (named_externals m) k (omega (arith, c.loop-before-test.false, c.loop-before.invariant.end, named-count m)))) c.loop-before.invariant.filled
+    (ap (λ xs. flat_map (asked_row c.args.local c.args.settled.now c.args.number) (enumerate_from (k + 1) xs)) (none_after (named_externals m) k (omega (arith, c.loop-before-test.false, c.loop-before.invariant.end, named-count m)))) c.loop-before.invariant.filled

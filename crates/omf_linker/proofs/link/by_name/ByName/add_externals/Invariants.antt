@@ -13,5 +13,5 @@ use Rattle.omf_linker.proofs.link.by_name.ByName.add_externals.Given as goal
 abbrev pub invariant-loop-before : goal.invariant-loop-before
 invariant-loop-before l = let m = recs (records_in l.«module».bytes) in record {
   end : l.before-end ≡ length (externals m);
-  filled : IsFilled IsByName l.fn.self.spots l.self.spots (flat_map (asked_row l.settled l.number) (enumerate_from (l.before + 1) (drop l.before (named_externals m)))) (asked_rows l.settled (l.number, m));
+  filled : IsFilled IsByName l.fn.self.spots l.self.spots (flat_map (asked_row l.local l.settled l.number) (enumerate_from (l.before + 1) (drop l.before (named_externals m)))) (asked_rows l.local l.settled (l.number, m));
 }

@@ -1,4 +1,4 @@
-use Rattle.std.proofs.Common.{drop}
+use Rattle.std.proofs.Common.{drop, false}
 use Rattle.std.specs.Prelude.{flat_map}
 use Rattle.std.specs.List.{enumerate_from}
 use Rattle.omf_check.specs.Module.{typed_modules}
@@ -8,4 +8,4 @@ use Rattle.omf_linker.proofs.link.by_name.ByName.of_externals.Given as goal
 
 -- the externals of the modules so far are in the table
 abbrev pub invariant-loop-j : goal.invariant-loop-j
-invariant-loop-j l = IsFilled IsByName l.initial.table.spots l.table.spots (flat_map (asked_rows l.settled) (enumerate_from l.j (typed_modules (drop l.j l.modules)))) (all_asked l.settled (typed_modules l.modules))
+invariant-loop-j l = IsFilled IsByName l.initial.table.spots l.table.spots (flat_map (asked_rows false l.settled) (enumerate_from l.j (typed_modules (drop l.j l.modules)))) (all_asked l.settled (typed_modules l.modules))
