@@ -65,8 +65,9 @@ pub(crate) const ABOUT: About = About {
   --flat SELECTOR          draft: one frame with base 0 and this selector; the
                            default for other modules, with selector 0
 
-Numbers are hexadecimal, but for BYTES: 1000, 0x1000 and 1000H are one. @FILE
-is the words of a file, and -- ends the options.
+Numbers are hexadecimal, but for BYTES: 1000, 0x1000 and 1000H are one, and so
+are --base 1000 and --base=1000. @FILE is the words of a file, and -- ends the
+options.
 
 Where a file is -, omf-link reads the standard input; without files also, but
 for exe and com. omf-link(1), docs/DOS.md and docs/ADDRESSES.md show examples,

@@ -1,5 +1,13 @@
 //! The program on the arguments, the files, the standard input, the standard output and the standard error of its process.
 
+ghost use Rattle.std.specs.Prelude.{◌≡◌, [], IfOk, false, string_bytes, true};
+ghost use Rattle.omf_host.specs.Streams.{IsTold};
+ghost use Rattle.omf_host.specs.declared.ending.Status.TheVariants.{Refused};
+ghost use Rattle.omf_records.specs.Inner.Seen.{map_ok};
+ghost use Rattle.omf_linker.specs.Link.Files.{AreFilesShown};
+ghost use Rattle.omf_linker.specs.Link.Folded.{AreFilesFolded};
+ghost use Rattle.omf_linker.specs.Seen.Looks.{AreLookedFolded, AreLookedFrom, AreLookedIn};
+
 use crate::about::ABOUT;
 use crate::exe;
 use crate::mapping::kept_files;
@@ -21,6 +29,7 @@ use omf_linker::seen::{
 use std::alloc::{AllocError, Global};
 use std::mem;
 use std::process::ExitCode;
+use std::str::from_utf8;
 
 /// Reads the files. None if one could not be read.
 pub(crate) fn read_files<K: Sink, E: Sink>(
@@ -82,12 +91,12 @@ struct Manner {
 
 impl Manner {
     /// What the task gives for files and a link text.
-    fn seen(
-        self,
-        alloc: Global,
-        files: Vec<InputFile>,
-        text: &[u8],
-    ) -> Result<SeenText, FilesFault> {
+    fn seen(self, alloc: Global, files: Vec<InputFile>, text: &[u8]) -> Result<SeenText, FilesFault>
+        ensures shown { self.ignores_case ≡ false → AreFilesShown self.task files.items text.now (map_ok (λ s. s.shown) result) }
+        ensures folded { self.ignores_case ≡ true → AreFilesFolded self.task files.items text.now (map_ok (λ s. s.shown) result) }
+        ensures looked { self.ignores_case ≡ false → IfOk result (λ s. IfOk s.looked (AreLookedFrom (AreLookedIn self.task self.allowed) files.items text.now)) }
+        ensures looked_folded { self.ignores_case ≡ true → IfOk result (λ s. IfOk s.looked (AreLookedFrom (AreLookedFolded self.task self.allowed) files.items text.now)) }
+    {
         let request = Request {
             task: self.task,
             text,
@@ -149,7 +158,9 @@ fn written_or_told<K: Sink, E: Sink>(
     name: Option<&str>,
     seen: &SeenText,
     streams: &mut Streams<K, E>,
-) -> Result<Status, AllocError> {
+) -> Result<Status, AllocError>
+    ensures refused { IfOk result (λ status. IfOk seen.now.looked (λ lines. (string_bytes lines.faults ≡ [] → ⊥) → (status ≡ Refused) × IsTold streams.old.name.now (string_bytes lines.faults) (E.seen streams.old.errors) (E.seen streams.new.errors) × (streams.new.output ≡ streams.old.output))) }
+{
     let Ok(lines) = &seen.looked else {
         return Err(AllocError);
     };
@@ -203,7 +214,57 @@ fn tell_files_fault<K, E: Sink>(
     Ok(status)
 }
 
-/// Writes the map of the files that are not refused. Returns the status.
+/// The same files once more.
+fn copies(alloc: Global, files: &[InputFile]) -> Result<Vec<InputFile>, AllocError> {
+    let mut copies = Vec::new(alloc);
+    for file in files {
+        let mut bytes = Vec::new(alloc);
+        bytes.extend_from_slice(file.bytes())?;
+        let name = from_utf8(file.name()).unwrap_or("");
+        copies.push(InputFile::new(String::from_str(alloc, name)?, bytes))?;
+    }
+    Ok(copies)
+}
+
+/// All that a link text may do is allowed, but for names that two publics have.
+fn all_but_twice() -> Allowed {
+    Allowed {
+        overlap: true,
+        align: true,
+        group: true,
+        frame: true,
+        near: true,
+        twice: false,
+    }
+}
+
+/// Writes warnings on what the link text of a map does unseen, if it gives all places, so that there is a memory to look at. A map has lines of its
+/// own for names that two publics have. Returns the status.
+fn warn_of_map<K: Sink, E: Sink>(
+    rt: &HostRuntime,
+    manner: Manner,
+    files: Vec<InputFile>,
+    text: &[u8],
+    streams: &mut Streams<K, E>,
+) -> Result<Status, AllocError> {
+    let looks = Manner {
+        task: Task::Image,
+        allowed: all_but_twice(),
+        ignores_case: manner.ignores_case,
+    };
+    match looks.seen(rt.alloc(), files, text) {
+        Ok(seen) => match &seen.looked {
+            Ok(lines) => Ok(warn(rt.alloc(), streams, lines.warnings.as_bytes())),
+            Err(AllocError) => Err(AllocError),
+        },
+        Err(fault) => match Status::of_code(fault.status()) {
+            Status::Failed => Err(AllocError),
+            Status::Done | Status::Refused | Status::Misused => Ok(Status::Done),
+        },
+    }
+}
+
+/// Writes the map of the files that are not refused, after warnings on what its link text does unseen. Returns the status.
 fn on_map<K: Sink, E: Sink>(
     rt: &HostRuntime,
     manner: Manner,
@@ -219,8 +280,12 @@ fn on_map<K: Sink, E: Sink>(
     if files.is_empty() {
         return Ok(kept.status);
     }
+    let again = copies(rt.alloc(), &files)?;
     match manner.seen(rt.alloc(), files, &text) {
         Ok(seen) => {
+            kept.status = kept
+                .status
+                .worst(warn_of_map(rt, manner, again, &text, streams)?);
             let shown = kept.with_lines(rt.alloc(), &seen.shown)?;
             let output = asked.output.as_ref().map(|name| name.as_str());
             Ok(written(rt, output, &shown, streams)?.worst(kept.status))
