@@ -81,12 +81,12 @@ rest_more xs i x e h = drop_more xs i x h ∙ ap (λ y. y ∷ drop (i + 1) xs) (
 
 -- a name, by the texts that the calls take
 pub name_found : (ignores : Bool) (dictionary : Option Dictionary) (publics : List Public) (name bytes shown own given : List ℕ) (is_refused : Bool) (old new : List ℕ) → bytes ≡ name → shown ≡ name → given ≡ own
-    → ArePlaces ignores dictionary publics bytes own → (is_refused ≡ is_nowhere given) × (new ≡ old ++ name_text shown given)
+    → ArePlaces ignores dictionary publics bytes own → (is_refused ≡ is_nowhere given) × (new ≡ old ++ name_text publics shown given)
     → (text : List ℕ) × IsNameFound ignores dictionary publics name is_refused text × (new ≡ old ++ text)
 name_found ignores dictionary publics name bytes shown own given is_refused old new b s g a p = (
-  name_text name own,
+  name_text publics name own,
   (own, subst (λ (n : List ℕ). ArePlaces ignores dictionary publics n own) b a, p.0 ∙ ap is_nowhere g, refl),
-  p.1 ∙ ap₂ (λ (n t : List ℕ). old ++ name_text n t) s g,
+  p.1 ∙ ap₂ (λ (n t : List ℕ). old ++ name_text publics n t) s g,
 )
 
 -- a library, as it is read

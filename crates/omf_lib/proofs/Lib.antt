@@ -1,1 +1,3 @@
 pub mod FindLaws
+pub mod KeyLaws
+pub mod DefiningLaws

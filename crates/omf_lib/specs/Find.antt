@@ -1,5 +1,5 @@
 -- What `omf-lib find` prints (a format of this profile).
-use Rattle.std.specs.Prelude.{◌≡◌, ◌⊎◌, ◌<◌, ℕ, ◌==◌, ◌&&◌, ◌||◌, not, Bool, true, false, if◌then◌else◌, List, [], ◌∷◌, ◌++◌, flat_map, codes, decimal, Option, Some, None, Result, Ok, Err}
+use Rattle.std.specs.Prelude.{◌≡◌, ◌⊎◌, ◌<◌, ℕ, ◌==◌, ◌&&◌, ◌||◌, not, Bool, true, false, if◌then◌else◌, List, [], ◌∷◌, ◌++◌, flat_map, map, codes, decimal, Option, Some, None, Result, Ok, Err}
 use Rattle.omf_check.specs.declared.profile.Profile.{Profile}
 use Rattle.omf_host.specs.Lines.{failure_line}
 use Rattle.omf_host.specs.declared.ending.Status.{Status}
@@ -20,6 +20,7 @@ use Rattle.omf_library.specs.declared.spans.SpanFault.{SpanFault}
 use Rattle.omf_placement.specs.Quoted.{quoted}
 use Rattle.omf_lib.specs.Lines.{fault_line, header_fault, page_fault, public_line}
 use Rattle.omf_lib.specs.Members.{AreAllPublics, Public}
+use Rattle.omf_lib.specs.Near.{near_name}
 use Rattle.omf_lib.specs.declared.asked.Find.{Find}
 use Rattle.omf_lib.specs.declared.finding.Entry.{Entry}
 use Rattle.omf_lib.specs.declared.finding.First.{First}
@@ -73,8 +74,19 @@ abbrev pub is_nowhere : List ℕ → Bool
 is_nowhere [] = true
 is_nowhere (c ∷ text) = false
 
-abbrev pub name_text : List ℕ → List ℕ → List ℕ
-name_text name places = if is_nowhere places then failure_line (codes "refused") name (codes "no such public") else places
+-- Then a public with a near name is shown, if there is one: the first of the members.
+abbrev pub near_public : List Public → List ℕ → Option (List ℕ)
+near_public publics name = near_name name (map (λ p. p.name) publics)
+
+abbrev pub near_words : Option (List ℕ) → List ℕ
+near_words None = []
+near_words (Some near) = codes "; there is " ++ quoted near
+
+abbrev pub nowhere_reason : List Public → List ℕ → List ℕ
+nowhere_reason publics name = codes "no such public" ++ near_words (near_public publics name)
+
+abbrev pub name_text : List Public → List ℕ → List ℕ → List ℕ
+name_text publics name places = if is_nowhere places then failure_line (codes "refused") name (nowhere_reason publics name) else places
 
 -- The places of a name: the members that have it as a public, and its entry.
 abbrev pub ArePlaces : Bool → Option Dictionary → List Public → List ℕ → List ℕ → Type 0
@@ -82,7 +94,7 @@ ArePlaces ignores dictionary publics name text = (entry : List ℕ) × IsEntryTe
 
 abbrev pub IsNameFound : Bool → Option Dictionary → List Public → List ℕ → Bool → List ℕ → Type 0
 IsNameFound ignores dictionary publics name is_refused text = (places : List ℕ) × ArePlaces ignores dictionary publics name places
-    × (is_refused ≡ is_nowhere places) × (text ≡ name_text name places)
+    × (is_refused ≡ is_nowhere places) × (text ≡ name_text publics name places)
 
 -- The names one after another. It is refused if a name is.
 abbrev pub AreNamesFound : Bool → Option Dictionary → List Public → List (List ℕ) → Bool → List ℕ → Type 0

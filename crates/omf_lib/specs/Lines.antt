@@ -28,8 +28,11 @@ fault_head number name at = codes "fault " ++ decimal number ++ 32 ∷ name ++ c
 abbrev pub of_member : ℕ → List ℕ → ℕ → ℕ → List ℕ
 of_member number name at member = fault_head number name at ++ codes " member " ++ decimal member
 
+abbrev pub entry_words : ℕ → List ℕ → ℕ → ℕ → List ℕ → List ℕ
+entry_words number name at page spelled = fault_head number name at ++ codes " page " ++ decimal page ++ 32 ∷ quoted spelled
+
 abbrev pub of_entry : ℕ → List ℕ → Named → List ℕ
-of_entry number name e = fault_head number name e.offset ++ codes " page " ++ decimal e.page ++ 32 ∷ quoted e.name.now
+of_entry number name e = entry_words number name e.offset e.page e.name.now
 
 abbrev pub of_public : ℕ → List ℕ → Public → List ℕ
 of_public number name p = of_member number name p.offset p.member ++ 32 ∷ quoted p.name.now
@@ -51,6 +54,7 @@ fault_words (fault.NotFoundKept e) = of_entry 13 (codes "NotFoundKept") e
 fault_words (fault.NoEntry p) = of_public 14 (codes "NoEntry") p
 fault_words (fault.OtherMember p) = of_public 15 (codes "OtherMember") p
 fault_words (fault.LongSearches at) = fault_head 16 (codes "LongSearches") at
+fault_words (fault.Undefined e) = of_entry 21 (codes "Undefined") e
 
 abbrev pub fault_line : Fault → List ℕ
 fault_line f = fault_words f ++ 10 ∷ []

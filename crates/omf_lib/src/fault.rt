@@ -52,6 +52,8 @@ pub enum Fault<'a> {
     OtherMember(Public<'a>),
     /// 16: the searches pass too many full blocks; the dictionary from this offset on, or all of it, is not searched.
     LongSearches(usize),
+    /// 21: the member at an entry's page does not define its name.
+    Undefined(Named<'a>),
 }
 
 /// What is odd about a library and no fault, and where.

@@ -1,13 +1,13 @@
 //! The text of `omf-lib find`: which member has a public, and how the dictionary leads there.
 
-ghost use Rattle.std.specs.Prelude.{◌≡◌, ◌<◌, ◌++◌, ◌&&◌, ◌||◌, not, List, ℕ, Bool, IfOk, OnOk, codes, string_bytes};
+ghost use Rattle.std.specs.Prelude.{◌≡◌, ◌<◌, ◌++◌, ◌&&◌, ◌||◌, not, List, ℕ, Bool, IfOk, OnOk, codes, option_map, string_bytes};
 ghost use Rattle.std.specs.Io.KnownBytes.{Appends};
 ghost use Rattle.omf_frame.specs.Bytes.{AddsText};
 ghost use Rattle.omf_host.specs.Lines.{failure_line};
 ghost use Rattle.omf_library.specs.Dictionary.{IsBucket, block_count, block_of};
 ghost use Rattle.omf_library.specs.LibraryMembers.{names_kept};
 ghost use Rattle.omf_library.specs.Names.{names_seen};
-ghost use Rattle.omf_lib.specs.Find.{any_profile, AreNamesFound, ArePlaces, entry_text, found_word, is_nowhere, IsEntry, IsEntryText, IsFirstSpelled, IsFirstSpelledIn, IsSpelledAt, IsFound, IsFoundIn, IsNameFound, name_text, public_text, publics_text, refused_status};
+ghost use Rattle.omf_lib.specs.Find.{any_profile, AreNamesFound, ArePlaces, entry_text, found_word, is_nowhere, IsEntry, IsEntryText, IsFirstSpelled, IsFirstSpelledIn, IsSpelledAt, IsFound, IsFoundIn, IsNameFound, name_text, near_public, near_words, nowhere_reason, public_text, publics_text, refused_status};
 ghost use Rattle.omf_lib.specs.Members.{AreAllPublics, ArePublics, is_public, public_seen, publics_among, publics_seen, Public};
 
 use crate::asked::Find;
@@ -16,6 +16,7 @@ use crate::library::{Library, read_library};
 use crate::listing::put_public;
 use crate::members::{Verdict, judge};
 use crate::names::is_same_name;
+use crate::near::{bare, is_near};
 use crate::shown::{Stop, send, status_of};
 use crate::text::put_fault;
 use omf_check::Profile;
@@ -273,21 +274,76 @@ fn is_nowhere(text: &[u8]) -> bool
     }
 }
 
-/// Appends the line of a name that is nowhere.
-fn put_nowhere(text: &mut String, name: &[u8]) -> Result<(), AllocError>
-    ensures { AddsText result (string_bytes text.old) (string_bytes text.new) (failure_line (codes "refused") name.now (codes "no such public")) }
+/// The name of the first public that is near to a name.
+fn near_public<'a>(
+    alloc: Global,
+    publics: &'a [Listed],
+    name: &[u8],
+) -> Result<Option<&'a [u8]>, AllocError>
+    ensures { IfOk result (λ near. option_map (λ n. n.now) near ≡ near_public (publics_seen publics.entry.now) name.now) }
+{
+    let counted = bare(alloc, name)?;
+    for public in publics {
+        if is_near(alloc, &counted, public.name.as_slice())? {
+            return Ok(Some(public.name.as_slice()));
+        }
+    }
+    Ok(None)
+}
+
+/// Appends that there is a near name, if there is one.
+fn put_near(text: &mut String, near: Option<&[u8]>) -> Result<(), AllocError>
+    ensures { AddsText result (string_bytes text.old) (string_bytes text.new) (near_words (option_map (λ n. n.now) near.entry)) }
+{
+    match near {
+        Some(name) => {
+            text.push_str("; there is ")?;
+            put_quoted(text, name)
+        }
+        None => Ok(()),
+    }
+}
+
+/// Why a name is refused that is nowhere.
+fn reason_of(alloc: Global, publics: &[Listed], name: &[u8]) -> Result<String, AllocError>
+    ensures { IfOk result (λ reason. string_bytes reason ≡ nowhere_reason (publics_seen publics.now) name.now) }
+{
+    let near = near_public(alloc, publics, name)?;
+    let mut reason = String::from_str(alloc, "no such public")?;
+    put_near(&mut reason, near)?;
+    Ok(reason)
+}
+
+/// Appends the line of a name that is refused.
+fn put_refused(text: &mut String, name: &[u8], reason: &str) -> Result<(), AllocError>
+    ensures { AddsText result (string_bytes text.old) (string_bytes text.new) (failure_line (codes "refused") name.now reason.now) }
 {
     text.push_str("refused ")?;
     put_name(text, name)?;
-    text.push_str(": no such public\n")
+    text.push_str(": ")?;
+    text.push_str(reason)?;
+    text.push_str("\n")
+}
+
+/// Appends the line of a name that is nowhere.
+fn put_nowhere(text: &mut String, publics: &[Listed], name: &[u8]) -> Result<(), AllocError>
+    ensures { OnOk result (string_bytes text.new ≡ string_bytes text.old ++ failure_line (codes "refused") name.now (nowhere_reason (publics_seen publics.now) name.now)) }
+{
+    let reason = reason_of(*text.allocator(), publics, name)?;
+    put_refused(text, name, reason.as_str())
 }
 
 /// Appends the places of a name, or that it is nowhere. Returns whether it is refused.
-fn put_places(text: &mut String, name: &[u8], places: &str) -> Result<bool, AllocError>
-    ensures { IfOk result (λ is_refused. (is_refused ≡ is_nowhere places.now) × (string_bytes text.new ≡ string_bytes text.old ++ name_text name.now places.now)) }
+fn put_places(
+    text: &mut String,
+    publics: &[Listed],
+    name: &[u8],
+    places: &str,
+) -> Result<bool, AllocError>
+    ensures { IfOk result (λ is_refused. (is_refused ≡ is_nowhere places.now) × (string_bytes text.new ≡ string_bytes text.old ++ name_text (publics_seen publics.now) name.now places.now)) }
 {
     if is_nowhere(places.as_bytes()) {
-        put_nowhere(text, name)?;
+        put_nowhere(text, publics, name)?;
         Ok(true)
     } else {
         text.push_str(places)?;
@@ -300,12 +356,12 @@ fn put_sought(text: &mut String, sources: Sources<'_>, name: &[u8]) -> Result<bo
     ensures { IfOk result (λ is_refused. (own : List ℕ) × IsNameFound sources.entry.ignores_case sources.entry.dictionary (publics_seen sources.entry.publics.now) name.now is_refused own × (string_bytes text.new ≡ string_bytes text.old ++ own)) }
 {
     let places = places_of(*text.allocator(), sources, name)?;
-    let is_refused = put_places(text, name, places.as_str())?;
+    let is_refused = put_places(text, sources.publics, name, places.as_str())?;
     Ok(is_refused)
 }
 
 /// Whether one of two is.
-fn is_either(one: bool, other: bool) -> bool
+pub fn is_either(one: bool, other: bool) -> bool
     ensures { result ≡ (one || other) }
 {
     one || other

@@ -1,21 +1,28 @@
 //! The text of `omf-lib check`: what is wrong with a library, and what is odd about it.
 
-ghost use Rattle.std.specs.Prelude.{◌<◌};
+ghost use Rattle.std.specs.Prelude.{◌≡◌, ◌<◌, ◌++◌, List, ℕ, false, IfOk, OnOk};
+ghost use Rattle.omf_host.specs.declared.ending.Status.TheVariants as status;
 ghost use Rattle.omf_library.specs.Dictionary.{block_count};
+ghost use Rattle.omf_library.specs.Made.{is_case_sensitive};
+ghost use Rattle.omf_lib.specs.Defining.{AreDefiners, Definer, IsAllDefined, IsDefiner, IsLibraryDefined};
+ghost use Rattle.omf_lib.specs.Keys.{all_keys, IsKeySet};
 
+use crate::defining::{KeySet, add_module, home_of};
 use crate::fault::{Fault, Named, Note, Public};
 use crate::library::{Library, member_of, page_of, read_library};
 use crate::members::{Member, Verdict, judge};
 use crate::noting::note_regions;
 use crate::shown::{Shown, Stop};
 use crate::text::put_note;
+use crate::undefined::judge_definitions;
 use omf_check::Profile;
 use omf_frame::Sink;
 use omf_host::Status;
 use omf_library::{
-    BLOCK, BUCKETS, Bucket, Defined, Dictionary, Kind, Rule, Sought, credit_of, defined_names,
+    BLOCK, BUCKETS, Bucket, Defined, Dictionary, Kind, Rule, Sought, Span, credit_of, defined_names,
 };
 use std::alloc::{AllocError, Global};
+use std::collections::BTreeSet;
 use std::fmt::Write;
 
 /// The lines so far, and what was counted.
@@ -133,13 +140,16 @@ fn look_up_all(
     Ok(())
 }
 
-/// Checks a member, and looks up its publics and communals.
+/// Checks a member, looks up its publics and communals, and appends the keys of its names.
 fn judge_member(
     report: &mut Report,
+    keys: &mut KeySet,
     profile: Profile,
     library: &Library<'_>,
     member: &Member<'_>,
-) -> Result<(), AllocError> {
+) -> Result<(), AllocError>
+    ensures { (done : List (List ℕ)) → IsKeySet keys.old done → OnOk result ((own : List Definer) × IsDefiner profile library.now.header.page member.now.offset member.now.bytes.now own × IsKeySet keys.new (done ++ all_keys (is_case_sensitive library.now.header) own)) }
+{
     let alloc = *report.shown.text.allocator();
     match judge(alloc, profile, member.bytes)? {
         Verdict::Refused { reason, place } => report.shown.fault(Fault::Member {
@@ -150,9 +160,35 @@ fn judge_member(
         }),
         Verdict::Accepted(module) => {
             let names = defined_names(alloc, &module)?;
-            look_up_all(report, library, member, names.as_slice())
+            look_up_all(report, library, member, names.as_slice())?;
+            let home = home_of(library.header, member.offset);
+            add_module(alloc, keys, home, &module, names.as_slice())
         }
     }
+}
+
+/// Checks the members of a library. Returns the keys of their names.
+fn judge_members<K: Sink>(
+    report: &mut Report,
+    writer: &mut K,
+    profile: Profile,
+    library: &Library<'_>,
+    members: &[Span<'_>],
+) -> Result<KeySet, Stop>
+    ensures { IfOk result (λ keys. (ds : List Definer) × AreDefiners profile library.now.header.page members.now ds × IsKeySet keys (all_keys (is_case_sensitive library.now.header) ds)) }
+{
+    let mut keys = BTreeSet::new(*report.shown.text.allocator());
+    for (number, span) in members.iter().enumerate() {
+        judge_member(
+            report,
+            &mut keys,
+            profile,
+            library,
+            &member_of(number, span),
+        )?;
+        report.shown.flush(writer)?;
+    }
+    Ok(keys)
 }
 
 /// The pages at which members begin: true at the number of each.
@@ -259,6 +295,39 @@ fn judge_entries<K: Sink>(
     Ok(())
 }
 
+/// Checks what is after the members, whose names have these keys. Returns whether there is a fault of the end or of a name that is not defined.
+fn judge_end<K: Sink>(
+    report: &mut Report,
+    writer: &mut K,
+    library: &Library<'_>,
+    keys: &KeySet,
+) -> Result<bool, Stop>
+    ensures { (ds : List Definer) → IsKeySet keys.now (all_keys (is_case_sensitive library.now.header) ds) → IfOk result (λ is_refused. is_refused ≡ false → IsLibraryDefined library.now ds) }
+{
+    match library.spans.end {
+        Ok(end) => {
+            judge_place(&mut report.shown, library, end)?;
+            judge_entries(report, writer, library)?;
+            judge_definitions(&mut report.shown, writer, library, keys)
+        }
+        Err(fault) => {
+            report.shown.fault(Fault::from(fault))?;
+            Ok(true)
+        }
+    }
+}
+
+/// The status after all faults.
+fn last_status(so_far: Status, is_refused: bool) -> Status
+    ensures { result ≡ status.Done → is_refused ≡ false }
+{
+    if is_refused {
+        so_far.worst(Status::Refused)
+    } else {
+        so_far
+    }
+}
+
 /// Appends the line of a library without a fault.
 fn put_counts(report: &mut Report, members: usize) -> Result<(), AllocError> {
     let publics = report.publics;
@@ -275,29 +344,42 @@ fn put_notes(report: &mut Report, library: &Library<'_>) -> Result<(), AllocErro
     report.shown.text.push_str(report.notes.as_str())
 }
 
-/// Checks a library, and writes a line for each fault; or one with counts, if there is none. The notes follow.
+/// Checks a library, and writes a line for each fault; or one with counts, if there is none. The notes follow. Returns the status.
 fn judge_library<K: Sink>(
     report: &mut Report,
     writer: &mut K,
     profile: Profile,
     library: &Library<'_>,
-) -> Result<(), Stop> {
-    for (number, span) in library.spans.members.iter().enumerate() {
-        judge_member(report, profile, library, &member_of(number, span))?;
-        report.shown.flush(writer)?;
-    }
-    match library.spans.end {
-        Ok(end) => {
-            judge_place(&mut report.shown, library, end)?;
-            judge_entries(report, writer, library)?;
-        }
-        Err(fault) => report.shown.fault(Fault::from(fault))?,
-    }
-    if report.shown.status == Status::Done {
+) -> Result<Status, Stop>
+    ensures { IfOk result (λ s. s ≡ status.Done → (ds : List Definer) × AreDefiners profile library.now.header.page library.now.spans.members.items ds × IsLibraryDefined library.now ds) }
+{
+    let members = library.spans.members.as_slice();
+    let keys = judge_members(report, writer, profile, library, members)?;
+    let is_refused = judge_end(report, writer, library, &keys)?;
+    let status = last_status(report.shown.status, is_refused);
+    if status == Status::Done {
         put_counts(report, library.spans.members.len())?;
     }
     put_notes(report, library)?;
-    Ok(())
+    Ok(status)
+}
+
+/// Writes the lines of a file. Returns the status.
+fn judge_bytes<K: Sink>(
+    report: &mut Report,
+    writer: &mut K,
+    profile: Profile,
+    bytes: &[u8],
+) -> Result<Status, Stop>
+    ensures { IfOk result (λ s. s ≡ status.Done → IsAllDefined profile bytes.now) }
+{
+    match read_library(*report.shown.text.allocator(), bytes)? {
+        Ok(library) => judge_library(report, writer, profile, &library),
+        Err(fault) => {
+            report.shown.fault(Fault::from(fault))?;
+            Ok(Status::Refused)
+        }
+    }
 }
 
 /// Writes what is wrong with a file: a line for each fault, or a line with counts; then a line for each note. Returns the
@@ -307,7 +389,9 @@ pub fn judge_file<K: Sink>(
     writer: &mut K,
     profile: Profile,
     bytes: &[u8],
-) -> Result<Status, Stop> {
+) -> Result<Status, Stop>
+    ensures { IfOk result (λ s. s ≡ status.Done → IsAllDefined profile bytes.now) }
+{
     let mut report = Report {
         shown: Shown::new(alloc),
         notes: String::new(alloc),
@@ -315,10 +399,7 @@ pub fn judge_file<K: Sink>(
         entries: 0,
         credit: Some(credit_of(bytes.len())),
     };
-    match read_library(alloc, bytes)? {
-        Ok(library) => judge_library(&mut report, writer, profile, &library)?,
-        Err(fault) => report.shown.fault(Fault::from(fault))?,
-    }
+    let status = judge_bytes(&mut report, writer, profile, bytes)?;
     report.shown.flush(writer)?;
-    Ok(report.shown.status)
+    Ok(status)
 }

@@ -1,6 +1,6 @@
 //! What of a file can be read as a library: its header, and its members one after another.
 
-ghost use Rattle.std.specs.Prelude.{IfOk};
+ghost use Rattle.std.specs.Prelude.{◌≡◌, IfOk};
 ghost use Rattle.omf_library.specs.Made.{IsDictionary};
 ghost use Rattle.omf_lib.specs.Members.{IsLibraryRead};
 
@@ -44,7 +44,10 @@ pub fn page_of(header: Header, offset: usize) -> Option<usize> {
 }
 
 /// The member with this number.
-pub fn member_of<'a>(number: usize, span: &Span<'a>) -> Member<'a> {
+pub fn member_of<'a>(number: usize, span: &Span<'a>) -> Member<'a>
+    ensures offset { result.offset ≡ span.now.offset }
+    ensures bytes { result.bytes.now ≡ span.now.bytes.now }
+{
     Member {
         number,
         offset: span.offset,

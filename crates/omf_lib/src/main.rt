@@ -5,6 +5,7 @@
 
 mod asked;
 mod canonical;
+mod defining;
 mod fault;
 mod finding;
 mod host;
@@ -16,10 +17,12 @@ mod making;
 mod members;
 mod names;
 mod naming;
+mod near;
 mod noting;
 mod shown;
 mod taking;
 mod text;
+mod undefined;
 
 use std::process::ExitCode;
 

@@ -6,7 +6,7 @@ ghost use Rattle.omf_library.specs.Dictionary.{folded, is_same_name};
 use std::alloc::{AllocError, Global};
 
 /// A character as names are compared.
-fn folded(is_case_sensitive: bool, c: u8) -> u8
+pub fn folded(is_case_sensitive: bool, c: u8) -> u8
     ensures { result ≡ folded is_case_sensitive c }
 {
     if !is_case_sensitive && c >= b'A' && c <= b'Z' {

@@ -7,9 +7,22 @@ use crate::members::Member;
 use crate::naming::{is_named, is_outside, path_of, shown_name};
 use crate::shown::{Stop, Told};
 use omf_frame::Sink;
-use omf_host::{Status, Streams, Written, write_new};
+use omf_host::{Status, Streams, Written, put_name, write_new};
 use std::alloc::{AllocError, Global};
 use std::fmt::Write;
+use std::io;
+
+/// Appends the line of a member's file that could not be written. The member's name is as it is shown.
+fn put_unwritten_member(
+    faults: &mut String,
+    folder: &str,
+    name: &str,
+    error: &io::Error,
+) -> Result<(), AllocError> {
+    faults.push_str("write ")?;
+    put_name(faults, folder.as_bytes())?;
+    write!(faults, "/{name}.obj: {error}\n")
+}
 
 /// Writes a member's file, and appends a line on it.
 fn take(
@@ -34,7 +47,10 @@ fn take(
                 "refused {name}.obj: it is there already\n"
             )
         }
-        Written::Failed(error) => told.unwritten(path.as_str(), &error),
+        Written::Failed(error) => {
+            told.shown.raise(Status::Failed);
+            put_unwritten_member(&mut told.faults, folder, name, &error)
+        }
     }
 }
 

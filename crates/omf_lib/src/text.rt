@@ -111,6 +111,7 @@ fn put_words(text: &mut String, fault: Fault<'_>) -> Result<(), AllocError>
         Fault::NoEntry(public) => put_of_public(text, 14, "NoEntry", public),
         Fault::OtherMember(public) => put_of_public(text, 15, "OtherMember", public),
         Fault::LongSearches(offset) => put_head(text, 16, "LongSearches", offset),
+        Fault::Undefined(entry) => put_of_entry(text, 21, "Undefined", entry),
     }
 }
 
