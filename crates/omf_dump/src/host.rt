@@ -26,15 +26,16 @@ const ABOUT: About = About {
            [--refuse-vendor-comments] [FILE ..]
 ",
     details: "
-Prints every field of each record of an object module (.OBJ), or of all members of
-a library (.LIB). Without a file, or where it is -, it reads the standard input.
+Prints every field of each record of an object module (.OBJ), or of all members
+of a library (.LIB). Without a file, or where it is -, it reads the standard
+input.
 
   --verdict                 a line for each module: OK, or why it is refused
-  --names                   a line for each name of a module: kind, segment, offset, name
+  --names                   a line for each name: kind, segment, offset, name
   --defined                 with --names: only the names that the module defines
-  --undefined               with --names: only those that other modules are to define
+  --undefined               with --names: only those that others are to define
   --json                    one line of JSON for each record, module or name
-  --csv                     comma-separated values, after a line with their names
+  --csv                     comma-separated values, after a line of their names
   --data N                  at most N bytes of data for each record
   --refuse-vendor-comments  refuse comments of the classes C0H to FFH
 
