@@ -91,7 +91,7 @@ module _ (program : Program) (m : Module) (s : Shape) (most : ℕ) (h : IsShape 
   abbrev Same : List ℕ → Type 0
   Same addresses = s.is_searched ≡ true → addresses ≡ s.places.items
 
-  -- what is not told has no address
+  -- what is not shown has no address
   abbrev untold : List ℕ → Bool
   untold addresses = (length addresses == 0) && not (s.is_searched && s.more)
 

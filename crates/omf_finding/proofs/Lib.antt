@@ -12,6 +12,7 @@ mod TellingLaws
 mod CompareLaws
 pub mod IntervalLaws
 pub mod AgreesLaws
+pub mod ChunkLaws
 pub mod RareLaws
 pub mod FourLaws
 pub mod WindowLaws

@@ -237,7 +237,7 @@ fn addresses(
     }
 }
 
-/// Whether there is nothing to tell of a segment with these places: there are none, and it is not searched for or all are known.
+/// Whether a segment with these places is left out: there are none, and it is not searched for or all are known.
 fn is_untold(addresses: &[u32], shape: &Shape) -> bool
     ensures { result ≡ ((length addresses.now == 0) && not (shape.now.is_searched && shape.now.more)) }
 {

@@ -17,6 +17,9 @@ use std::alloc::{AllocError, Global};
 /// The number of windows with the same bytes that are tried at most.
 const MOST_TRIED: usize = 64;
 
+/// The number of bytes that are compared at once.
+const CHUNK: usize = 16;
+
 /// The address after the last one of real mode.
 const END_OF_MEMORY: u32 = 1 << 20;
 
@@ -153,8 +156,25 @@ fn cell_agrees(value: u8, mark: u8, byte: u8) -> bool
     mark == 1 || value == byte
 }
 
-/// Bytes agree with those beside them of a program, but for those that are marked as open, as far as there are both.
-fn cells_agree(values: &[u8], marks: &[u8], program: &[u8]) -> bool
+/// 16 bytes agree with those beside them of a program, but for those that are marked as open. All are looked at, so that the processor
+/// compares many at once.
+fn chunk_agrees(values: &[u8], marks: &[u8], program: &[u8]) -> bool
+    requires values { length values.now ≡ 16 }
+    requires marks { length marks.now ≡ 16 }
+    requires program { length program.now ≡ 16 }
+    ensures { result ≡ cells_agree values.now marks.now program.now }
+{
+    let mut agree = true;
+    for at in 0..CHUNK {
+        let same = cell_agrees(values[at], marks[at], program[at]);
+        agree = agree & same;
+    }
+    agree
+}
+
+/// Bytes agree with those beside them of a program, but for those that are marked as open, as far as there are both:
+/// one after another.
+fn few_agree(values: &[u8], marks: &[u8], program: &[u8]) -> bool
     ensures { result ≡ cells_agree values.now marks.now program.now }
 {
     values
@@ -162,6 +182,36 @@ fn cells_agree(values: &[u8], marks: &[u8], program: &[u8]) -> bool
         .zip(marks)
         .zip(program)
         .all(|((value, mark), byte)| cell_agrees(*value, *mark, *byte))
+}
+
+/// Whether there are enough bytes of each to compare many at once.
+fn have_chunks(values: &[u8], marks: &[u8], program: &[u8]) -> bool
+    ensures values { result ≡ true → 16 ≤ length values.now }
+    ensures marks { result ≡ true → 16 ≤ length marks.now }
+    ensures program { result ≡ true → 16 ≤ length program.now }
+{
+    CHUNK <= values.len() && CHUNK <= marks.len() && CHUNK <= program.len()
+}
+
+/// The same, many at once as long as there are enough.
+fn cells_agree(values: &[u8], marks: &[u8], program: &[u8]) -> bool
+    ensures { result ≡ cells_agree values.now marks.now program.now }
+{
+    let mut left = values;
+    let mut left_marks = marks;
+    let mut there = program;
+    while have_chunks(left, left_marks, there) {
+        let (own, after) = left.split_at(CHUNK);
+        let (own_marks, marks_after) = left_marks.split_at(CHUNK);
+        let (bytes, bytes_after) = there.split_at(CHUNK);
+        if !chunk_agrees(own, own_marks, bytes) {
+            return false;
+        }
+        left = after;
+        left_marks = marks_after;
+        there = bytes_after;
+    }
+    few_agree(left, left_marks, there)
 }
 
 /// The same, and the program has as many.

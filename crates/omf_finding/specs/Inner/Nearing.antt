@@ -78,7 +78,7 @@ IsShownOf program base is address = (i : Interval) × Contains is i × IsShownIn
 
 -- ---- segments
 
--- What is told of a segment with this pattern: if nothing, then no byte differs at some address, or at each that is tried more.
+-- What is shown of a segment with this pattern: if nothing, then no byte differs at some address, or at each that is tried more.
 abbrev pub IsNearOf : (ℕ → Option PatternByte) → Program → ℕ → ℕ → Option Near → Type 0
 IsNearOf byte program most segment None =
     IsInside program → (address : ℕ) → IsTried byte program.bytes.items program.base address → IsSame byte program ⊎ IsFar byte program most address
