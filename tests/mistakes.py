@@ -22,8 +22,11 @@ TEXTS = {
     "unlike.link": 'M "start.asm"\nX "_printf" 7C00 0 0\n', "number.link": 'M "start.asm"\n\tS\t"text" 7G00 0 0\n', "front.link": '; no module yet\nS "text" 7C00 0 0\n', "again.link": 'M "start.asm"\nS "text" 7C00 0 0\nS "text" 7C00 0 0\n',
     "lower.link": 'M "start.asm"\nS "t\\xffxt" 7C00 0 0\n', "gap.link": 'M "start.asm"\nS "text" 7C00 0 0\n',
     "cp437.link": b'M "st\x84rt.asm"\n', "mark.link": b'\xEF\xBB\xBFM\t"start.asm"\r\n\tS "text"\t7C00 0 0\r\n', "plain.link": 'M "start.asm"\nS "text" 7C00 0 0\n',
-    "bin.rsp": "bin --base 7C00\n--size\t200 -t 'program.link'\r\n\"start.obj\" say.obj mark.obj", "wrong.rsp": "--base 7G00", "dash.rsp": "--verdict -- -x.obj",
+    "bin.rsp": "bin --base 7C00\n--size\t200 -t 'program.link'\r\n\"start.obj\" say.obj mark.obj", "marked.link": 'M "start.asm"\nS "text" 0x7C00 0X0 00H\n', "front.rsp": b"\xEF\xBB\xBFbin --base 7C00 --size 200 -t program.link start.obj say.obj mark.obj", "wrong.rsp": "--base 7G00", "dash.rsp": "--verdict -- -x.obj",
 }
+
+# The text of examples/link, with one part of "shared" in another frame.
+TEXTS["frames.link"] = 'S "shared" 7C9E 7C80 7C8'.join((ROOT / "examples/link/program.link").read_text(encoding="utf-8").rsplit('S "shared" 7C9E 7C90 7C9', 1))
 
 
 def rows():
@@ -68,6 +71,8 @@ def faults(folder, call, status, said):
 GO_ON = [
     ("omf-link map start.obj 06-Checksum.omf mark.obj", 1, ['module 1 file "start.obj" module 1', 'module 2 file "mark.obj" module 1', 'segment 1 1 - 00000035 "text" "CODE"'],
      ['omf-link: file "06-Checksum.omf" module 1 refused 6 Checksum record 3 at 23 within 10']),
+    ("omf-link map -t frames.link start.obj say.obj mark.obj", 0, ['module 1 file "start.obj" module 1', 'module 2 file "say.obj" module 1'],
+     ['omf-link: frame: file "start.obj" module 1 segment "shared" frame 00007C90 selector 07C9, file "say.obj" module 1 segment "shared" frame 00007C80 selector 07C8']),
     ("omf-link map nofile.obj mark.obj", 3, ['module 1 file "mark.obj" module 1', 'segment 1 1 - 00000002 "mark" "MARK"'], ["omf-link: read nofile.obj: No such file or directory (os error 2)"]),
     ("omf-dump --verdict first.omf 06-Checksum.omf nofile.obj small.lib", 3, ["first.omf: OK 6 records, 48 bytes", "06-Checksum.omf: refused 6 Checksum record 3 at 23 within 10"],
      ["omf-dump: read nofile.obj: No such file or directory (os error 2)"]),
@@ -86,10 +91,11 @@ def stops(folder, call, status, printed, said):
 # Calls of which each does what the first one does: its status, and its bytes on both outputs.
 SAME = [
     ["omf-link bin --base 7C00 --size 200 -t program.link start.obj say.obj mark.obj", "omf-link bin --base 0x7C00 --size 0x200 -t program.link start.obj say.obj mark.obj",
-     "omf-link bin --base 7c00h --size 200H --fill FFH -t program.link start.obj say.obj mark.obj", "omf-link @bin.rsp"],
+     "omf-link bin --base 7c00h --size 200H --fill FFH -t program.link start.obj say.obj mark.obj", "omf-link @bin.rsp", "omf-link @front.rsp",
+     "omf-link bin --base=07C00H --size=0x200 --fill=0FFH -t=program.link start.obj say.obj mark.obj"],
     ["omf-link bin --base 0 --size 10000 -t program.link start.obj say.obj mark.obj", "omf-link bin --base 0 --size 64K -t program.link start.obj say.obj mark.obj"],
-    ["omf-link exe --stack 4096 -o - main.obj show.obj report.obj", "omf-link exe --stack 4K -o - main.obj show.obj report.obj", "omf-link exe --stack 0x1000 -o - main.obj show.obj report.obj"],
-    ["omf-link map -t plain.link start.obj", "omf-link map -t mark.link start.obj"],
+    ["omf-link exe --stack 4096 -o - main.obj show.obj report.obj", "omf-link exe --stack 4K -o - main.obj show.obj report.obj", "omf-link exe --stack 0x1000 -o - main.obj show.obj report.obj", "omf-link exe --stack=4096 -o - main.obj show.obj report.obj"],
+    ["omf-link map -t plain.link start.obj", "omf-link map -t mark.link start.obj", "omf-link map -t marked.link start.obj", "omf-link map -t=plain.link start.obj"],
     ["omf-place --base 7C00 first.omf", "omf-place --base 0x7C00 first.omf", "omf-place --base 7C00H first.omf"],
     ["omf-link --help", "omf-link -h", "omf-link help", "omf-link exe --help", "omf-link bin -h"],
     ["omf-lib --help", "omf-lib -h", "omf-lib help", "omf-lib find --help"],
@@ -109,6 +115,8 @@ def others(folder, first, *calls):
         wanted = wanted or found
         if found != wanted or done.returncode or not done.stdout:
             yield f"{call}: status {done.returncode}, {done.stderr[:80]}"
+        if b"usage: " in done.stdout and any(len(it) > 80 for it in done.stdout.decode().splitlines()):
+            yield f"{call}: a line is longer than 80 columns"
 
 
 def main():

@@ -137,7 +137,7 @@ def written_into(folder):
 
 
 def replaced(folder):
-    """Links are followed, modes are kept, and what may not be written is not."""
+    """Links are followed, modes and owners are kept, and what may not be written is not."""
     wanted = (folder.path / "p.exe").read_bytes()
     (folder.path / "target").write_bytes(b"old")
     (folder.path / "target").chmod(0o640)
@@ -145,6 +145,11 @@ def replaced(folder):
     (folder.path / "more").symlink_to(folder.path / "to")
     folder.passes([LINK, *EXE, "-o", "more"], ["target"])
     promised((folder.path / "target").read_bytes() == wanted and (folder.path / "target").stat().st_mode & 0o777 == 0o640, "through a link: other bytes, or another mode")
+    if os.geteuid() == 0:
+        os.chown(folder.path / "target", 65534, 65533)
+        folder.passes([LINK, *EXE, "-o", "more"], ["target"])
+        how = (folder.path / "target").stat()
+        promised((how.st_uid, how.st_gid, how.st_mode & 0o777) == (65534, 65533, 0o640), "through a link: another owner")
     (folder.path / "dangling").symlink_to("there")
     folder.passes([LINK, *EXE, "-o", "dangling"], ["there"])
     (folder.path / "round").symlink_to("round")
@@ -158,7 +163,7 @@ def replaced(folder):
     folder.path.chmod(0o777)
     folder.fails([LINK, *EXE, "-o", "kept"], 3, b"Permission denied", user=user)
     folder.fails([LINK, *EXE, "-o", "a.exe", "--map", "kept"], 3, b"Permission denied", user=user)
-    print("links are followed, modes are kept; a file that may not be written is as before")
+    print("links are followed, modes and owners are kept; a file that may not be written is as before")
 
 
 def all_or_none(folder):

@@ -1,7 +1,7 @@
 """Libraries of object modules (TIS OMF 1.1, appendix 2), made and read by the standard's text, apart from the crates.
 
 tests/fuzz/libraries.py PROGRAM FOLDER runs omf-lib on the libraries of a folder: `list` shows the members that this reader finds, `get` writes
-exactly their bytes, `check` says OK only where this reader finds each entry by both searches, `canon` writes a library that is its own
+exactly their bytes, `check` says OK only where this reader finds each entry by both searches and its name in its member, `canon` writes a library that is its own
 canonical one, and each cut and each changed byte of the smallest library has an answer. Searches that would be long end: `check` has the fault 16,
 and `make` refuses."""
 import os
@@ -144,12 +144,74 @@ def is_found(bytes_, name, keeps):
 
 
 def entries(bytes_):
-    """The names of the dictionary's entries."""
+    """The names and the pages of the dictionary's entries."""
     start, count = struct.unpack_from("<IH", bytes_, 3)
     for number in range(count):
         block = bytes_[start + BLOCK * number:start + BLOCK * (number + 1)]
         for at in (2 * it for it in block[:BUCKETS] if it):
-            yield block[at + 1:at + 1 + block[at]]
+            end = at + 1 + block[at]
+            yield block[at + 1:end], struct.unpack_from("<H", block, end)[0]
+
+
+def index(body, at):
+    """An index of one or two bytes, and where it ends."""
+    return (body[at], at + 1) if body[at] < 0x80 else ((body[at] & 0x7F) << 8 | body[at + 1], at + 2)
+
+
+def public_names(kind, body):
+    """The names of a PUBDEF."""
+    group, at = index(body, 0)
+    segment, at = index(body, at)
+    at += 2 if segment == 0 else 0
+    while at < len(body):
+        end = at + 1 + body[at]
+        yield body[at + 1:end]
+        _, at = index(body, end + (4 if kind & 1 else 2))
+
+
+def communal_names(body):
+    """The names of a COMDEF."""
+    at = 0
+    while at < len(body):
+        end = at + 1 + body[at]
+        yield body[at + 1:end]
+        _, end = index(body, end)
+        sizes, at = 2 if body[end] == 0x61 else 1, end + 1
+        for _ in range(sizes):
+            at += {0x81: 3, 0x84: 4, 0x88: 5}.get(body[at], 1)
+
+
+def records(module_):
+    """The types and the bodies of a module's records."""
+    at = 0
+    while at < len(module_):
+        size = struct.unpack_from("<H", module_, at + 1)[0]
+        yield module_[at], module_[at + 3:at + 2 + size]
+        at += 3 + size
+
+
+def has_alias(module_):
+    """Whether a module has an ALIAS record: then it may define more names."""
+    return any(kind == 0xC6 for kind, _ in records(module_))
+
+
+def defined(module_):
+    """The names that a module defines: its publics, communals and imports."""
+    for kind, body in records(module_):
+        if kind in (0x90, 0x91):
+            yield from public_names(kind, body)
+        elif kind == 0xB0:
+            yield from communal_names(body)
+        elif kind == 0x88 and body[1:3] == b"\xA0\x01" and len(body) > 4:
+            yield body[5:5 + body[4]]
+
+
+def are_entries_defined(bytes_, found):
+    """Whether the member at the page of each entry defines its name or has an ALIAS, or the entry is a module's."""
+    page, fold = 3 + struct.unpack_from("<H", bytes_, 1)[0], bytes if bytes_[9] & 1 else bytes.upper
+    names = {at // page: {fold(it) for it in defined(bytes_[at:at + length])} for at, length in found}
+    open_ = {at // page for at, length in found if has_alias(bytes_[at:at + length])}
+    return all(name[-1:] == b"!" or number in open_ or fold(name) in names.get(number, ()) for name, number in entries(bytes_))
 
 
 def run(program, *words):
@@ -171,7 +233,8 @@ def try_file(program, file):
     assert shown == found and ended, f"{file}: other members"
     lines, status = run(program, "check", file)
     if status == 0:
-        assert all(is_found(bytes_, it, keeps) for it in entries(bytes_) for keeps in (False, True)), f"{file}: OK, but an entry is not found"
+        assert all(is_found(bytes_, it, keeps) for it, _ in entries(bytes_) for keeps in (False, True)), f"{file}: OK, but an entry is not found"
+        assert are_entries_defined(bytes_, found), f"{file}: OK, but an entry's member does not define its name"
     with tempfile.TemporaryDirectory() as folder:
         run(program, "get", file, "-d", folder, "--numbered")
         for number, (at, length) in enumerate(found):
@@ -179,6 +242,31 @@ def try_file(program, file):
                 assert it.read() == bytes_[at:at + length], f"{file}: member {number} differs"
         assert len(os.listdir(folder)) == len(found), f"{file}: other files"
     print(f"{file}: {len(found)} members, {lines[-1]}")
+
+
+def try_ghosts(program):
+    """An entry of a name that its member does not define is fault 21, but not one of a module; and the pages of two entries are changed."""
+    one, two = (module(it, [it]) for it in (b"one", b"two"))
+    alias = one[:-5] + record(0xC6, b"\x04_one\x03one") + one[-5:]
+    at = 1 + -(-len(one) // 16)
+    good = [(b"one", 1), (b"two", at)]
+    cases = [(good, []), (good + [(b"one!", 1)], []), (good + [(b"three", at)], ["three"]), (good + [(b"ONE", 1)], ["ONE"]),
+             ([(b"one", at), (b"two", 1)], ["one", "two"])]
+    with tempfile.TemporaryDirectory() as folder:
+        for flags in (0, 1):
+            for all_, ghosts in cases:
+                with open(f"{folder}/x.lib", "wb") as it:
+                    it.write(library([(one, ()), (two, ())], blocks=dictionary(all_, 1), flags=flags))
+                lines, _ = run(program, "check", f"{folder}/x.lib")
+                shown = [it.split('"')[1] for it in lines if it.startswith("fault 21 Undefined ")]
+                ghosts = [it for it in ghosts if flags or it != "ONE"]
+                assert sorted(shown) == ghosts and lines[0].startswith("OK") == (not ghosts), f"{all_}, flags {flags}: {lines}"
+                try_file(program, f"{folder}/x.lib")
+        with open(f"{folder}/x.lib", "wb") as it:
+            it.write(library([(alias, ())], blocks=dictionary([(b"one", 1), (b"_one", 1)], 1)))
+        lines, _ = run(program, "check", f"{folder}/x.lib")
+        assert lines[0].startswith("OK"), f"an entry of an ALIAS: {lines}"
+    print(f"{2 * len(cases)} dictionaries with and without entries that their members lack")
 
 
 def try_canon(program, file):
@@ -262,4 +350,5 @@ if __name__ == "__main__":
         try_file(sys.argv[1], name)
         try_canon(sys.argv[1], name)
     try_changes(sys.argv[1], min(files, key=os.path.getsize))
+    try_ghosts(sys.argv[1])
     try_long_searches(sys.argv[1])
