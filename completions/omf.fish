@@ -12,10 +12,10 @@ complete -c omf-dump -l json -d 'one line of JSON for each record, module or nam
 complete -c omf-dump -l data -r -d 'at most N bytes of data for each record'
 complete -c omf-dump -l refuse-vendor-comments -d 'refuse comments of the classes C0H to FFH'
 complete -c omf-dump -l verdict -d 'a line for each module: OK, or why it is refused'
-complete -c omf-dump -l names -d 'a line for each name of a module: kind, segment, offset, name'
-complete -c omf-dump -l csv -d 'comma-separated values, after a line with their names'
+complete -c omf-dump -l names -d 'a line for each name: kind, segment, offset, name'
+complete -c omf-dump -l csv -d 'comma-separated values, after a line of their names'
 complete -c omf-dump -l defined -d 'with --names: only the names that the module defines'
-complete -c omf-dump -l undefined -d 'with --names: only those that other modules are to define'
+complete -c omf-dump -l undefined -d 'with --names: only those that others are to define'
 complete -c omf-dump -l help -d 'how to call it'
 complete -c omf-dump -l version -d 'the version'
 
