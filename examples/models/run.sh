@@ -65,7 +65,8 @@ grep -q 'refused 4 UnsupportedType .* (COMDAT)$' "$work/told"
 [ ! -e "$work/none.exe" ]
 echo "${#made[@]} programs are linked; a needed member with a COMDAT is refused"
 
-# A program whose exit status is not 7 writes its name to a file of the folder that the emulator has as drive C.
+# A program whose exit status is not 7 writes its name to a file of the folder that the emulator has as drive C. DOSBox makes that file, empty, also
+# where nothing is written.
 command -v dosbox > /dev/null || { echo "not run: dosbox is not installed"; exit 0; }
 for it in "${made[@]}"; do
     printf '%s\r\nif errorlevel 8 echo %s >> wrong\r\nif not errorlevel 7 echo %s >> wrong\r\necho %s >> ran\r\n' "$it" "$it" "$it" "$it"
@@ -73,6 +74,6 @@ done > "$work/all.bat"
 SDL_VIDEODRIVER=dummy SDL_AUDIODRIVER=dummy timeout 120 dosbox -noconsole -c "mount c $work" -c "c:" -c "call all.bat" -c "exit" \
     > "$work/emulator" 2>&1 || { echo "dosbox failed"; exit 1; }
 wrong=$(find "$work" -iname wrong) ran=$(find "$work" -iname ran)
-[ -z "$wrong" ] || { echo "another exit status:"; cat "$wrong"; exit 1; }
+[ -z "$wrong" ] || [ ! -s "$wrong" ] || { echo "another exit status:"; cat "$wrong"; exit 1; }
 [ "$(wc -l < "$ran")" = ${#made[@]} ] || { echo "a program did not end"; exit 1; }
 echo "it ran each, and each exited with 7"
