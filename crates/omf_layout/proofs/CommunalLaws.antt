@@ -145,17 +145,17 @@ module _ (o : Options) (m : List Rec) (l : LaidOut) (h : layout_of o m ≡ Some 
   ends : (i : ℕ) (s : SegInfo) (p : Placed) → IsLaidSegment m l i s p → p.address + s.length ≤ w.laid_segments.free
   ends i s p r = all_end o.frames o.base (segments m) (alignments m) w.laid_segments w.segments_are i s p r.told r.relative (ap (λ xs. slice_get xs i) (segments-given o m l h) ∙ r.placed)
 
-  lies : (i size : ℕ) (p : Placed) → IsCommunal m l i size p → LiesIn o (spare o w.behind) w.laid_segments.free size w.laid_externals.free p
-  lies i size p c = each_lies o (spare o w.behind) w.laid_segments.free (rooms m) w.laid_externals w.externals_are i size p c.asked (external_there i p c.placed)
+  lies : (i size : ℕ) (p : Placed) → IsCommunal m l i size p → LiesIn o (spare o w.after) w.laid_segments.free size w.laid_externals.free p
+  lies i size p c = each_lies o (spare o w.after) w.laid_segments.free (rooms m) w.laid_externals w.externals_are i size p c.asked (external_there i p c.placed)
 
 pub communals_apart : CommunalsLieApart
 communals_apart o m l h =
     let w = parts o m l h in
-    let sp = spare o w.behind in
+    let sp = spare o w.after in
     let up = up_all o sp w.laid_segments.free (rooms m) w.laid_externals w.externals_are in
     record {
       free = λ i s p r. let end = ends o m l h i s p r in omega (arith, end, up, free_is o m l h);
-      behind = λ i s p j size q r c. let end = ends o m l h i s p r in let low = (lies o m l h j size q c).0 in omega (arith, end, low);
+      after = λ i s p j size q r c. let end = ends o m l h i s p r in let low = (lies o m l h j size q c).0 in omega (arith, end, low);
       communal = λ j size q c. let there = lies o m l h j size q c in (there.1, let end = there.2 in omega (arith, end, free_is o m l h));
       apart = λ i j size other p q lt c d. two_apart o sp w.laid_segments.free (rooms m) w.laid_externals w.externals_are i j size other p q lt c.asked (external_there o m l h i p c.placed) d.asked (external_there o m l h j q d.placed);
     }

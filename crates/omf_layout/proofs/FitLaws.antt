@@ -12,7 +12,7 @@ use Rattle.omf_placement.specs.Placement.{absolute_place}
 use Rattle.omf_layout.specs.declared.alignment.Alignment.{Alignment}
 use Rattle.omf_layout.specs.declared.options.Frames.{Frames}
 use Rattle.omf_layout.specs.declared.options.Options.{Options}
-use Rattle.omf_layout.specs.Layout.{Laid, all_laid, segment_at, segment_laid, segments_laid, group_frame, group_frames, external_laid, externals_laid, spare, behind_communals, LaidOut, laid_out, layout_of}
+use Rattle.omf_layout.specs.Layout.{Laid, all_laid, segment_at, segment_laid, segments_laid, group_frame, group_frames, external_laid, externals_laid, spare, after_communals, LaidOut, laid_out, layout_of}
 use Rattle.omf_layout.specs.Laws.{LayoutsKeepAlignments}
 use Rattle.omf_layout.specs.Wants.{bytes_aligned, alignments, rooms}
 use Rattle.omf_layout.proofs.TableLaws.{length-alignments, length-rooms}
@@ -26,17 +26,17 @@ map_some f (Some x) y h k = k x refl (same_Some (f x) y h)
 pub record IsMadeOf (o : Options) (m : List Rec) (l : LaidOut) : Type 0 where
   pub laid_segments : Laid (List Placed)
   pub segments_are : segments_laid o m ≡ Some laid_segments
-  pub behind : ℕ
-  pub behind_is : behind_communals o laid_segments.free (rooms m) ≡ Some behind
+  pub after : ℕ
+  pub after_is : after_communals o laid_segments.free (rooms m) ≡ Some after
   pub laid_externals : Laid (List Placed)
-  pub externals_are : all_laid (external_laid o (spare o behind)) laid_segments.free (rooms m) ≡ Some laid_externals
+  pub externals_are : all_laid (external_laid o (spare o after)) laid_segments.free (rooms m) ≡ Some laid_externals
   pub whole : laid_out o m laid_segments.what laid_externals ≡ l
 
 pub made-of : (o : Options) (m : List Rec) (l : LaidOut) → layout_of o m ≡ Some l → IsMadeOf o m l
 made-of o m l h = option_and_then_some _ (segments_laid o m) l h (λ s e g.
     map_some (laid_out o m s.what) (externals_laid o s.free (rooms m)) l g (λ x e2 g2.
-    option_and_then_some _ (behind_communals o s.free (rooms m)) x e2 (λ b e3 g3.
-    record { laid_segments = s; segments_are = e; behind = b; behind_is = e3; laid_externals = x; externals_are = g3; whole = g2 })))
+    option_and_then_some _ (after_communals o s.free (rooms m)) x e2 (λ b e3 g3.
+    record { laid_segments = s; segments_are = e; after = b; after_is = e3; laid_externals = x; externals_are = g3; whole = g2 })))
 
 module _ {A B : Type 0} (lay : ℕ → A → Option (Laid B)) where
   -- The first and the rest of what is laid.
@@ -101,7 +101,7 @@ module _ (o : Options) (m : List Rec) (l : LaidOut) (h : layout_of o m ≡ Some 
 
   pub external-count : length l.places.externals ≡ length (externals m)
   external-count = ap (λ k. length k.places.externals) (sym parts.whole)
-      ∙ length-laid (external_laid o (spare o parts.behind)) parts.laid_segments.free (rooms m) parts.laid_externals parts.externals_are ∙ length-rooms m
+      ∙ length-laid (external_laid o (spare o parts.after)) parts.laid_segments.free (rooms m) parts.laid_externals parts.externals_are ∙ length-rooms m
 
   pub alignment-count : length l.alignments ≡ length (segments m)
   alignment-count = ap (λ k. length k.alignments) (sym parts.whole) ∙ as-many

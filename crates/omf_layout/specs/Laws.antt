@@ -62,7 +62,7 @@ pub record IsCommunal (m : List Rec) (l : LaidOut) (i size : ℕ) (p : Placed) :
 -- free address; the earlier of two ends before the later begins.
 pub record CommunalsLie (m : List Rec) (l : LaidOut) : Type 0 where
   pub free : (i : ℕ) (s : SegInfo) (p : Placed) → IsLaidSegment m l i s p → p.address + s.length ≤ l.free
-  pub behind : (i : ℕ) (s : SegInfo) (p : Placed) (j size : ℕ) (q : Placed) → IsLaidSegment m l i s p → IsCommunal m l j size q → p.address + s.length ≤ q.address
+  pub after : (i : ℕ) (s : SegInfo) (p : Placed) (j size : ℕ) (q : Placed) → IsLaidSegment m l i s p → IsCommunal m l j size q → p.address + s.length ≤ q.address
   pub communal : (j size : ℕ) (q : Placed) → IsCommunal m l j size q → IsMultiple 4 q.address × (q.address + size ≤ l.free)
   pub apart : (i j size other : ℕ) (p q : Placed) → i < j → IsCommunal m l i size p → IsCommunal m l j other q → p.address + size ≤ q.address
 

@@ -57,14 +57,14 @@ external_at o alignment free size = option_map (λ a. record { what = record { a
 abbrev pub communal_at : Options → ℕ → ℕ → Option (Laid Placed)
 communal_at o free size = external_at o 4 free size
 
-abbrev pub behind_communals : Options → ℕ → List (Option ℕ) → Option ℕ
-behind_communals o free [] = Some free
-behind_communals o free (None ∷ rs) = behind_communals o free rs
-behind_communals o free (Some size ∷ rs) = option_and_then (λ l. behind_communals o l.free rs) (communal_at o free size)
+abbrev pub after_communals : Options → ℕ → List (Option ℕ) → Option ℕ
+after_communals o free [] = Some free
+after_communals o free (None ∷ rs) = after_communals o free rs
+after_communals o free (Some size ∷ rs) = option_and_then (λ l. after_communals o l.free rs) (communal_at o free size)
 
 -- The place of an external that is no communal: the first paragraph after the communals, if there is one.
 abbrev pub spare : Options → ℕ → Option Placed
-spare o behind = option_map (λ l. l.what) (external_at o 16 behind 0)
+spare o after = option_map (λ l. l.what) (external_at o 16 after 0)
 
 -- The externals, by their lengths: a communal has one, any other external none.
 abbrev pub external_laid : Options → Option Placed → ℕ → Option ℕ → Option (Laid Placed)
@@ -72,7 +72,7 @@ external_laid o spare_place free None = option_map (λ p. record { what = p; fre
 external_laid o spare_place free (Some size) = communal_at o free size
 
 abbrev pub externals_laid : Options → ℕ → List (Option ℕ) → Option (Laid (List Placed))
-externals_laid o free rs = option_and_then (λ behind. all_laid (external_laid o (spare o behind)) free rs) (behind_communals o free rs)
+externals_laid o free rs = option_and_then (λ after. all_laid (external_laid o (spare o after)) free rs) (after_communals o free rs)
 
 -- A layout: its places, the alignment of each segment, the length of each communal, and the first free address after what is laid.
 pub record LaidOut : Type 0 where

@@ -4,7 +4,7 @@ ghost use Rattle.std.specs.Prelude.{◌≡◌, ◌≤◌, ◌^◌, [], IfOk, OnO
 ghost use Rattle.omf_records.specs.Inner.Seen.{map_ok};
 ghost use Rattle.omf_check.specs.Module.{recs_of};
 ghost use Rattle.omf_check.specs.Tables.{segments};
-ghost use Rattle.omf_layout.specs.Layout.{IsAnswer, segments_laid, group_frame, group_frames, behind_communals, externals_laid, layout_of};
+ghost use Rattle.omf_layout.specs.Layout.{IsAnswer, segments_laid, group_frame, group_frames, after_communals, externals_laid, layout_of};
 ghost use Rattle.omf_layout.specs.Inner.Spots.{segments_alone, externals_in};
 ghost use Rattle.omf_layout.specs.Wants.{alignments};
 
@@ -131,10 +131,10 @@ fn lay_groups(placement: &mut Placement, module: &Checked, frames: Frames) -> Re
 }
 
 /// Returns the first free address after the communals; none if one does not fit.
-fn behind_communals(options: Options, free: u64, rooms: &[Option<u64>]) -> Option<u64>
+fn after_communals(options: Options, free: u64, rooms: &[Option<u64>]) -> Option<u64>
     requires from { options.base ≤ free }
     requires low { free ≤ 2 ^ 32 }
-    ensures value { result ≡ behind_communals options free rooms.now }
+    ensures value { result ≡ after_communals options free rooms.now }
     ensures low { IfSome result (λ f. f ≤ 2 ^ 32) }
     ensures from { IfSome result (λ f. options.base ≤ f) }
 {
@@ -159,10 +159,10 @@ fn lay_externals(
     requires none { placement.old.externals ≡ [] }
     ensures { IsAnswer (option_map (externals_in placement.old) (externals_laid options free rooms.now)) (map_ok (λ f. (placement.new, f)) result) }
 {
-    let Some(behind) = behind_communals(options, free, rooms) else {
+    let Some(after) = after_communals(options, free, rooms) else {
         return Err(LayoutFault::NoRoom);
     };
-    let spare = external_at(options, Alignment::Paragraph, behind, 0);
+    let spare = external_at(options, Alignment::Paragraph, after, 0);
     let mut free = free;
     for room in rooms {
         let Some(spot) = external_spot(options, spare, free, *room) else {

@@ -16,7 +16,7 @@ use Rattle.omf_layout.specs.Several.Order.{runs, runs_in}
 use Rattle.omf_layout.specs.Several.Portions.{Named, Classed, classed, portions_in}
 use Rattle.omf_layout.specs.Own.Communals.{are_grouped}
 use Rattle.omf_layout.specs.Own.Order.{bss_slots, data_slots, dgroup_classes, dos_slots, first_of, has_name, in_part, is_same_part, marker, order_records, part_of, slots}
-use Rattle.omf_layout.specs.Own.Ordered.{HasSegmentsOf, IsDosOrder, behind_one, dos_parts, dos_runs, is_laid, is_run_in, without_first}
+use Rattle.omf_layout.specs.Own.Ordered.{HasSegmentsOf, IsDosOrder, in_next_module, dos_parts, dos_runs, is_laid, is_run_in, without_first}
 use Rattle.omf_layout.proofs.SeveralLaws.ApartLaws.{Each, each-weaker}
 use Rattle.omf_layout.proofs.SeveralLaws.GatherLaws.{Name}
 use Rattle.omf_layout.proofs.SeveralLaws.OrderLaws.{of-name-seen, map-map}
@@ -221,7 +221,7 @@ module _ (ms : List (List Rec)) where
 -- ---- The runs with one module more in front
 
 abbrev pub later : Classed Portion → Classed Portion
-later x = (x.0, (x.1.0, behind_one x.1.1))
+later x = (x.0, (x.1.0, in_next_module x.1.1))
 
 pub numbered : (k : ℕ) (ns : List (List Rec)) → flat_map portions_in (enumerate_from (k + 1) ns) ≡ map later (flat_map portions_in (enumerate_from k ns))
 numbered k [] = refl
@@ -229,9 +229,9 @@ numbered k (n ∷ ns) =
     ap₂ (λ us vs. us ++ vs) (sym (map-map later (classed n k) (enumerate_from 1 (zip (segments n) (attributes n))))) (numbered (k + 1) ns)
     ∙ sym (map-append later (portions_in (k, n)) (flat_map portions_in (enumerate_from (k + 1) ns)))
 
-pub run-later : (xs : List (Classed Portion)) (k : Key) → run_of (map later xs) k ≡ map behind_one (run_of xs k)
+pub run-later : (xs : List (Classed Portion)) (k : Key) → run_of (map later xs) k ≡ map in_next_module (run_of xs k)
 run-later xs k =
-    ap (λ zs. of_name zs k.1) (of-name-seen (λ (y : Named Portion). (y.0, behind_one y.1)) xs k.0) ∙ of-name-seen behind_one (of_name xs k.0) k.1
+    ap (λ zs. of_name zs k.1) (of-name-seen (λ (y : Named Portion). (y.0, in_next_module y.1)) xs k.0) ∙ of-name-seen in_next_module (of_name xs k.0) k.1
 
 pub run-both : (xs ys : List (Classed Portion)) (k : Key) → run_of (xs ++ ys) k ≡ run_of xs k ++ run_of ys k
 run-both xs ys k = ap (λ zs. of_name zs k.1) (filter_map-append (value_of k.0) xs ys) ∙ filter_map-append (value_of k.1) (of_name xs k.0) (of_name ys k.0)
@@ -239,36 +239,36 @@ run-both xs ys k = ap (λ zs. of_name zs k.1) (filter_map-append (value_of k.0) 
 abbrev not-first : Portion → Bool
 not-first p = not (p.«module» == 0)
 
-behind-first : (p : Portion) → not-first (behind_one p) ≡ true
-behind-first p = elim (cases_Bool (p.«module» + 1 == 0)) [
+after-first : (p : Portion) → not-first (in_next_module p) ≡ true
+after-first p = elim (cases_Bool (p.«module» + 1 == 0)) [
   | inl y ↦ absurd (let e = eqb-true (p.«module» + 1) 0 y in omega (arith, e))
   | inr n ↦ ap not n
 ]
 
-each-behind : (run : List Portion) → Each (λ p. not-first p ≡ true) (map behind_one run)
-each-behind [] = tt
-each-behind (p ∷ run) = (behind-first p, each-behind run)
+each-after : (run : List Portion) → Each (λ p. not-first p ≡ true) (map in_next_module run)
+each-after [] = tt
+each-after (p ∷ run) = (after-first p, each-after run)
 
 pub of-first : (m : List Rec) (ys : List (ℕ × (SegInfo × ℕ))) → Each (λ (x : Classed Portion). x.1.1.«module» ≡ 0) (map (classed m 0) ys)
 of-first m [] = tt
 of-first m (y ∷ ys) = (refl, of-first m ys)
 
-pub run-without : (m : List Rec) (xs : List (Classed Portion)) (k : Key) → without_first (run_of (portions_in (0, m) ++ map later xs) k) ≡ map behind_one (run_of xs k)
+pub run-without : (m : List Rec) (xs : List (Classed Portion)) (k : Key) → without_first (run_of (portions_in (0, m) ++ map later xs) k) ≡ map in_next_module (run_of xs k)
 run-without m xs k =
     let os = portions_in (0, m) in
     ap without_first (run-both os (map later xs) k) ∙ filter-append not-first (run_of os k) (run_of (map later xs) k)
     ∙ ap₂ (λ us vs. us ++ vs)
     (filter-none not-first (run_of os k) (each-weaker (λ p. p.«module» ≡ 0) (λ p. not-first p ≡ false) (λ p e. ap (λ n. not (n == 0)) e) (run_of os k)
     (each-run (λ (x : Classed Portion). x.1.1.«module» ≡ 0) os k (of-first m (enumerate_from 1 (zip (segments m) (attributes m)))))))
-    (ap without_first (run-later xs k) ∙ filter-all not-first (map behind_one (run_of xs k)) (each-behind (run_of xs k)))
+    (ap without_first (run-later xs k) ∙ filter-all not-first (map in_next_module (run_of xs k)) (each-after (run_of xs k)))
 
-pub laid-behind : (run : List Portion) → is_laid (map behind_one run) ≡ is_laid run
-laid-behind [] = refl
-laid-behind (p ∷ run) = elim (cases_Bool (not (is_some p.segment.absolute))) [
-  | inl y ↦ ap is_some (cond-true (not (is_some p.segment.absolute)) (Some (behind_one p)) (first_of (map behind_one run)) y)
+pub laid-after : (run : List Portion) → is_laid (map in_next_module run) ≡ is_laid run
+laid-after [] = refl
+laid-after (p ∷ run) = elim (cases_Bool (not (is_some p.segment.absolute))) [
+  | inl y ↦ ap is_some (cond-true (not (is_some p.segment.absolute)) (Some (in_next_module p)) (first_of (map in_next_module run)) y)
       ∙ sym (ap is_some (cond-true (not (is_some p.segment.absolute)) (Some p) (first_of run) y))
-  | inr n ↦ ap is_some (cond-false (not (is_some p.segment.absolute)) (Some (behind_one p)) (first_of (map behind_one run)) n)
-      ∙ laid-behind run ∙ sym (ap is_some (cond-false (not (is_some p.segment.absolute)) (Some p) (first_of run) n))
+  | inr n ↦ ap is_some (cond-false (not (is_some p.segment.absolute)) (Some (in_next_module p)) (first_of (map in_next_module run)) n)
+      ∙ laid-after run ∙ sym (ap is_some (cond-false (not (is_some p.segment.absolute)) (Some p) (first_of run) n))
 ]
 
 -- All runs, and those in DOS order, by their keys.
@@ -280,16 +280,16 @@ keys-parted ms m h =
     let os = portions_in (0, m) in
     ap (λ ks. filter (good ms) (sorted ks)) (map-append key os (map later (ps ms)) ∙ ap (λ ks. map key os ++ ks) (map-map key later (ps ms))) ∙ keys-ordered ms m h
 
-pub runs-parted : (ms : List (List Rec)) → map (λ k. map behind_one (run_of (ps ms) k)) (parted ms) ≡ map (map behind_one) (dos_runs ms)
-runs-parted ms = sym (map-map (map behind_one) (run_of (ps ms)) (parted ms)) ∙ ap (map (map behind_one)) (sym (parts-runs ms dos_parts))
+pub runs-parted : (ms : List (List Rec)) → map (λ k. map in_next_module (run_of (ps ms) k)) (parted ms) ≡ map (map in_next_module) (dos_runs ms)
+runs-parted ms = sym (map-map (map in_next_module) (run_of (ps ms)) (parted ms)) ∙ ap (map (map in_next_module)) (sym (parts-runs ms dos_parts))
 
 pub dos-order : IsDosOrder
 dos-order ms m h =
     let xs = ps ms in
     let whole = run_of (portions_in (0, m) ++ map later xs) in
     let all_keys = sorted (map key (portions_in (0, m) ++ map later xs)) in
-    let run = λ (k : Key). map behind_one (run_of xs k) in
+    let run = λ (k : Key). map in_next_module (run_of xs k) in
     ap (λ rs. filter is_laid (map without_first rs)) (runs-all ms m)
     ∙ ap (filter is_laid) (map-map without_first whole all_keys ∙ map-same (λ k. without_first (whole k)) run (run-without m xs) all_keys)
-    ∙ filter-through is_laid run (good ms) (λ k. laid-behind (run_of xs k)) all_keys
+    ∙ filter-through is_laid run (good ms) (λ k. laid-after (run_of xs k)) all_keys
     ∙ ap (map run) (keys-parted ms m h) ∙ runs-parted ms

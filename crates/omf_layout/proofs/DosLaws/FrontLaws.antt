@@ -66,15 +66,15 @@ group-attributes : (g : Bool) (n : ℕ) (rs : List Rec) → attributes (order_gr
 group-attributes true n rs = refl
 group-attributes false n rs = refl
 
-abbrev behind : Bool → ℕ → ℕ → List Name → ℕ → List Name → List Rec
-behind g n i is k ks = order_group g n ++ (end_publics i is ++ (end_publics k ks ++ end_record ∷ []))
+abbrev last_records : Bool → ℕ → ℕ → List Name → ℕ → List Name → List Rec
+last_records g n i is k ks = order_group g n ++ (end_publics i is ++ (end_publics k ks ++ end_record ∷ []))
 
-behind-segments : (g : Bool) (n i : ℕ) (is : List Name) (k : ℕ) (ks : List Name) → segments (behind g n i is k ks) ≡ []
-behind-segments g n i is k ks =
+last-segments : (g : Bool) (n i : ℕ) (is : List Name) (k : ℕ) (ks : List Name) → segments (last_records g n i is k ks) ≡ []
+last-segments g n i is k ks =
     group-segments g n (end_publics i is ++ (end_publics k ks ++ end_record ∷ [])) ∙ publics-segments i is (end_publics k ks ++ end_record ∷ []) ∙ publics-segments k ks (end_record ∷ [])
 
-behind-attributes : (g : Bool) (n i : ℕ) (is : List Name) (k : ℕ) (ks : List Name) → attributes (behind g n i is k ks) ≡ []
-behind-attributes g n i is k ks =
+last-attributes : (g : Bool) (n i : ℕ) (is : List Name) (k : ℕ) (ks : List Name) → attributes (last_records g n i is k ks) ≡ []
+last-attributes g n i is k ks =
     group-attributes g n (end_publics i is ++ (end_publics k ks ++ end_record ∷ [])) ∙ publics-attributes i is (end_publics k ks ++ end_record ∷ []) ∙ publics-attributes k ks (end_record ∷ [])
 
 module _ (ms : List (List Rec)) where
@@ -82,7 +82,7 @@ module _ (ms : List (List Rec)) where
   all = dos_slots (are_grouped ms) (slots ms)
 
   abbrev rest : List Rec
-  rest = behind (are_grouped ms) (length all) (length (data_slots (slots ms)) + 1) (missing ms data_names) (length (bss_slots (are_grouped ms) (slots ms)) + 1) (missing ms bss_names)
+  rest = last_records (are_grouped ms) (length all) (length (data_slots (slots ms)) + 1) (missing ms data_names) (length (bss_slots (are_grouped ms) (slots ms)) + 1) (missing ms bss_names)
 
   order-names : names (order_records ms) ≡ slot-names all ++ names rest
   order-names = flat_map-append (λ r. defined_names r.contents) (slots_records 0 all) rest ∙ ap (λ ns. ns ++ names rest) (names-of 0 all)
@@ -90,13 +90,13 @@ module _ (ms : List (List Rec)) where
   pub order-segments : segments (order_records ms) ≡ infos 0 all
   order-segments =
       flat_map-append (λ r. defined_segments r.kind r.contents) (slots_records 0 all) rest
-      ∙ ap₂ (λ us vs. us ++ vs) (segments-of 0 all) (behind-segments (are_grouped ms) (length all) (length (data_slots (slots ms)) + 1) (missing ms data_names) (length (bss_slots (are_grouped ms) (slots ms)) + 1) (missing ms bss_names))
+      ∙ ap₂ (λ us vs. us ++ vs) (segments-of 0 all) (last-segments (are_grouped ms) (length all) (length (data_slots (slots ms)) + 1) (missing ms data_names) (length (bss_slots (are_grouped ms) (slots ms)) + 1) (missing ms bss_names))
       ∙ append-nil (infos 0 all)
 
   order-attributes : attributes (order_records ms) ≡ bytes all
   order-attributes =
       flat_map-append (λ r. attributes_in r.contents) (slots_records 0 all) rest
-      ∙ ap₂ (λ us vs. us ++ vs) (attributes-of 0 all) (behind-attributes (are_grouped ms) (length all) (length (data_slots (slots ms)) + 1) (missing ms data_names) (length (bss_slots (are_grouped ms) (slots ms)) + 1) (missing ms bss_names))
+      ∙ ap₂ (λ us vs. us ++ vs) (attributes-of 0 all) (last-attributes (are_grouped ms) (length all) (length (data_slots (slots ms)) + 1) (missing ms data_names) (length (bss_slots (are_grouped ms) (slots ms)) + 1) (missing ms bss_names))
       ∙ append-nil (bytes all)
 
 -- ---- Its segments

@@ -10,7 +10,7 @@ use Rattle.omf_layout.specs.declared.several.portion.Portion.{Portion}
 use Rattle.omf_layout.specs.Several.Laying.{Lying, laid, run_laid, runs_laid}
 use Rattle.omf_layout.specs.Several.Portions.{portions_in}
 use Rattle.omf_layout.specs.Own.Order.{first_of, order_records}
-use Rattle.omf_layout.specs.Own.Ordered.{HasSegmentsOf, HaveNoEnds, IsOrderAlone, behind_one}
+use Rattle.omf_layout.specs.Own.Ordered.{HasSegmentsOf, HaveNoEnds, IsOrderAlone, in_next_module}
 use Rattle.omf_layout.proofs.SeveralLaws.ApartLaws.{Each}
 use Rattle.omf_layout.proofs.DosLaws.DosOrder.{keys-parted, later, run-both, run-later, runs-all, runs-parted}
 use Rattle.omf_layout.proofs.DosLaws.EmptyLaws.{IsLikeFirst, run-front}
@@ -19,18 +19,18 @@ use Rattle.omf_layout.proofs.DosLaws.PartLaws.{good, ps}
 use Rattle.omf_layout.proofs.DosLaws.PlaceLaws.{Keeps, run-empty, run-keeps, runs-keep}
 use Rattle.omf_layout.proofs.DosLaws.RunLaws.{key, run_of}
 
-first-behind : (run : List Portion) → first_of (map behind_one run) ≡ option_map behind_one (first_of run)
-first-behind [] = refl
-first-behind (p ∷ run) =
+first-after : (run : List Portion) → first_of (map in_next_module run) ≡ option_map in_next_module (first_of run)
+first-after [] = refl
+first-after (p ∷ run) =
     let t = not (is_some p.segment.absolute) in
     elim (cases_Bool t) [
-      | inl y ↦ cond-true t (Some (behind_one p)) (first_of (map behind_one run)) y ∙ sym (ap (option_map behind_one) (cond-true t (Some p) (first_of run) y))
-      | inr n ↦ cond-false t (Some (behind_one p)) (first_of (map behind_one run)) n ∙ first-behind run ∙ sym (ap (option_map behind_one) (cond-false t (Some p) (first_of run) n))
+      | inl y ↦ cond-true t (Some (in_next_module p)) (first_of (map in_next_module run)) y ∙ sym (ap (option_map in_next_module) (cond-true t (Some p) (first_of run) y))
+      | inr n ↦ cond-false t (Some (in_next_module p)) (first_of (map in_next_module run)) n ∙ first-after run ∙ sym (ap (option_map in_next_module) (cond-false t (Some p) (first_of run) n))
     ]
 
 -- The run of modules of a class and a name, that of the module in front, and both.
 abbrev pub run : List (List Rec) → Key → List Portion
-run ms k = map behind_one (run_of (ps ms) k)
+run ms k = map in_next_module (run_of (ps ms) k)
 
 abbrev pub fore : List Rec → Key → List Portion
 fore m k = run_of (portions_in (0, m)) k
@@ -42,15 +42,15 @@ module _ (frames : Frames) (ms : List (List Rec)) (m : List Rec) (h : HasSegment
   pub whole-is : (k : Key) → whole ms m k ≡ fore m k ++ run ms k
   whole-is k = run-both (portions_in (0, m)) (map later (ps ms)) k ∙ ap (λ zs. fore m k ++ zs) (run-later (ps ms) k)
 
-  pub first-is : (k : Key) (o : Option Portion) → first_of (run_of (ps ms) k) ≡ o → first_of (run ms k) ≡ option_map behind_one o
-  first-is k o e = first-behind (run_of (ps ms) k) ∙ ap (option_map behind_one) e
+  pub first-is : (k : Key) (o : Option Portion) → first_of (run_of (ps ms) k) ≡ o → first_of (run ms k) ≡ option_map in_next_module o
+  first-is k o e = first-after (run_of (ps ms) k) ∙ ap (option_map in_next_module) e
 
   pub likes : (k : Key) (o : Option Portion) → first_of (run_of (ps ms) k) ≡ o → Each (IsLikeFirst ms o) (fore m k)
   likes k o e = subst (λ p. Each (IsLikeFirst ms p) (fore m k)) e (run-front ms none m h k)
 
   pub keeps-good : (k : Key) (o : Option Portion) → first_of (run_of (ps ms) k) ≡ o → is_some o ≡ true → (n : ℕ) (l : Laid (List Lying)) → run_laid frames n (whole ms m k) ≡ Some l → Keeps (run_laid frames n (run ms k)) l
   keeps-good k None e g n l d = absurd (false≢true g)
-  keeps-good k (Some p) e g n l d = run-keeps frames (behind_one p) (run ms k) (fore m k) (first-is k (Some p) e) (likes k (Some p) e) n l (ap (run_laid frames n) (sym (whole-is k)) ∙ d)
+  keeps-good k (Some p) e g n l d = run-keeps frames (in_next_module p) (run ms k) (fore m k) (first-is k (Some p) e) (likes k (Some p) e) n l (ap (run_laid frames n) (sym (whole-is k)) ∙ d)
 
   pub keeps-other : (k : Key) (o : Option Portion) → first_of (run_of (ps ms) k) ≡ o → is_some o ≡ false → (n : ℕ) (l : Laid (List Lying)) → run_laid frames n (whole ms m k) ≡ Some l → Keeps (Some (laid [] n)) l
   keeps-other k (Some p) e g n l d = absurd (true≢false g)

@@ -17,7 +17,7 @@ use Rattle.omf_layout.specs.declared.options.Frames.{Frames}
 use Rattle.omf_layout.specs.declared.several.portion.Combination.{Combination}
 use Rattle.omf_layout.specs.declared.several.portion.Combination.TheVariants.{Joined, Common, Alone}
 use Rattle.omf_layout.specs.declared.several.portion.Portion.{Portion}
-use Rattle.omf_layout.specs.Several.Laying.{Lying, laid, and_then_behind, address_of, lying_at, joined_in, joined_laid, strictest, longest, all_at, common_at, common_laid, lying_there, alone_laid, run_laid, runs_laid}
+use Rattle.omf_layout.specs.Several.Laying.{Lying, laid, and_then_after, address_of, lying_at, joined_in, joined_laid, strictest, longest, all_at, common_at, common_laid, lying_there, alone_laid, run_laid, runs_laid}
 use Rattle.omf_layout.specs.Several.Order.{combined_by, is_same_combination, lies_by}
 use Rattle.omf_layout.specs.Own.Order.{first_of}
 use Rattle.omf_layout.specs.Own.Ordered.{is_moved}
@@ -37,9 +37,9 @@ pub keeps-itself : (o : Option (Laid (List Lying))) (l : Laid (List Lying)) → 
 keeps-itself o l e = record { alone = l; laid = e; places = refl; free = refl }
 
 -- One thing after another.
-pub keeps-behind : (f g : Option (Laid (List Lying))) (r s : ℕ → Option (Laid (List Lying))) (l : Laid (List Lying)) → and_then_behind f r ≡ Some l
-    → ((k : Laid (List Lying)) → f ≡ Some k → Keeps g k) → ((n : ℕ) (k : Laid (List Lying)) → r n ≡ Some k → Keeps (s n) k) → Keeps (and_then_behind g s) l
-keeps-behind f g r s l h a b = option_and_then_some (λ k. and_then_more k.what (r k.free)) f l h (λ k e d.
+pub keeps-after : (f g : Option (Laid (List Lying))) (r s : ℕ → Option (Laid (List Lying))) (l : Laid (List Lying)) → and_then_after f r ≡ Some l
+    → ((k : Laid (List Lying)) → f ≡ Some k → Keeps g k) → ((n : ℕ) (k : Laid (List Lying)) → r n ≡ Some k → Keeps (s n) k) → Keeps (and_then_after g s) l
+keeps-after f g r s l h a b = option_and_then_some (λ k. and_then_more k.what (r k.free)) f l h (λ k e d.
     map_some (λ (q : Laid (List Lying)). laid (k.what ++ q.what) q.free) (r k.free) l d (λ q w t.
     let x = a k e in
     let y = b k.free q w in
@@ -301,8 +301,8 @@ module _ (frames : Frames) where
 
     pub run-keeps : Each (IsLike f.alignment f.combination) es → (n : ℕ) (l : Laid (List Lying)) → run_laid frames n (es ++ ps) ≡ Some l → Keeps (run_laid frames n ps) l
     run-keeps q n l h =
-        keeps-behind (joined_laid frames n (combined_by Joined (es ++ ps))) (joined_laid frames n (combined_by Joined ps)) _ _ l h (joined-part f.combination refl q n)
-        (λ b k g. keeps-behind (common_laid frames b (combined_by Common (es ++ ps))) (common_laid frames b (combined_by Common ps)) _ _ k g (common-part f.combination refl q b) (alone-part f.combination refl q))
+        keeps-after (joined_laid frames n (combined_by Joined (es ++ ps))) (joined_laid frames n (combined_by Joined ps)) _ _ l h (joined-part f.combination refl q n)
+        (λ b k g. keeps-after (common_laid frames b (combined_by Common (es ++ ps))) (common_laid frames b (combined_by Common ps)) _ _ k g (common-part f.combination refl q b) (alone-part f.combination refl q))
 
   -- ---- A run of absolute segments
 
@@ -362,9 +362,9 @@ module _ (frames : Frames) where
   pub run-empty : (ps es : List Portion) → first_of ps ≡ None → Each (IsLike Byte Joined) es → (n : ℕ) (l : Laid (List Lying)) → run_laid frames n (es ++ ps) ≡ Some l → Keeps (Some (laid [] n)) l
   run-empty ps es e q n l h =
       let a = absolutes ps e in
-      keeps-behind (joined_laid frames n (combined_by Joined (es ++ ps))) (Some (laid [] n)) _ (λ b. and_then_behind (Some (laid [] b)) (λ c. Some (laid [] c))) l h
+      keeps-after (joined_laid frames n (combined_by Joined (es ++ ps))) (Some (laid [] n)) _ (λ b. and_then_after (Some (laid [] b)) (λ c. Some (laid [] c))) l h
       (λ k d. empty-joined es q n k (ap (joined_laid frames n) (ap (λ xs. es ++ xs) (sym (none-by Joined refl ps a)) ∙ sym (front-in Byte Joined Joined es ps q refl)) ∙ d))
-      (λ b k d. keeps-behind (common_laid frames b (combined_by Common (es ++ ps))) (Some (laid [] b)) _ (λ c. Some (laid [] c)) k d
+      (λ b k d. keeps-after (common_laid frames b (combined_by Common (es ++ ps))) (Some (laid [] b)) _ (λ c. Some (laid [] c)) k d
       (λ j g. keeps-itself (Some (laid [] b)) j (ap (common_laid frames b) (sym (front-out Byte Common Joined es ps q refl ∙ none-by Common refl ps a)) ∙ g))
       (λ c j g. absolute-keeps (combined_by Alone ps) (each-filtered IsAbsolute (is_by Alone) ps a) c j (ap (all_laid (alone_laid frames) c) (sym (front-out Byte Alone Joined es ps q refl)) ∙ g)))
 
@@ -384,7 +384,7 @@ module _ (frames : Frames) where
       let more = λ (m : ℕ). runs_laid frames m (map s (filter t ks)) in
       elim (cases_Bool (t k)) [
         | inl y ↦ subst (λ zs. Keeps (runs_laid frames n (map s zs)) l) (sym (taken t k ks y))
-            (keeps-behind (run_laid frames n (r k)) (run_laid frames n (s k)) (λ m. runs_laid frames m (map r ks)) more l h (a k y n) rest)
+            (keeps-after (run_laid frames n (r k)) (run_laid frames n (s k)) (λ m. runs_laid frames m (map r ks)) more l h (a k y n) rest)
         | inr f ↦ subst (λ zs. Keeps (runs_laid frames n (map s zs)) l) (sym (left-out t k ks f))
-            (subst (λ o. Keeps o l) (none-more (more n)) (keeps-behind (run_laid frames n (r k)) (Some (laid [] n)) (λ m. runs_laid frames m (map r ks)) more l h (b k f n) rest))
+            (subst (λ o. Keeps o l) (none-more (more n)) (keeps-after (run_laid frames n (r k)) (Some (laid [] n)) (λ m. runs_laid frames m (map r ks)) more l h (b k f n) rest))
       ]

@@ -15,7 +15,7 @@ use Rattle.omf_layout.specs.Several.Laying.{Lying, laid, run_laid, runs_laid}
 use Rattle.omf_layout.specs.Several.Order.{combined_by, in_order}
 use Rattle.omf_layout.specs.Several.Portions.{Classed, portions, portions_in}
 use Rattle.omf_layout.specs.Own.Order.{dgroup_classes, first_of, part_of, slot}
-use Rattle.omf_layout.specs.Own.Ordered.{ArePartsApart, behind_one, dos_parts, is_moved, part_in, rank}
+use Rattle.omf_layout.specs.Own.Ordered.{ArePartsApart, in_next_module, dos_parts, is_moved, part_in, rank}
 use Rattle.omf_layout.proofs.FitLaws.{map_some}
 use Rattle.omf_layout.proofs.SeveralLaws.ApartLaws.{Each, LiesWell, each-at, each-weaker, run-well, runs-well}
 use Rattle.omf_layout.proofs.SeveralLaws.OrderedLaws.{those-in-run}
@@ -56,8 +56,8 @@ module _ (ms : List (List Rec)) (m : List Rec) where
   whole k = run_of (portions_in (0, m) ++ map later (ps ms)) k
 
   -- A later part is after an earlier one.
-  abbrev IsBehind : Lying → Lying → Type 0
-  IsBehind x y = is_moved x ≡ true → is_moved y ≡ true → of-lying x < of-lying y → x.1.address + x.0.segment.length ≤ y.1.address
+  abbrev IsAfter : Lying → Lying → Type 0
+  IsAfter x y = is_moved x ≡ true → is_moved y ≡ true → of-lying x < of-lying y → x.1.address + x.0.segment.length ≤ y.1.address
 
   -- ---- What is laid of a run is of the run's part
 
@@ -74,17 +74,17 @@ module _ (ms : List (List Rec)) (m : List Rec) where
   and-false true = refl
   and-false false = refl
 
-  absolute-behind : (run : List Portion) → Each (λ p. is_some p.segment.absolute ≡ true) run → Each (λ p. moves p ≡ false) (map behind_one run)
-  absolute-behind [] e = tt
-  absolute-behind (p ∷ run) e = (ap (λ b. not (p.«module» + 1 == 0) && not b) e.0 ∙ and-false (not (p.«module» + 1 == 0)), absolute-behind run e.1)
+  absolute-after : (run : List Portion) → Each (λ p. is_some p.segment.absolute ≡ true) run → Each (λ p. moves p ≡ false) (map in_next_module run)
+  absolute-after [] e = tt
+  absolute-after (p ∷ run) e = (ap (λ b. not (p.«module» + 1 == 0) && not b) e.0 ∙ and-false (not (p.«module» + 1 == 0)), absolute-after run e.1)
 
   still-run : (frames : Frames) (k : Key) → first_of (run_of (ps ms) k) ≡ None → Each (λ p. moves p ≡ false) (whole k)
   still-run frames k e =
       subst (Each (λ p. moves p ≡ false)) (sym (run-both (portions_in (0, m)) (map later (ps ms)) k ∙ ap (λ zs. run_of (portions_in (0, m)) k ++ zs) (run-later (ps ms) k)))
-      (each-append (λ p. moves p ≡ false) (run_of (portions_in (0, m)) k) (map behind_one (run_of (ps ms) k))
+      (each-append (λ p. moves p ≡ false) (run_of (portions_in (0, m)) k) (map in_next_module (run_of (ps ms) k))
       (each-weaker (λ p. p.«module» ≡ 0) (λ p. moves p ≡ false) (λ p a. ap (λ n. not (n == 0) && not (is_some p.segment.absolute)) a) (run_of (portions_in (0, m)) k)
       (each-run (λ (x : Classed Portion). x.1.1.«module» ≡ 0) (portions_in (0, m)) k (of-first m _)))
-      (absolute-behind (run_of (ps ms) k) (absolutes frames (run_of (ps ms) k) e)))
+      (absolute-after (run_of (ps ms) k) (absolutes frames (run_of (ps ms) k) e)))
 
   relocatable : (x : Lying) → is_moved x ≡ true → IsRelocatable x
   relocatable x e = by x.0.segment.absolute (and_parts (not (x.0.«module» == 0)) (not (is_some x.0.segment.absolute)) e).1 where
@@ -147,34 +147,34 @@ module _ (ms : List (List Rec)) (m : List Rec) where
       | inr f ↦ subst Ranked (left-out (good ms) k ks f) e
     ]
 
-    within : (n : ℕ) (k : Key) (l : Laid (List Lying)) → run_laid frames n (whole k) ≡ Some l → Both IsBehind l.what l.what
+    within : (n : ℕ) (k : Key) (l : Laid (List Lying)) → run_laid frames n (whole k) ≡ Some l → Both IsAfter l.what l.what
     within n k l h =
         let e = ranks-laid n k l h in
-        each-two (λ x. of-key k ≡ of-lying x) (λ x. of-key k ≡ of-lying x) IsBehind (λ x y p q a b lt. absurd (omega (arith, p, q, lt))) l.what l.what e e
+        each-two (λ x. of-key k ≡ of-lying x) (λ x. of-key k ≡ of-lying x) IsAfter (λ x y p q a b lt. absurd (omega (arith, p, q, lt))) l.what l.what e e
 
-    after : (low mid high : ℕ) (xs ys : List Lying) → Each (LiesWell frames low mid) xs → Each (LiesWell frames mid high) ys → Both IsBehind xs ys
-    after low mid high xs ys e f = each-two (LiesWell frames low mid) (LiesWell frames mid high) IsBehind
+    after : (low mid high : ℕ) (xs ys : List Lying) → Each (LiesWell frames low mid) xs → Each (LiesWell frames mid high) ys → Both IsAfter xs ys
+    after low mid high xs ys e f = each-two (LiesWell frames low mid) (LiesWell frames mid high) IsAfter
         (λ x y p q a b lt. let end = (p.relative (relocatable x a)).end in let from = (q.relative (relocatable y b)).from in omega (arith, end, from)) xs ys e f
 
-    before : (k : Key) (ks : List Key) (n mid : ℕ) (l r : Laid (List Lying)) → Ranked (filter (good ms) (k ∷ ks)) → run_laid frames n (whole k) ≡ Some l → runs_laid frames mid (map whole ks) ≡ Some r → Both IsBehind r.what l.what
+    before : (k : Key) (ks : List Key) (n mid : ℕ) (l r : Laid (List Lying)) → Ranked (filter (good ms) (k ∷ ks)) → run_laid frames n (whole k) ≡ Some l → runs_laid frames mid (map whole ks) ≡ Some r → Both IsAfter r.what l.what
     before k ks n mid l r e h d = elim (cases_Bool (good ms k)) [
       | inl y ↦
           let ranked = subst Ranked (taken (good ms) k ks y) e in
-          each-two (IsFrom (of-key k)) (λ x. of-key k ≡ of-lying x) IsBehind (λ x z p q a b lt. let low = p a in absurd (omega (arith, low, q, lt))) r.what l.what
+          each-two (IsFrom (of-key k)) (λ x. of-key k ≡ of-lying x) IsAfter (λ x z p q a b lt. let low = p a in absurd (omega (arith, low, q, lt))) r.what l.what
           (ranks-from (of-key k) ks mid r ranked.0 d) (ranks-laid n k l h)
       | inr f ↦
-          each-two (λ (x : Lying). ⊤) (λ x. is_moved x ≡ false) IsBehind (λ x z p q a b lt. absurd (true≢false (sym b ∙ q))) r.what l.what (each-any (λ (x : Lying). ⊤) (λ x. tt) r.what) (still-laid n k l h f)
+          each-two (λ (x : Lying). ⊤) (λ x. is_moved x ≡ false) IsAfter (λ x z p q a b lt. absurd (true≢false (sym b ∙ q))) r.what l.what (each-any (λ (x : Lying). ⊤) (λ x. tt) r.what) (still-laid n k l h f)
     ]
 
-    all-behind : (ks : List Key) (n : ℕ) (l : Laid (List Lying)) → Ranked (filter (good ms) ks) → runs_laid frames n (map whole ks) ≡ Some l → Both IsBehind l.what l.what
-    all-behind [] n l e h = subst (λ (z : Laid (List Lying)). Both IsBehind z.what z.what) (same_Some (laid [] n) l h) tt
-    all-behind (k ∷ ks) n l e h = option_and_then_some (λ j. and_then_more j.what (runs_laid frames j.free (map whole ks))) (run_laid frames n (whole k)) l h (λ j a d.
+    all-after : (ks : List Key) (n : ℕ) (l : Laid (List Lying)) → Ranked (filter (good ms) ks) → runs_laid frames n (map whole ks) ≡ Some l → Both IsAfter l.what l.what
+    all-after [] n l e h = subst (λ (z : Laid (List Lying)). Both IsAfter z.what z.what) (same_Some (laid [] n) l h) tt
+    all-after (k ∷ ks) n l e h = option_and_then_some (λ j. and_then_more j.what (runs_laid frames j.free (map whole ks))) (run_laid frames n (whole k)) l h (λ j a d.
         map_some (λ (q : Laid (List Lying)). laid (j.what ++ q.what) q.free) (runs_laid frames j.free (map whole ks)) l d (λ q w t.
-        subst (λ (z : Laid (List Lying)). Both IsBehind z.what z.what) t (both-append IsBehind j.what q.what
+        subst (λ (z : Laid (List Lying)). Both IsAfter z.what z.what) t (both-append IsAfter j.what q.what
         (within n k j a)
         (after n j.free q.free j.what q.what (run-well frames n (whole k) j a).each (runs-well frames j.free (map whole ks) q w).each)
         (before k ks n j.free j q e a w)
-        (all-behind ks j.free q (rest-ranked k ks e) w))))
+        (all-after ks j.free q (rest-ranked k ks e) w))))
 
     -- The parts are in order.
     abbrev InOrder : List DosPart → Type 0
@@ -214,5 +214,5 @@ pub parts-lie-apart : ArePartsApart
 parts-lie-apart o ms m l h e i j x y ex ey mx my lt =
     let ks = sorted (map key (portions_in (0, m) ++ map later (ps ms))) in
     let ranked = subst (Ranked ms m o.frames) (sym (keys-parted ms m h)) (ranked-dos ms m o.frames) in
-    let all = all-behind ms m o.frames ks o.base l ranked (ap (runs_laid o.frames o.base) (sym (runs-all ms m)) ∙ e) in
-    each-at (IsBehind ms m x) l.what (each-at (λ z. Each (IsBehind ms m z) l.what) l.what all i x ex) j y ey mx my lt
+    let all = all-after ms m o.frames ks o.base l ranked (ap (runs_laid o.frames o.base) (sym (runs-all ms m)) ∙ e) in
+    each-at (IsAfter ms m x) l.what (each-at (λ z. Each (IsAfter ms m z) l.what) l.what all i x ex) j y ey mx my lt

@@ -15,11 +15,11 @@ use Rattle.omf_layout.specs.declared.options.Frames.{Frames}
 use Rattle.omf_layout.specs.declared.several.portion.Combination.{Combination}
 use Rattle.omf_layout.specs.declared.several.portion.Combination.TheVariants.{Joined, Common, Alone}
 use Rattle.omf_layout.specs.declared.several.portion.Portion.{Portion}
-use Rattle.omf_layout.specs.Several.Laying.{Lying, laid, and_then_behind, address_of, lying_at, joined_in, joined_laid, strictest, longest, common_at, common_laid, lying_there, alone_laid, run_laid, runs_laid}
+use Rattle.omf_layout.specs.Several.Laying.{Lying, laid, and_then_after, address_of, lying_at, joined_in, joined_laid, strictest, longest, common_at, common_laid, lying_there, alone_laid, run_laid, runs_laid}
 use Rattle.omf_layout.specs.Several.Order.{combined_by, is_same_combination}
 use Rattle.omf_layout.specs.Several.Portions.{portions_in}
 use Rattle.omf_layout.specs.Own.Order.{first_of, order_records}
-use Rattle.omf_layout.specs.Own.Ordered.{HasSegmentsOf, HaveNoEnds, IsOrderFitting, behind_one}
+use Rattle.omf_layout.specs.Own.Ordered.{HasSegmentsOf, HaveNoEnds, IsOrderFitting, in_next_module}
 use Rattle.omf_layout.proofs.FitLaws.{map_some, first-of}
 use Rattle.omf_layout.proofs.SeveralLaws.ApartLaws.{Each, runs-well}
 use Rattle.omf_layout.proofs.DosLaws.DosOrder.{keys-parted, later, runs-all, runs-parted}
@@ -41,8 +41,8 @@ fits o l e = record { what = l; is = e }
 fits-some : {A : Type 0} (o : Option (Laid A)) → Fits o → is_some o ≡ true
 fits-some o f = ap is_some f.is
 
-fits-behind : (f : Option (Laid (List Lying))) (r : ℕ → Option (Laid (List Lying))) (k : Laid (List Lying)) → f ≡ Some k → Fits (r k.free) → Fits (and_then_behind f r)
-fits-behind f r k e q = record {
+fits-after : (f : Option (Laid (List Lying))) (r : ℕ → Option (Laid (List Lying))) (k : Laid (List Lying)) → f ≡ Some k → Fits (r k.free) → Fits (and_then_after f r)
+fits-after f r k e q = record {
   what = laid (k.what ++ q.what.what) q.what.free;
   is = ap (λ o. option_and_then (λ (c : Laid (List Lying)). and_then_more c.what (r c.free)) o) e ∙ ap (and_then_more k.what) q.is;
 }
@@ -175,15 +175,15 @@ module _ (frames : Frames) where
     run-fits q n k h = option_and_then_some _ (joined_laid frames n (combined_by Joined xs)) k h (λ a d g.
         let first = joined-room-of f.combination refl q n a d in
         let end = same-end (joined_laid frames n (combined_by Joined xs)) a first.what d (joined-part frames f xs es e f.combination refl q n first.what first.is) in
-        map_some _ (and_then_behind (common_laid frames a.free (combined_by Common xs)) (λ last. all_laid (alone_laid frames) last (combined_by Alone xs))) k g (λ r s t.
+        map_some _ (and_then_after (common_laid frames a.free (combined_by Common xs)) (λ last. all_laid (alone_laid frames) last (combined_by Alone xs))) k g (λ r s t.
         option_and_then_some _ (common_laid frames a.free (combined_by Common xs)) r s (λ b d2 g2.
         let second = common-room-of f.combination refl q a.free b d2 in
         let end2 = same-end (common_laid frames a.free (combined_by Common xs)) b second.what d2 (common-part frames f xs es e f.combination refl q a.free second.what second.is) in
         map_some _ (all_laid (alone_laid frames) b.free (combined_by Alone xs)) r g2 (λ z d3 g3.
         let third = alone-room-of f.combination refl q b.free z d3 in
-        fits-behind (joined_laid frames n (combined_by Joined (es ++ xs))) _ first.what first.is
-        (subst (λ i. Fits (and_then_behind (common_laid frames i (combined_by Common (es ++ xs))) (λ last. all_laid (alone_laid frames) last (combined_by Alone (es ++ xs))))) end
-        (fits-behind (common_laid frames a.free (combined_by Common (es ++ xs))) _ second.what second.is
+        fits-after (joined_laid frames n (combined_by Joined (es ++ xs))) _ first.what first.is
+        (subst (λ i. Fits (and_then_after (common_laid frames i (combined_by Common (es ++ xs))) (λ last. all_laid (alone_laid frames) last (combined_by Alone (es ++ xs))))) end
+        (fits-after (common_laid frames a.free (combined_by Common (es ++ xs))) _ second.what second.is
         (subst (λ i. Fits (all_laid (alone_laid frames) i (combined_by Alone (es ++ xs)))) end2 third)))))))
 
   -- ---- A run of absolute segments
@@ -211,8 +211,8 @@ module _ (frames : Frames) where
   run-empty-fits xs es e q n h =
       let a = absolutes frames xs e in
       let first = subst (λ zs. Fits (joined_laid frames n zs)) (ap (λ ys. es ++ ys) (sym (none-by frames Joined refl xs a)) ∙ sym (front-in frames Byte Joined Joined es xs q refl)) (empty-fits es q n h) in
-      fits-behind (joined_laid frames n (combined_by Joined (es ++ xs))) _ first.what first.is
-      (fits-behind (common_laid frames first.what.free (combined_by Common (es ++ xs))) _ (laid [] first.what.free)
+      fits-after (joined_laid frames n (combined_by Joined (es ++ xs))) _ first.what first.is
+      (fits-after (common_laid frames first.what.free (combined_by Common (es ++ xs))) _ (laid [] first.what.free)
       (ap (common_laid frames first.what.free) (front-out frames Byte Common Joined es xs q refl ∙ none-by frames Common refl xs a))
       (subst (λ zs. Fits (all_laid (alone_laid frames) first.what.free zs)) (sym (front-out frames Byte Alone Joined es xs q refl))
       (absolute-fits (combined_by Alone xs) (each-filtered (IsAbsolute frames) (is_by frames Alone) xs a) first.what.free)))
@@ -223,7 +223,7 @@ module _ (frames : Frames) (ms : List (List Rec)) (m : List Rec) (h : HasSegment
   good-fits : (k : Key) (o : Option Portion) → first_of (run_of (ps ms) k) ≡ o → is_some o ≡ true → (n : ℕ) (l : Laid (List Lying)) → run_laid frames n (run ms k) ≡ Some l → Fits (run_laid frames n (whole ms m k))
   good-fits k None e g n l d = absurd (false≢true g)
   good-fits k (Some p) e g n l d = subst (λ zs. Fits (run_laid frames n zs)) (sym (whole-is frames ms m h none k))
-      (run-fits frames (behind_one p) (run ms k) (fore m k) (first-is frames ms m h none k (Some p) e) (likes frames ms m h none k (Some p) e) n l d)
+      (run-fits frames (in_next_module p) (run ms k) (fore m k) (first-is frames ms m h none k (Some p) e) (likes frames ms m h none k (Some p) e) n l d)
 
   other-fits : (k : Key) (o : Option Portion) → first_of (run_of (ps ms) k) ≡ o → is_some o ≡ false → (n : ℕ) → n < limit frames → Fits (run_laid frames n (whole ms m k))
   other-fits k (Some p) e g n d = absurd (true≢false g)
@@ -239,7 +239,7 @@ module _ (frames : Frames) (ms : List (List Rec)) (m : List Rec) (h : HasSegment
         let keeps = keeps-good frames ms m h none k (first_of (run_of (ps ms) k)) refl y n first.what first.is in
         let end : j.free ≡ first.what.free = ap (λ (z : Laid (List Lying)). z.free) (same_Some j keeps.alone (sym d ∙ keeps.laid)) ∙ sym keeps.free in
         let last : q.free ≡ a.free = ap (λ (z : Laid (List Lying)). z.free) t in
-        fits-behind (run_laid frames n (whole ms m k)) (λ b. runs_laid frames b (map (whole ms m) ks)) first.what first.is
+        fits-after (run_laid frames n (whole ms m k)) (λ b. runs_laid frames b (map (whole ms m) ks)) first.what first.is
         (subst (λ b. Fits (runs_laid frames b (map (whole ms m) ks))) end (all-fit ks j.free q w (omega (arith, last, low))))))
     | inr f ↦
         let rest : runs_laid frames n (map (run ms) (filter (good ms) ks)) ≡ Some a = ap (λ zs. runs_laid frames n (map (run ms) zs)) (sym (left-out (good ms) k ks f)) ∙ e in
@@ -247,7 +247,7 @@ module _ (frames : Frames) (ms : List (List Rec)) (m : List Rec) (h : HasSegment
         let first = other-fits k (first_of (run_of (ps ms) k)) refl f n (omega (arith, up, low)) in
         let keeps = keeps-other frames ms m h none k (first_of (run_of (ps ms) k)) refl f n first.what first.is in
         let end : n ≡ first.what.free = ap (λ (z : Laid (List Lying)). z.free) (same_Some (laid [] n) keeps.alone keeps.laid) ∙ sym keeps.free in
-        fits-behind (run_laid frames n (whole ms m k)) (λ b. runs_laid frames b (map (whole ms m) ks)) first.what first.is
+        fits-after (run_laid frames n (whole ms m k)) (λ b. runs_laid frames b (map (whole ms m) ks)) first.what first.is
         (subst (λ b. Fits (runs_laid frames b (map (whole ms m) ks))) end (all-fit ks n a rest low))
   ]
 

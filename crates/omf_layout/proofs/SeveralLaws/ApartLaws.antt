@@ -21,7 +21,7 @@ use Rattle.omf_layout.specs.declared.several.portion.Combination.{Combination}
 use Rattle.omf_layout.specs.declared.several.portion.Combination.TheVariants.{Joined, Common, Alone}
 use Rattle.omf_layout.specs.declared.several.portion.Portion.{Portion}
 use Rattle.omf_layout.specs.Several.Laws.{IsRelocatable, LiesWithin, LieApart, ArrangedLieApart}
-use Rattle.omf_layout.specs.Several.Laying.{Lying, laid, and_then_behind, address_of, lying_at, joined_in, joined_laid, strictest, longest, all_at, common_at, common_laid, lying_there, alone_laid, run_laid, runs_laid}
+use Rattle.omf_layout.specs.Several.Laying.{Lying, laid, and_then_after, address_of, lying_at, joined_in, joined_laid, strictest, longest, all_at, common_at, common_laid, lying_there, alone_laid, run_laid, runs_laid}
 use Rattle.omf_layout.specs.Several.Order.{lies_by, is_same_combination, combined_by, in_order, runs}
 
 no-lower : (x : Alignment) (n : ℕ) → n ≤ next_multiple (bytes_aligned x) n
@@ -141,13 +141,13 @@ module _ (frames : Frames) where
     pub each : Each (LiesWell low l.free) l.what
     pub pairs : Pairs l.what
 
-  behind-one : (low mid high : ℕ) (x : Lying) → LiesWell low mid x → (ys : List Lying) → Each (LiesWell mid high) ys → Each (AreApart x) ys
-  behind-one low mid high x w [] e = tt
-  behind-one low mid high x w (y ∷ ys) e = (λ r s. let a = (w.relative r).end in let b = (e.0.relative s).from in inr (omega (arith, a, b)), behind-one low mid high x w ys e.1)
+  after-one : (low mid high : ℕ) (x : Lying) → LiesWell low mid x → (ys : List Lying) → Each (LiesWell mid high) ys → Each (AreApart x) ys
+  after-one low mid high x w [] e = tt
+  after-one low mid high x w (y ∷ ys) e = (λ r s. let a = (w.relative r).end in let b = (e.0.relative s).from in inr (omega (arith, a, b)), after-one low mid high x w ys e.1)
 
   pairs-both : (low mid high : ℕ) (xs ys : List Lying) → Each (LiesWell low mid) xs → Pairs xs → Each (LiesWell mid high) ys → Pairs ys → Pairs (xs ++ ys)
   pairs-both low mid high [] ys e p f q = q
-  pairs-both low mid high (x ∷ xs) ys e p f q = (each-both (AreApart x) xs ys p.0 (behind-one low mid high x e.0 ys f), pairs-both low mid high xs ys e.1 p.1 f q)
+  pairs-both low mid high (x ∷ xs) ys e p f q = (each-both (AreApart x) xs ys p.0 (after-one low mid high x e.0 ys f), pairs-both low mid high xs ys e.1 p.1 f q)
 
   both-well : (low : ℕ) (k l : Laid (List Lying)) → LieWell low k → LieWell k.free l → LieWell low (laid (k.what ++ l.what) l.free)
   both-well low k l a b = record {
@@ -161,9 +161,9 @@ module _ (frames : Frames) where
   none-well low l h = subst (LieWell low) (same_Some (laid [] low) l h) (record { up = omega arith; each = tt; pairs = tt })
 
   -- What is laid after something else.
-  behind-well : (low : ℕ) (first : Option (Laid (List Lying))) (rest : ℕ → Option (Laid (List Lying))) (l : Laid (List Lying)) → and_then_behind first rest ≡ Some l
+  after-well : (low : ℕ) (first : Option (Laid (List Lying))) (rest : ℕ → Option (Laid (List Lying))) (l : Laid (List Lying)) → and_then_after first rest ≡ Some l
       → ((k : Laid (List Lying)) → first ≡ Some k → LieWell low k) → ((n : ℕ) (k : Laid (List Lying)) → rest n ≡ Some k → LieWell n k) → LieWell low l
-  behind-well low first rest l h f g = option_and_then_some (λ k. and_then_more k.what (rest k.free)) first l h (λ k e d.
+  after-well low first rest l h f g = option_and_then_some (λ k. and_then_more k.what (rest k.free)) first l h (λ k e d.
       map_some (λ (r : Laid (List Lying)). laid (k.what ++ r.what) r.free) (rest k.free) l d (λ r s t. subst (LieWell low) t (both-well low k r (f k e) (g k.free r s))))
 
   -- What is laid one by one.
@@ -288,16 +288,16 @@ module _ (frames : Frames) where
 
   pub run-well : (free : ℕ) (run : List Portion) (l : Laid (List Lying)) → run_laid frames free run ≡ Some l → LieWell free l
   run-well free run l h =
-      behind-well free (joined_laid frames free (combined_by Joined run)) _ l h
+      after-well free (joined_laid frames free (combined_by Joined run)) _ l h
       (λ k e. joined-well free (combined_by Joined run) k (each-filter (λ p. p.segment.absolute ≡ None) (λ p. is_same_combination Joined (lies_by p.segment.absolute p.combination)) (λ p y. relative-by Joined refl p.segment.absolute p.combination y) run) e)
-      (λ n k e. behind-well n (common_laid frames n (combined_by Common run)) _ k e
+      (λ n k e. after-well n (common_laid frames n (combined_by Common run)) _ k e
       (λ j d. common-well n (combined_by Common run) j (each-filter IsCommon (λ p. is_same_combination Common (lies_by p.segment.absolute p.combination))
       (λ p y. record { relative = relative-by Common refl p.segment.absolute p.combination y; common = is-common p.segment.absolute p.combination y }) run) d)
       (λ m j d. all-well (alone_laid frames) (λ p. ⊤) alone-one m (combined_by Alone run) j (any-each (combined_by Alone run)) d))
 
   pub runs-well : (free : ℕ) (rs : List (List Portion)) (l : Laid (List Lying)) → runs_laid frames free rs ≡ Some l → LieWell free l
   runs-well free [] l h = none-well free l h
-  runs-well free (r ∷ rs) l h = behind-well free (run_laid frames free r) (λ behind. runs_laid frames behind rs) l h (λ k e. run-well free r k e) (λ n k e. runs-well n rs k e)
+  runs-well free (r ∷ rs) l h = after-well free (run_laid frames free r) (λ after. runs_laid frames after rs) l h (λ k e. run-well free r k e) (λ n k e. runs-well n rs k e)
 
 pub arranged-lie-apart : ArrangedLieApart
 arranged-lie-apart o ms l h =

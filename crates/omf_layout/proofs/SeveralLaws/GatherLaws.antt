@@ -90,9 +90,9 @@ new-other : (x y : Name) → bytes_eq y x ≡ false → (b : Bool) (ds : List Na
 new-other x y e true ds = refl
 new-other x y e false ds = filter-append (other y) ds (x ∷ []) ∙ ap (λ zs. filter (other y) ds ++ zs) (kept y x [] e)
 
-new-behind : (y x : Name) (b : Bool) (ds : List Name) → y ∷ with-new b ds x ≡ with-new b (y ∷ ds) x
-new-behind y x true ds = refl
-new-behind y x false ds = refl
+new-after : (y x : Name) (b : Bool) (ds : List Name) → y ∷ with-new b ds x ≡ with-new b (y ∷ ds) x
+new-after y x true ds = refl
+new-after y x false ds = refl
 
 distinct-step : (xs : List Name) (x : Name) → distinct (xs ++ x ∷ []) ≡ with-new (has x (distinct xs)) (distinct xs) x
 distinct-step [] x = refl
@@ -102,7 +102,7 @@ distinct-step (y ∷ ys) x =
     ap (λ zs. y ∷ filter (other y) zs) (distinct-step ys x) ∙ elim (cases_Bool (bytes_eq x y)) [
       | inl t ↦ ap (λ zs. y ∷ zs) (new-same x y (subst (λ z. bytes_eq z x ≡ true) (same x y t) (itself x)) (has x ds) ds) ∙ sym (ap (λ b. with-new (b || has x es) (y ∷ es) x) t)
       | inr f ↦
-          ap (λ zs. y ∷ zs) (new-other x y (back x y f) (has x ds) ds) ∙ new-behind y x (has x ds) es
+          ap (λ zs. y ∷ zs) (new-other x y (back x y f) (has x ds) ds) ∙ new-after y x (has x ds) es
           ∙ ap (λ b. with-new b (y ∷ es) x) (sym (has-other x y f ds)) ∙ sym (ap (λ b. with-new (b || has x es) (y ∷ es) x) f)
     ]
 

@@ -7,7 +7,7 @@ use Rattle.omf_layout.specs.Layout.{Laid, and_then_more, all_laid}
 use Rattle.omf_layout.specs.Room.{address_from, frame_at}
 use Rattle.omf_layout.specs.Wants.{bytes_aligned}
 use Rattle.omf_layout.specs.declared.options.Frames.{Frames}
-use Rattle.omf_layout.specs.Several.Laying.{laid, and_then_behind, joined_in, joined_laid, strictest}
+use Rattle.omf_layout.specs.Several.Laying.{laid, and_then_after, joined_in, joined_laid, strictest}
 use Rattle.omf_layout.specs.declared.several.portion.Portion.{Portion}
 
 module _ {A : Type 0} where
@@ -16,10 +16,10 @@ module _ {A : Type 0} where
   more-more before next (Some l) = ap (λ xs. Some (laid xs l.free)) (sym (append_assoc before next l.what))
 
   -- What is laid after something else.
-  pub then-behind : (before mid : List A) (free : ℕ) (first : Option (Laid (List A))) (rest : ℕ → Option (Laid (List A))) → and_then_more before first ≡ Some (laid mid free)
-      → and_then_more before (and_then_behind first rest) ≡ and_then_more mid (rest free)
-  then-behind before mid free None rest h = absurd (none-some _ h)
-  then-behind before mid free (Some l) rest h =
+  pub then-after : (before mid : List A) (free : ℕ) (first : Option (Laid (List A))) (rest : ℕ → Option (Laid (List A))) → and_then_more before first ≡ Some (laid mid free)
+      → and_then_more before (and_then_after first rest) ≡ and_then_more mid (rest free)
+  then-after before mid free None rest h = absurd (none-some _ h)
+  then-after before mid free (Some l) rest h =
       let e = same_Some _ (laid mid free) h in
       more-more before l.what (rest l.free) ∙ ap (λ (k : Laid (List A)). and_then_more k.what (rest k.free)) e
 
@@ -31,9 +31,9 @@ module _ {B : Type 0} (lay : ℕ → Portion → Option (Laid B)) (free i : ℕ)
       let next : drop i ps ≡ get_or ps i d ∷ drop (i + 1) ps = rw (add-one, drop-cons ps i d inside) refl in
       sym (ap (λ p. and_then_more old (option_and_then (λ l. and_then_more (l.what ∷ []) (all_laid lay l.free (drop (i + 1) ps))) p)) e) ∙ sym (ap (λ xs. and_then_more old (all_laid lay free xs)) next) ∙ h
 
-  pub next-laid : (b : B) (behind : ℕ) (new : List B) → lay free (get_or ps i d) ≡ Some (laid b behind) → new ≡ old ++ b ∷ [] → and_then_more new (all_laid lay behind (drop (i + 1) ps)) ≡ whole
-  next-laid b behind new e n =
-      ap (λ xs. and_then_more xs (all_laid lay behind (drop (i + 1) ps))) n ∙ sym (more-more old (b ∷ []) (all_laid lay behind (drop (i + 1) ps))) ∙ there (Some (laid b behind)) e
+  pub next-laid : (b : B) (after : ℕ) (new : List B) → lay free (get_or ps i d) ≡ Some (laid b after) → new ≡ old ++ b ∷ [] → and_then_more new (all_laid lay after (drop (i + 1) ps)) ≡ whole
+  next-laid b after new e n =
+      ap (λ xs. and_then_more xs (all_laid lay after (drop (i + 1) ps))) n ∙ sym (more-more old (b ∷ []) (all_laid lay after (drop (i + 1) ps))) ∙ there (Some (laid b after)) e
 
   pub no-room : lay free (get_or ps i d) ≡ None → whole ≡ None
   no-room e = sym (there None e)

@@ -10,7 +10,7 @@ use Rattle.omf_layout.specs.declared.options.Frames.{Frames}
 use Rattle.omf_layout.proofs.FitLaws.{map_some, first-of}
 use Rattle.omf_layout.specs.declared.several.portion.Combination.TheVariants.{Joined, Common, Alone}
 use Rattle.omf_layout.specs.declared.several.portion.Portion.{Portion}
-use Rattle.omf_layout.specs.Several.Laying.{Lying, laid, and_then_behind, address_of, lying_at, joined_in, joined_laid, strictest, longest, all_at, common_at, common_laid, lying_there, alone_laid, run_laid, runs_laid}
+use Rattle.omf_layout.specs.Several.Laying.{Lying, laid, and_then_after, address_of, lying_at, joined_in, joined_laid, strictest, longest, all_at, common_at, common_laid, lying_there, alone_laid, run_laid, runs_laid}
 use Rattle.omf_layout.specs.Several.Order.{combined_by, in_order, place_of}
 
 abbrev those : List Lying → List Portion
@@ -27,9 +27,9 @@ AreThose ps l = those l.what ≡ ps
 those-none : (free : ℕ) (l : Laid (List Lying)) → Some (laid [] free) ≡ Some l → AreThose [] l
 those-none free l h = subst (AreThose []) (same_Some (laid [] free) l h) refl
 
-those-behind : (ps qs : List Portion) (first : Option (Laid (List Lying))) (rest : ℕ → Option (Laid (List Lying))) (l : Laid (List Lying)) → and_then_behind first rest ≡ Some l
+those-after : (ps qs : List Portion) (first : Option (Laid (List Lying))) (rest : ℕ → Option (Laid (List Lying))) (l : Laid (List Lying)) → and_then_after first rest ≡ Some l
     → ((k : Laid (List Lying)) → first ≡ Some k → AreThose ps k) → ((n : ℕ) (k : Laid (List Lying)) → rest n ≡ Some k → AreThose qs k) → AreThose (ps ++ qs) l
-those-behind ps qs first rest l h f g = option_and_then_some (λ k. and_then_more k.what (rest k.free)) first l h (λ k e d.
+those-after ps qs first rest l h f g = option_and_then_some (λ k. and_then_more k.what (rest k.free)) first l h (λ k e d.
     map_some (λ (r : Laid (List Lying)). laid (k.what ++ r.what) r.free) (rest k.free) l d (λ r s t.
     subst (AreThose (ps ++ qs)) t (those-both k.what r.what ∙ ap₂ (λ xs ys. xs ++ ys) (f k e) (g k.free r s))))
 
@@ -63,14 +63,14 @@ module _ (frames : Frames) where
 
   pub those-in-run : (free : ℕ) (run : List Portion) (l : Laid (List Lying)) → run_laid frames free run ≡ Some l → AreThose (in_order run) l
   those-in-run free run l h =
-      those-behind (combined_by Joined run) (combined_by Common run ++ combined_by Alone run) (joined_laid frames free (combined_by Joined run)) _ l h (λ k e. those-joined free (combined_by Joined run) k e)
-      (λ n k e. those-behind (combined_by Common run) (combined_by Alone run) (common_laid frames n (combined_by Common run)) _ k e (λ j d. those-common n (combined_by Common run) j d)
+      those-after (combined_by Joined run) (combined_by Common run ++ combined_by Alone run) (joined_laid frames free (combined_by Joined run)) _ l h (λ k e. those-joined free (combined_by Joined run) k e)
+      (λ n k e. those-after (combined_by Common run) (combined_by Alone run) (common_laid frames n (combined_by Common run)) _ k e (λ j d. those-common n (combined_by Common run) j d)
       (λ m j d. those-laid (alone_laid frames) alone-one m (combined_by Alone run) j d))
 
   pub those-in-runs : (free : ℕ) (rs : List (List Portion)) (l : Laid (List Lying)) → runs_laid frames free rs ≡ Some l → AreThose (flat_map in_order rs) l
   those-in-runs free [] l h = those-none free l h
   those-in-runs free (r ∷ rs) l h =
-      those-behind (in_order r) (flat_map in_order rs) (run_laid frames free r) (λ behind. runs_laid frames behind rs) l h (λ k e. those-in-run free r k e) (λ n k e. those-in-runs n rs k e)
+      those-after (in_order r) (flat_map in_order rs) (run_laid frames free r) (λ after. runs_laid frames after rs) l h (λ k e. those-in-run free r k e) (λ n k e. those-in-runs n rs k e)
 
 places-those : (xs : List Lying) → map (λ x. place_of x.0) xs ≡ map place_of (those xs)
 places-those [] = refl

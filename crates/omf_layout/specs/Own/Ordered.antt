@@ -23,8 +23,8 @@ pub record HasSegmentsOf (rs m : List Rec) : Type 0 where
   pub attributes : attributes m ≡ attributes rs
 
 -- A segment of a module, once one module more is in front.
-abbrev pub behind_one : Portion → Portion
-behind_one p = record { «module» = p.«module» + 1; index = p.index; segment = p.segment; alignment = p.alignment; combination = p.combination }
+abbrev pub in_next_module : Portion → Portion
+in_next_module p = record { «module» = p.«module» + 1; index = p.index; segment = p.segment; alignment = p.alignment; combination = p.combination }
 
 -- The segments of a run that are not of the first module.
 abbrev pub without_first : List Portion → List Portion
@@ -47,7 +47,7 @@ dos_runs ms = flat_map (λ part. filter (is_run_in ms part) (runs ms)) dos_parts
 -- With the module for DOS order in front, the runs of modules that have a segment that is not absolute are in that order. No segment leaves its run or its place in it.
 abbrev pub IsDosOrder : Type 0
 IsDosOrder = (ms : List (List Rec)) (m : List Rec) → HasSegmentsOf (order_records ms) m
-    → filter is_laid (map without_first (runs (m ∷ ms))) ≡ map (map behind_one) (dos_runs ms)
+    → filter is_laid (map without_first (runs (m ∷ ms))) ≡ map (map in_next_module) (dos_runs ms)
 
 -- The module has no data, and its segments have no bytes.
 abbrev pub IsEmptyOrder : Type 0
@@ -71,7 +71,7 @@ is_moved x = not (x.0.«module» == 0) && not (is_some x.0.segment.absolute)
 -- Laid segments have the places that they have if their runs alone are laid in DOS order, without that module. So has the first free address.
 pub record LieAsAlone (o : Options) (ms : List (List Rec)) (l : Laid (List Lying)) : Type 0 where
   pub alone : Laid (List Lying)
-  pub laid : runs_laid o.frames o.base (map (map behind_one) (dos_runs ms)) ≡ Some alone
+  pub laid : runs_laid o.frames o.base (map (map in_next_module) (dos_runs ms)) ≡ Some alone
   pub places : filter is_moved l.what ≡ filter is_moved alone.what
   pub free : l.free ≡ alone.free
 
@@ -102,4 +102,4 @@ ArePartsApart = (o : Options) (ms : List (List Rec)) (m : List Rec) (l : Laid (L
 -- If those runs alone fit, with an address left below the limit for its two segments at the ends, then all fit with the module in front.
 abbrev pub IsOrderFitting : Type 0
 IsOrderFitting = (o : Options) (ms : List (List Rec)) (m : List Rec) (a : Laid (List Lying)) → HasSegmentsOf (order_records ms) m → HaveNoEnds ms
-    → runs_laid o.frames o.base (map (map behind_one) (dos_runs ms)) ≡ Some a → a.free < limit o.frames → is_some (arranged o (m ∷ ms)) ≡ true
+    → runs_laid o.frames o.base (map (map in_next_module) (dos_runs ms)) ≡ Some a → a.free < limit o.frames → is_some (arranged o (m ∷ ms)) ≡ true

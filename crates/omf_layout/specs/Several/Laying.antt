@@ -20,8 +20,8 @@ abbrev pub laid : {A : Type 0} → A → ℕ → Laid A
 laid what free = record { what = what; free = free }
 
 -- What is laid after other things, from the first free address after them.
-abbrev pub and_then_behind : {A : Type 0} → Option (Laid (List A)) → (ℕ → Option (Laid (List A))) → Option (Laid (List A))
-and_then_behind first rest = option_and_then (λ l. and_then_more l.what (rest l.free)) first
+abbrev pub and_then_after : {A : Type 0} → Option (Laid (List A)) → (ℕ → Option (Laid (List A))) → Option (Laid (List A))
+and_then_after first rest = option_and_then (λ l. and_then_more l.what (rest l.free)) first
 
 -- The first free address of a segment's alignment, if the segment fits there.
 abbrev pub address_of : Frames → ℕ → Portion → Option ℕ
@@ -67,14 +67,14 @@ alone_laid frames free p = option_map (lying_there p) (segment_laid frames free 
 -- The segments of one class and name: the joined ones, then the common ones, then those that are alone.
 abbrev pub run_laid : Frames → ℕ → List Portion → Option (Laid (List Lying))
 run_laid frames free run =
-    and_then_behind (joined_laid frames free (combined_by Joined run)) (λ behind.
-    and_then_behind (common_laid frames behind (combined_by Common run)) (λ last.
+    and_then_after (joined_laid frames free (combined_by Joined run)) (λ after.
+    and_then_after (common_laid frames after (combined_by Common run)) (λ last.
     all_laid (alone_laid frames) last (combined_by Alone run)))
 
 -- Runs one after another; and all segments of all modules, from the base on.
 abbrev pub runs_laid : Frames → ℕ → List (List Portion) → Option (Laid (List Lying))
 runs_laid frames free [] = Some (laid [] free)
-runs_laid frames free (r ∷ rs) = and_then_behind (run_laid frames free r) (λ behind. runs_laid frames behind rs)
+runs_laid frames free (r ∷ rs) = and_then_after (run_laid frames free r) (λ after. runs_laid frames after rs)
 
 abbrev pub arranged : Options → List (List Rec) → Option (Laid (List Lying))
 arranged o ms = runs_laid o.frames o.base (runs ms)

@@ -2,7 +2,7 @@ use Rattle.std.proofs.Common.{◌+◌, ap, sym, ◌∙◌, arith, drop}
 use Rattle.std.specs.Prelude.{map}
 use Rattle.omf_layout.specs.Layout.{and_then_more}
 use Rattle.omf_layout.specs.Several.Laying.{run_laid, runs_laid}
-use Rattle.omf_layout.proofs.SeveralLaws.LayingLaws.{then-behind, next-run}
+use Rattle.omf_layout.proofs.SeveralLaws.LayingLaws.{then-after, next-run}
 use Rattle.omf_layout.proofs.several.arranging.arrange.Goals as goal
 
 pub loop-run-preserved : goal.loop-run-preserved
@@ -13,7 +13,7 @@ loop-run-preserved c =
     let r = c.run-item.result in
     let before = c.loop-run.lying.items in
     record {
-      same = sym (then-behind before c.lay_run.new.lying.items c.in_ok-free.free (run_laid frames c.loop-run.free r.items) (λ behind. runs_laid frames behind (map (λ v. v.items) (drop (i + 1) rs)))
+      same = sym (then-after before c.lay_run.new.lying.items c.in_ok-free.free (run_laid frames c.loop-run.free r.items) (λ after. runs_laid frames after (map (λ v. v.items) (drop (i + 1) rs)))
           (ap (λ xs. and_then_more before (run_laid frames c.loop-run.free xs)) (sym c.deref.ensures.value) ∙ c.in_ok-free.ensures.answer))
           ∙ ap (λ xs. and_then_more before (runs_laid frames c.loop-run.free xs)) (sym (next-run rs i r c.run-item.is c.loop-run-test.true)) ∙ c.loop-run.invariant.same;
       low = c.in_ok-free.ensures.low;
