@@ -1,6 +1,6 @@
 //! The pieces of a checked module: its records and its fixups, with threads resolved.
 
-ghost use Rattle.std.specs.Prelude.{◌≡◌, ◌∷◌, [], map, IfNone, IfSome, None, option_map};
+ghost use Rattle.std.specs.Prelude.{◌≡◌, ◌∷◌, [], map, IfNone, IfSome, None, Some, option_map};
 ghost use Rattle.omf_image.specs.Limits.{profile_limits};
 ghost use Rattle.omf_check.specs.Inner.Contents.{references_seen};
 ghost use Rattle.omf_check.specs.Inner.Kept.{no_threads};
@@ -153,6 +153,31 @@ fn open_step<'a>(
     None
 }
 
+/// Takes the next subrecord of the FIXUPP being read, if it is a fixup that uses no thread: its place, the width of its FIXUPP's fields, and
+/// the fixup. Otherwise returns `None`, and changes nothing.
+#[inline(always)]
+fn direct_step(
+    threads: &Threads,
+    fixups: &mut Option<OpenFixups<'_>>,
+) -> Option<(Place, Width, PlainFixup)>
+    requires { OpenIsSet threads.now fixups.old }
+    ensures some { IfSome result (λ x. open_steps threads.now fixups.old ≡ Some (x.0, Fixed (fixupp_type x.1) (x.2 ∷ [])) ∷ open_steps threads.now fixups.new) }
+    ensures none { IfNone result (fixups.new ≡ fixups.old) }
+    ensures threads { threads_behind threads.now fixups.new ≡ threads_behind threads.now fixups.old }
+    ensures set { OpenIsSet threads.now fixups.new }
+{
+    if let Some(open) = fixups {
+        if let Some((within, fixup)) = open.left.next_direct() {
+            let place = Place {
+                within,
+                ..open.place
+            };
+            return Some((place, open.width, direct_fixup(&fixup)));
+        }
+    }
+    None
+}
+
 /// The piece of a MODEND. A FIXUPP has none; its subrecords come next.
 fn references_step<'a>(
     threads: &Threads,
@@ -219,6 +244,16 @@ impl<'a> Pieces<'a> {
             fixups: None,
             threads: Threads::new(),
         }
+    }
+
+    /// Goes on after the next piece, if its FIXUPP is being read and it is a fixup that uses no thread. Returns its place, the width of its
+    /// FIXUPP's fields, and the fixup. Otherwise returns `None`, and changes nothing.
+    #[inline(always)]
+    pub(crate) fn next_direct(&mut self) -> Option<(Place, Width, PlainFixup)>
+        ensures some { IfSome result (λ x. self.old ≡ (x.0, Fixed (fixupp_type x.1) (x.2 ∷ [])) ∷ self.new) }
+        ensures none { IfNone result (self.new ≡ self.old) }
+    {
+        direct_step(&self.threads, &mut self.fixups)
     }
 }
 

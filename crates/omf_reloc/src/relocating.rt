@@ -204,6 +204,21 @@ impl Walk {
         }
     }
 
+    /// Takes a fixup as the next piece. Returns why it does not reach, if it does not.
+    #[inline(always)]
+    fn take_fixup(
+        &mut self,
+        placement: &Placement,
+        width: Width,
+        fixup: &PlainFixup,
+    ) -> Option<Cause>
+        requires { CanWalk (Fixed (fixupp_type width) (fixup.now ∷ [])) self.old }
+        ensures next { IsNext placement.now (Fixed (fixupp_type width) (fixup.now ∷ [])) self.old self.new }
+        ensures cause { result ≡ piece_cause placement.now (open_place self.old.open_data) (Fixed (fixupp_type width) (fixup.now ∷ [])) }
+    {
+        self.fix(placement, width, fixup)
+    }
+
     /// Takes the next piece. Returns why it does not reach, if it does not.
     #[inline(always)]
     fn take(
@@ -269,12 +284,22 @@ pub(crate) fn walked(
 {
     let zeros = zeros_of(alloc, module)?;
     let mut walk = Walk::new(zeros);
-    for (place, piece) in pieces_of(module) {
+    let mut pieces = pieces_of(module);
+    'pieces: loop {
+        // Most pieces are fixups that use no thread. Each is applied where it is read.
+        if let Some((place, width, fixup)) = pieces.next_direct() {
+            if let Some(cause) = walk.take_fixup(placement, width, &fixup) {
+                return Err(RelocateFault::Reach(too_far(place, cause)));
+            }
+            continue;
+        }
+        let Some((place, piece)) = pieces.next() else {
+            return Ok(walk.finish()?);
+        };
         if let Some(cause) = walk.take(alloc, placement, &piece)? {
             return Err(RelocateFault::Reach(too_far(place, cause)));
         }
     }
-    Ok(walk.finish()?)
 }
 
 /// The image of a module at a placement: the data of each LEDATA with its fixups applied, and the expanded blocks of each LIDATA (TIS OMF
