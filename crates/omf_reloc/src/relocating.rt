@@ -108,6 +108,19 @@ fn expanded(alloc: Global, blocks: Blocks<'_>) -> Result<Vec<u8>, AllocError>
     Ok(bytes)
 }
 
+/// The least room of the bytes of an LEDATA. A vector with less is copied once more when the image is laid: it moves up to 16 bytes out of
+/// their vector.
+const ROOM: usize = 17;
+
+/// A copy of the bytes of an LEDATA.
+fn copied(alloc: Global, bytes: &[u8]) -> Result<Vec<u8>, AllocError>
+    ensures { IfOk result (λ v. v.items ≡ bytes.now) }
+{
+    let mut copy = Vec::with_capacity(alloc, bytes.len().max(ROOM))?;
+    copy.extend_from_slice(bytes)?;
+    Ok(copy)
+}
+
 /// Lays a data record, if there is one, over an image.
 fn lay(image: &mut Image, last: Option<Open>) -> Result<(), AllocError>
     requires { IfSome last HasOffsets }
@@ -176,7 +189,7 @@ impl Walk {
                 ..
             } => {
                 self.close()?;
-                self.open(Open::new(segment, offset, bytes.to_vec(alloc)?));
+                self.open(Open::new(segment, offset, copied(alloc, bytes)?));
                 Ok(())
             }
             Data::Iterated {
