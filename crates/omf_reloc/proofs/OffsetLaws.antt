@@ -65,3 +65,12 @@ first_found selector (x ∷ os) o h = subst (λ y. IsFirst selector (x ∷ os) (
 pub none_found : (selector : ℕ) (os : List ℕ) → slice_get os 0 ≡ None → IsFirst selector os (Err cause.Target)
 none_found selector [] h = refl
 none_found selector (x ∷ os) h = absurd (none-some x (sym h))
+
+-- The place of its own segment matters only to a self-relative fixup.
+pub own_place_alone : (a b : Option Placed) (offset : ℕ) (f : ℕ × PlainFixup) (frame : Frame) (address : ℕ) → (is_segment_relative f.1.locat ≡ false → a ≡ b)
+    → additions_in a offset f frame address ≡ additions_in b offset f frame address
+own_place_alone a b offset f frame address same = by (is_segment_relative f.1.locat) refl
+  where
+    by : (r : Bool) → is_segment_relative f.1.locat ≡ r → additions_in a offset f frame address ≡ additions_in b offset f frame address
+    by true h = sym (cond_true (is_segment_relative f.1.locat) _ _ h) ∙ cond_true (is_segment_relative f.1.locat) _ _ h
+    by false h = ap (λ here. additions_in here offset f frame address) (same h)

@@ -1,10 +1,11 @@
 //! The offset of a reference in its frame, and whether it reaches (TIS OMF 1.1, "FIXUPP"; readings, ranges and causes are this
 //! profile's rule).
 
-ghost use Rattle.std.specs.Prelude.{◌≡◌, ◌+◌, filter, is_some, option_and_then, slice_get};
+ghost use Rattle.std.specs.Prelude.{◌≡◌, ◌+◌, false, filter, is_some, option_and_then, slice_get};
 ghost use Rattle.omf_frame.specs.Bytes.{difference};
 ghost use Rattle.omf_records.specs.Inner.Names.{location_number, offset_bits, self_relative_bits};
-ghost use Rattle.omf_records.specs.Values.{location_offset};
+ghost use Rattle.omf_records.specs.Values.{is_segment_relative, location_offset};
+ghost use Rattle.omf_check.specs.Tables.{entry};
 ghost use Rattle.omf_reloc.specs.Offsets.{offsets, is_near, in_frame, from_location, named, additions_in, outcome_at, start_outcome, in_bits};
 ghost use Rattle.omf_reloc.specs.Inner.Widths.{fixupp_type, modend_type, number_bits};
 
@@ -239,12 +240,25 @@ fn additions_in(
     offsets_of(target.address, displacement, frame.base, width, reach).from_location(kind, location)
 }
 
+/// The place of the segment of a fixup's location. Only a self-relative fixup needs it; `None` for others.
+#[inline(always)]
+fn own_place(placement: &Placement, segment: u16, fixup: &PlainFixup) -> Option<Placed>
+    ensures { is_segment_relative fixup.now.locat ≡ false → result ≡ entry placement.now.segments segment }
+{
+    if fixup.location.is_segment_relative() {
+        None
+    } else {
+        placement.segment(usize::from(segment))
+    }
+}
+
 /// The additions of a fixup in a data record at an offset of this segment. The width is that of its FIXUPP.
 ///
 /// # Errors
 ///
 /// The cause why the fixup does not reach at this placement.
 #[inline(always)]
+#[tactic(auto, using(crate::proofs::OffsetLaws::own_place_alone))]
 pub fn outcome(
     placement: &Placement,
     segment: u16,
@@ -254,9 +268,11 @@ pub fn outcome(
 ) -> Result<Additions, Cause>
     ensures { result ≡ outcome_at placement.now segment offset (fixupp_type width, fixup.now) }
 {
-    let here = placement.segment(usize::from(segment));
     match named(placement, segment, &fixup.reference) {
-        Some(found) => additions_in(here, offset, width, fixup, found),
+        Some(found) => {
+            let here = own_place(placement, segment, fixup);
+            additions_in(here, offset, width, fixup, found)
+        }
         None => Err(Cause::Target),
     }
 }
