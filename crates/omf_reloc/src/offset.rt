@@ -12,6 +12,7 @@ ghost use Rattle.omf_reloc.specs.Inner.Widths.{fixupp_type, modend_type, number_
 use crate::addition::Additions;
 use crate::fault::Cause;
 use crate::plain::{PlainFixup, PlainReference};
+use omf_check::FrameMethod;
 use omf_frame::Width;
 use omf_placement::{Frame, Placed, Placement};
 use omf_records::{Locat, LocationType};
@@ -39,8 +40,12 @@ impl Model for Offsets {
 fn named(placement: &Placement, segment: u16, reference: &PlainReference) -> Option<(Frame, Placed)>
     ensures { result ≡ named placement.now segment reference.now }
 {
-    let frame = placement.frame_by(segment, &reference.target, &reference.frame)?;
     let place = placement.place_of(&reference.target)?;
+    let frame = match &reference.frame {
+        // The most frequent method: the target is looked up once.
+        FrameMethod::Target => place.frame,
+        method => placement.frame_by(segment, &reference.target, method)?,
+    };
     Some((frame, place))
 }
 
