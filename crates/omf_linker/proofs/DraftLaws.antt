@@ -1,11 +1,11 @@
 -- A draft is the text of a link, which gives the modules their places.
 use Rattle.std.proofs.Common.{◌≡◌, ℕ, suc, ◌+◌, ◌<◌, ◌^◌, List, [], ◌∷◌, ◌++◌, length, refl, sym, ap, ap₂, ◌∙◌, append-nil, arith}
-use Rattle.std.specs.Prelude.{flat_map, filter_map, map, zip, All, Some, None, Ok}
+use Rattle.std.specs.Prelude.{flat_map, filter_map, map, zip, All, Option, Some, None, Ok}
 use Rattle.std.specs.List.{AllZip, enumerate_from}
 use Rattle.std.proofs.lemmas.List.Elements.{All-head, All-tail}
 use Rattle.omf_records.specs.Inner.Seen.{map_ok}
 use Rattle.omf_records.specs.Values.{Rec}
-use Rattle.omf_check.specs.Tables.{externals}
+use Rattle.omf_check.specs.Tables.{externals, segments}
 use Rattle.omf_placement.specs.declared.frame.Frame.{Frame}
 use Rattle.omf_placement.specs.declared.frame.Placed.{Placed}
 use Rattle.omf_placement.specs.Placement.{Places}
@@ -57,6 +57,16 @@ none-given j [] pls = refl
 none-given j (m ∷ ms) [] = refl
 none-given j (m ∷ ms) (pl ∷ pls) = ap₂ (λ a b. a ++ b) (none-of j 1 (externals m)) (none-given (j + 1) ms pls)
 
+-- no segment is stored elsewhere
+none-own : {A : Type 0} (xs : List A) → filter_map (λ (o : Option ℕ). o) (map (λ x. None) xs) ≡ []
+none-own [] = refl
+none-own (x ∷ xs) = none-own xs
+
+none-stored : (ms : List (List Rec)) (pls : List Places) → flat_map (λ s. filter_map (λ o. o) s.stored) (map told_places (zip ms pls)) ≡ []
+none-stored [] pls = refl
+none-stored (m ∷ ms) [] = refl
+none-stored (m ∷ ms) (pl ∷ pls) = ap₂ (λ a b. a ++ b) (none-own (segments m)) (none-stored ms pls)
+
 -- ---- the lines of all modules
 
 record AreTold (frames : Frames) (all : List (List Rec)) (whole : List Places) (a : ℕ) (ns : List (List Rec)) (pls : List Places) : Type 0 where
@@ -93,5 +103,6 @@ link-text-read frames ms pls low has few short =
       reads = ap (λ ls. unless_bad (filter_map bad_line ls) (map_ok (sparse_all ms) (items_after ms [] ls))) lines
           ∙ ap (λ ns. unless_bad ns (map_ok (sparse_all ms) (items_after ms [] (told_from 1 whole)))) (none-bad 1 whole) ∙ drafted-told (sharing_of ms pls) ms pls t.comments (drafts-share-frames ms pls has) has t.as_many;
       places = all-given 0 ms pls has;
+      none_stored = none-stored ms pls;
       none_given = none-given 0 ms pls;
     }

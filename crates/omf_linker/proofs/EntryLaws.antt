@@ -33,7 +33,7 @@ use Rattle.omf_layout.proofs.TextLaws.{IsLineOf, SpellsLines, no-lines, one-line
 use Rattle.omf_linking.specs.Locator.Drafted.{HasEntries, Sharing, blanks, group_lines_of, group_told, labels, module_lines, segment_lines_of, segment_told, sharing_of}
 use Rattle.omf_linking.specs.Locator.KeyForms.{class_of, is_repeated, key_form, key_of, key_text, key_words, module_key, module_key_by, module_texts, spelled}
 use Rattle.omf_linking.specs.Locator.Keys.{entry_name, module_name}
-use Rattle.omf_linking.specs.Locator.LinkEntries.{Blank, Gives, GroupFrame, Key, LinkEntry, Opens, SegmentPlace, SharedPlace, Told as Given, frame_in, group_in, link_entry_on, own_or, place_in, segment_in, shared_place, shared_word}
+use Rattle.omf_linking.specs.Locator.LinkEntries.{Blank, Gives, GroupFrame, Key, LinkEntry, Opens, SegmentPlace, SharedPlace, Told as Given, frame_in, group_in, link_entry_on, own_or, place_in, segment_in, shared_place, shared_word, stored_place, told_or}
 use Rattle.omf_linking.specs.declared.locator.forms.KeyForm.{KeyForm}
 use Rattle.omf_linking.specs.declared.locator.forms.KeyForm.TheVariants as form
 use Rattle.omf_linking.proofs.KeyNames.{keys-written}
@@ -153,11 +153,12 @@ place-given : (frames : Frames) (shared : Bool) (p : Placed) → IsShortPlace p 
 place-given frames true p k = record {
   words = number p.address ∷ codes "shared" ∷ [];
   are = and-more (number p.address) _ _ (number-part 8 p.address (eight-digits p.address k.address)) (last-of (codes "shared") shared-part);
-  gives = ap (λ a. option_map SharedPlace (hexadecimal 8 a)) (plain-eight p.address k.address) ∙ ap (option_map SharedPlace) (hexadecimal-to 8 (number p.address) p.address (eight-digits p.address k.address));
+  gives = ap (λ o. told_or o (stored_place (number p.address ∷ codes "shared" ∷ [])))
+      (ap (λ a. option_map SharedPlace (hexadecimal 8 a)) (plain-eight p.address k.address) ∙ ap (option_map SharedPlace) (hexadecimal-to 8 (number p.address) p.address (eight-digits p.address k.address)));
 }
 place-given frames false p k =
     let is = place-is frames p k in
-    record { words = is.words; are = is.are; gives = ap (λ o. own_or (option_map SegmentPlace o) (shared_place is.words)) is.gives }
+    record { words = is.words; are = is.are; gives = ap (λ o. told_or (own_or (option_map SegmentPlace o) (shared_place is.words)) (stored_place is.words)) is.gives }
 
 abbrev in_frame : ℕ → ℕ → Frame
 in_frame b s = record { base = b; selector = s }

@@ -1,6 +1,8 @@
 -- The file of modules, from its steps.
 use Rattle.std.proofs.Common.{◌≡◌, ℕ, List, inl, inr, ap, sym, subst, ◌∙◌}
 use Rattle.std.specs.Prelude.{Option, Result, Ok, Err}
+use Rattle.omf_linking.specs.Together.{segments_of}
+use Rattle.omf_placement.specs.Placement.{Places}
 use Rattle.omf_records.specs.Values.{Rec}
 use Rattle.omf_linking.specs.declared.fault.LinkFault.{LinkFault}
 use Rattle.omf_linking.specs.declared.space.stretch.Owner.{Owner}
@@ -9,7 +11,7 @@ use Rattle.omf_linker.specs.Link.Faults.{IsNamed, is_of_modules}
 use Rattle.omf_linker.specs.Link.Named.{HasLines, outside_line}
 use Rattle.omf_linker.specs.Link.Linked.{AreLinkedUp, IsFirstFault}
 use Rattle.omf_linker.proofs.LinkedModules.{together}
-use Rattle.omf_linker.specs.Link.Rom.{IsLinkedFile, IsOwned, IsRom, linked_owner}
+use Rattle.omf_linker.specs.Link.Rom.{IsLinkedFile, IsOwned, IsRom, first_owner, linked_owner}
 use Rattle.omf_output.specs.Rom.Memory.{IsFirstOutside}
 use Rattle.omf_image.specs.Overlay.{byte_at}
 use Rattle.omf_linker.specs.declared.link.fault.ImageFault.{ImageFault}
@@ -19,7 +21,7 @@ use Rattle.omf_linker.specs.declared.link.linking.LinkedModules.{LinkedModules}
 -- linked modules
 pub rom_is : (f : Form) (labels : List (List ℕ)) (ms : List (List Rec)) (text : List ℕ) (l : LinkedModules) (r : Result (List ℕ) ImageFault) → AreLinkedUp ms text l → IsLinkedFile f labels ms l r → IsRom f labels ms text r
 rom_is f labels ms text l (Ok file) h i = (together ms text l h, i)
-rom_is f labels ms text l (Err (fault.Outside a o lines)) h i = (record { together = together ms text l h; first = i.0; owned = i.1 }, i.2)
+rom_is f labels ms text l (Err (fault.Outside a o lines)) h i = (record { together = together ms text l h; first = i.0; owned = i.1 ∙ ap (λ (at : List Places). first_owner (segments_of ms l.placements.items at) a) h.stored }, i.2)
 rom_is f labels ms text l (Err (fault.Link g)) h i = inr i
 rom_is f labels ms text l (Err (fault.Lines g lines)) h i = absurd i
 rom_is f labels ms text l (Err fault.NoRoom) h i = absurd i

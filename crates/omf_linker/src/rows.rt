@@ -77,7 +77,7 @@ pub fn near_names()
 
 /// The lines of a fault of a line of a text. What is wrong with it follows from the line, and from the `M` line before it.
 pub fn text_fault_lines()
-    ensures number { text_lines [] (codes "M \"A\"\nS \"T\" 1G 0 0\n") 2 why.NotUnderstood ≡ codes "line 2: expected S KEY ADDRESS (BASE SELECTOR|real|shared)\n  S \"T\" 1G 0 0\n" }
+    ensures number { text_lines [] (codes "M \"A\"\nS \"T\" 1G 0 0\n") 2 why.NotUnderstood ≡ codes "line 2: expected S KEY ADDRESS (BASE SELECTOR|real|shared) [at STORED]\n  S \"T\" 1G 0 0\n" }
     ensures letter { text_lines [] (codes "Q\r\n") 1 why.NotUnderstood ≡ codes "line 1: expected M, S, G, X or ;\n  Q\n" }
     ensures foreign { text_lines [] (codes "M \"" ++ 0x84 ∷ codes "\"") 1 why.NotUnderstood ≡ codes "line 1: a byte that is not ASCII\n  M \"\\x84\"\n" }
     ensures before { text_lines [] (codes "S \"T\" 0 0 0") 1 why.NoModule ≡ codes "line 1: no M line before it for segment \"T\"\n  S \"T\" 0 0 0\n" }

@@ -12,15 +12,15 @@ use Rattle.std.proofs.lemmas.Slice.Eq.{bytes_eq-Decides}
 use Rattle.omf_frame.specs.Bytes.{last}
 use Rattle.omf_records.specs.Values.{Rec}
 use Rattle.omf_records.specs.Inner.Seen.{map_ok}
-use Rattle.omf_check.specs.Tables.{externals}
+use Rattle.omf_check.specs.Tables.{externals, segments}
 use Rattle.omf_placement.specs.declared.frame.Frame.{Frame}
 use Rattle.omf_placement.specs.declared.frame.Placed.{Placed}
 use Rattle.omf_placement.specs.Placement.{Places}
 use Rattle.omf_reloc.specs.declared.fault.Kind.TheVariants as kinds
 use Rattle.omf_placement.proofs.ListLaws.{told-append}
-use Rattle.omf_linking.specs.Locator.Items.{Item, Nothing, Opened, Given, opened, current, segment_given, group_given, external_given, given_to, segment_place, group_frame, external_place, Title, first_titled, given_at, group_title, in_quotes, is_titled, item_in, item_of, items_after, module_at, or_unshared, segment_framed, segment_title, settled, shared_frame, unless_again}
+use Rattle.omf_linking.specs.Locator.Items.{Item, Nothing, Opened, Given, opened, current, segment_given, group_given, external_given, stored_given, given_to, segment_place, stored_address, group_frame, external_place, Title, first_titled, given_at, group_title, in_quotes, is_titled, item_in, item_of, items_after, module_at, or_unshared, segment_framed, segment_title, shared_frame, unless_again}
 use Rattle.omf_linking.specs.Locator.Keys.{count_from, entry_named}
-use Rattle.omf_linking.specs.Locator.LinkEntries.{Key, Target, SegmentPlace, GroupFrame, Told, Own, SharedPlace, SharedFrame, LinkEntry, Blank, Opens, Gives, Line}
+use Rattle.omf_linking.specs.Locator.LinkEntries.{Key, SegmentPlace, GroupFrame, Told, Own, SharedPlace, SharedFrame, LinkEntry, Blank, Opens, Gives, Line}
 use Rattle.omf_linking.specs.Locator.Sparse.{Sparse, sparse_of, sparse_all}
 use Rattle.omf_linking.specs.declared.locator.fault.LineFault.{LineFault}
 use Rattle.omf_linking.specs.declared.locator.fault.LineFault.TheVariants as why
@@ -92,6 +92,7 @@ pub record IsClosed (before : List Item) (j : ℕ) : Type 0 where
   pub groups : (a i : ℕ) → j ≤ a → group_frame before a i ≡ None
   pub modules : (a : ℕ) → j ≤ a → list_any (λ k. k == a) (filter_map opened before) ≡ false
   pub externals : filter_map external_given before ≡ []
+  pub stored : filter_map stored_given before ≡ []
 
 record IsOpen (before : List Item) (j s g : ℕ) : Type 0 where
   pub current : current before ≡ Some j
@@ -99,9 +100,10 @@ record IsOpen (before : List Item) (j s g : ℕ) : Type 0 where
   pub groups : (a i : ℕ) → IsLater j g a i → group_frame before a i ≡ None
   pub modules : (a : ℕ) → j < a → list_any (λ k. k == a) (filter_map opened before) ≡ false
   pub externals : filter_map external_given before ≡ []
+  pub stored : filter_map stored_given before ≡ []
 
 pub none-closed : IsClosed [] 0
-none-closed = record { segments = λ a i h. refl; groups = λ a i h. refl; modules = λ a h. refl; externals = refl }
+none-closed = record { segments = λ a i h. refl; groups = λ a i h. refl; modules = λ a h. refl; externals = refl; stored = refl }
 
 later-than : (j s a i : ℕ) → IsLater j s a i → j ≤ a
 later-than j s a i later = elim later [ inl low ↦ omega (arith, low) | inr k ↦ omega (arith, k.0) ]
@@ -117,6 +119,7 @@ opens before j h =
       modules = λ a low. ap (list_any (λ k. k == a)) listed ∙ list_any-append (λ k. k == a) (filter_map opened before) (j ∷ [])
           ∙ ap₂ (λ b c. b || (c || false)) (h.modules a (omega (arith, low))) (ne_eqb j a (λ e. absurd (omega (arith, e, low))));
       externals = picked-same external_given before x refl ∙ h.externals;
+      stored = picked-same stored_given before x refl ∙ h.stored;
     }
 
 gives-segment : (before : List Item) (j s g : ℕ) (p : Placed) → IsOpen before j s g → IsOpen (before ++ Given j s (SegmentPlace p) ∷ []) j (s + 1) g
@@ -127,6 +130,7 @@ gives-segment before j s g p h =
       groups = λ a i later. ap (λ gs. given_to gs a i) (picked-same group_given before x refl) ∙ h.groups a i later;
       modules = λ a low. ap (list_any (λ k. k == a)) (picked-same opened before x refl) ∙ h.modules a low;
       externals = picked-same external_given before x refl ∙ h.externals;
+      stored = picked-same stored_given before x refl ∙ h.stored;
     }
 
 gives-group : (before : List Item) (j s g : ℕ) (f : Option Frame) → IsOpen before j s g → IsOpen (before ++ Given j g (GroupFrame f) ∷ []) j s (g + 1)
@@ -137,6 +141,7 @@ gives-group before j s g f h =
       groups = λ a i later. ap (λ gs. given_to gs a i) (picked-more group_given before x (Some ((j, g), f)) refl) ∙ given-other (filter_map group_given before) j g f a i (other-later j g a i later) ∙ h.groups a i (wider j g a i later);
       modules = λ a low. ap (list_any (λ k. k == a)) (picked-same opened before x refl) ∙ h.modules a low;
       externals = picked-same external_given before x refl ∙ h.externals;
+      stored = picked-same stored_given before x refl ∙ h.stored;
     }
 
 does-nothing : (before : List Item) (j s g : ℕ) → IsOpen before j s g → IsOpen (before ++ Nothing ∷ []) j s g
@@ -146,6 +151,7 @@ does-nothing before j s g h = record {
   groups = λ a i later. ap (λ gs. given_to gs a i) (picked-same group_given before Nothing refl) ∙ h.groups a i later;
   modules = λ a low. ap (list_any (λ k. k == a)) (picked-same opened before Nothing refl) ∙ h.modules a low;
   externals = picked-same external_given before Nothing refl ∙ h.externals;
+  stored = picked-same stored_given before Nothing refl ∙ h.stored;
 }
 
 closes : (before : List Item) (j s g : ℕ) → IsOpen before j s g → IsClosed before (j + 1)
@@ -154,6 +160,7 @@ closes before j s g h = record {
   groups = λ a i low. h.groups a i (inl (omega (arith, low)));
   modules = λ a low. h.modules a (omega (arith, low));
   externals = h.externals;
+  stored = h.stored;
 }
 
 -- What is given stays so.
@@ -195,15 +202,16 @@ none-found : {V W : Type 0} (f : ℕ → Option W) (s : ℕ) (xs : List V) → (
 none-found f s [] h = refl
 none-found f s (x ∷ xs) h = ap₂ (λ a b. a ∷ b) (h s) (none-found f (s + 1) xs h)
 
-abbrev sparse_with : List (Option Placed) → List (Option (Option Frame)) → List (Option Placed) → Sparse
-sparse_with s g e = record { segments = s; groups = g; externals = e }
+abbrev sparse_with : List (Option ℕ) → List (Option Placed) → List (Option Placed) → List (Option (Option Frame)) → Sparse
+sparse_with st e s g = record { segments = s; stored = st; groups = g; externals = e }
 
-pub told-by : (items : List Item) (j : ℕ) (m : List Rec) (pl : Places) → HasEntries m pl → IsGiven items j pl → filter_map external_given items ≡ [] → sparse_of items (j, m) ≡ told_places (m, pl)
-told-by items j m pl has h none =
-    ap₂ (λ s g. sparse_with s g (map (external_place items j) (count_from 1 (length (externals m)))))
+pub told-by : (items : List Item) (j : ℕ) (m : List Rec) (pl : Places) → HasEntries m pl → IsGiven items j pl → filter_map external_given items ≡ [] → filter_map stored_given items ≡ [] → sparse_of items (j, m) ≡ told_places (m, pl)
+told-by items j m pl has h none own =
+    ap₂ (sparse_with (map (stored_address items j) (count_from 1 (length (segments m)))) (map (external_place items j) (count_from 1 (length (externals m)))))
     (ap (λ n. map (segment_place items j) (count_from 1 n)) (sym has.segments) ∙ each-found (segment_place items j) (λ p. p) 1 pl.segments h.segments)
     (ap (λ n. map (group_frame items j) (count_from 1 n)) (sym has.groups) ∙ each-found (group_frame items j) Some 1 pl.groups h.groups)
-    ∙ ap (sparse_with (map Some pl.segments) (map (λ f. Some (Some f)) pl.groups)) (none-found (external_place items j) 1 (externals m) (λ i. ap (λ gs. given_to gs j i) none))
+    ∙ ap₂ (λ st e. sparse_with st e (map Some pl.segments) (map (λ f. Some (Some f)) pl.groups)) (none-found (stored_address items j) 1 (segments m) (λ i. ap (λ gs. given_to gs j i) own))
+    (none-found (external_place items j) 1 (externals m) (λ i. ap (λ gs. given_to gs j i) none))
 
 -- The items of the lines of segments, of groups and of a module.
 abbrev segment_items_of : ℕ → ℕ → List Placed → List Item
@@ -459,12 +467,13 @@ module _ (ms : List (List Rec)) (all : List Places) where
   pub record RunAll (before : List Item) (a : ℕ) (ns : List (List Rec)) (pls : List Places) (qs : List Labels) : Type 0 where
     pub items : List Item
     pub run : Runs before (all_lines pls qs) items
-    pub told : (more : List Item) → filter_map external_given more ≡ [] → map (sparse_of ((before ++ items) ++ more)) (enumerate_from a ns) ≡ map told_places (zip ns pls)
+    pub told : (more : List Item) → filter_map external_given more ≡ [] → filter_map stored_given more ≡ [] → map (sparse_of ((before ++ items) ++ more)) (enumerate_from a ns) ≡ map told_places (zip ns pls)
     pub externals : filter_map external_given (before ++ items) ≡ []
+    pub stored : filter_map stored_given (before ++ items) ≡ []
 
   pub run-all : (before : List Item) (a : ℕ) (ns : List (List Rec)) (pls : List Places) (qs : List Labels) → IsClosed before a → AreLeft all before (all_segments a pls) (all_groups a pls) → ((k : ℕ) → slice_get ns k ≡ slice_get ms (a + k))
       → AllNamed ms all a ns pls qs → RunAll before a ns pls qs
-  run-all before a [] [] [] h left here named = record { items = []; run = runs-none before; told = λ more e. refl; externals = ap (filter_map external_given) (append-nil before) ∙ h.externals }
+  run-all before a [] [] [] h left here named = record { items = []; run = runs-none before; told = λ more e f. refl; externals = ap (filter_map external_given) (append-nil before) ∙ h.externals; stored = ap (filter_map stored_given) (append-nil before) ∙ h.stored }
   run-all before a (m ∷ ns) (pl ∷ pls) (q ∷ qs) h left here named =
       let same : a ≡ a + 0 = omega arith in
       let one = run-module a m (ap (slice_get ms) same ∙ sym (here 0)) before q pl (all_segments (a + 1) pls) (all_groups (a + 1) pls) h left named.0 named.1.0 in
@@ -474,13 +483,15 @@ module _ (ms : List (List Rec)) (all : List Places) where
       record {
         items = xs ++ rest.items;
         run = runs-both before (module_lines q pl) (all_lines pls qs) xs rest.items one.run rest.run;
-        told = λ more e.
+        told = λ more e f.
             let whole = ((before ++ xs) ++ rest.items) ++ more in
             let none : filter_map external_given whole ≡ [] = filter_map-append external_given ((before ++ xs) ++ rest.items) more ∙ ap₂ (λ u v. u ++ v) rest.externals e in
+            let own : filter_map stored_given whole ≡ [] = filter_map-append stored_given ((before ++ xs) ++ rest.items) more ∙ ap₂ (λ u v. u ++ v) rest.stored f in
             let given : IsGiven whole a pl = given-more ((before ++ xs) ++ rest.items) more a pl (given-more (before ++ xs) rest.items a pl one.given) in
             subst (λ b. map (sparse_of (b ++ more)) (enumerate_from a (m ∷ ns)) ≡ map told_places (zip (m ∷ ns) (pl ∷ pls))) joined
-            (ap₂ (λ u v. u ∷ v) (told-by whole a m pl named.1.0 given none) (rest.told more e));
+            (ap₂ (λ u v. u ∷ v) (told-by whole a m pl named.1.0 given none own) (rest.told more e f));
         externals = ap (filter_map external_given) (sym joined) ∙ rest.externals;
+        stored = ap (filter_map stored_given) (sym joined) ∙ rest.stored;
       }
   run-all before a [] [] (q ∷ qs) h left here named = absurd named
   run-all before a [] (pl ∷ pls) qs h left here named = absurd named
@@ -494,7 +505,7 @@ all-told ms pls qs named =
     let es = all_lines pls qs in
     ap (λ ls. map_ok (sparse_all ms) (items_after ms [] ls)) (told-append 1 es (Blank ∷ []))
     ∙ ap (map_ok (sparse_all ms)) (all.run 1 ((1 + length es, Some Blank) ∷ []))
-    ∙ ap Ok (all.told (Nothing ∷ []) refl)
+    ∙ ap Ok (all.told (Nothing ∷ []) refl refl)
 
 -- ---- the keys of drafts
 

@@ -16,7 +16,7 @@ use Rattle.std.specs.Fmt.{digit_glyph}
 use Rattle.omf_placement.specs.Quoted.{escaped, hex, is_plain}
 use Rattle.omf_placement.proofs.HexadecimalLaws.{hex_two}
 use Rattle.omf_linking.specs.Locator.Keys.{header_name, module_name}
-use Rattle.omf_linking.specs.Locator.LinkEntries.{Key, Named, class_after, classed_entry, entry_of_parts, frame_in, has_comment, name_entry, named_entry, opens, place_in, shared_place, shared_word}
+use Rattle.omf_linking.specs.Locator.LinkEntries.{Key, Named, class_after, classed_entry, entry_of_parts, frame_in, has_comment, name_entry, named_entry, opens, place_in, shared_place, shared_word, stored_place}
 use Rattle.omf_placement.specs.Entries.{said}
 
 -- the name of the first record
@@ -76,6 +76,15 @@ module _ (ws a_rest b_rest : List (List ℕ)) (a b : List ℕ) (one : ws ≡ a �
 
   pub too_many_place : (s : List ℕ) (s_rest : List (List ℕ)) → b_rest ≡ s ∷ s_rest → (n : ℕ) → length s_rest ≡ n + 1 → None ≡ place_in ws
   too_many_place s s_rest three n e = sym (ap place_in (one ∙ ap (λ (t : List (List ℕ)). a ∷ t) (two ∙ ap (λ (t : List (List ℕ)). b ∷ t) three)) ∙ no_place_more a b s s_rest n e)
+
+no_stored_more : (a b c d e : List ℕ) (more : List (List ℕ)) (n : ℕ) → length more ≡ n + 1 → stored_place (a ∷ b ∷ c ∷ d ∷ e ∷ more) ≡ None
+no_stored_more a b c d e [] n h = absurd (omega arith)
+no_stored_more a b c d e (w ∷ ws) n h = refl
+
+pub too_many_stored : (ws p q r s t : List (List ℕ)) (a b c d e : List ℕ) → ws ≡ a ∷ p → p ≡ b ∷ q → q ≡ c ∷ r → r ≡ d ∷ s → s ≡ e ∷ t → (n : ℕ) → length t ≡ n + 1 → None ≡ stored_place ws
+too_many_stored ws p q r s t a b c d e one two three four five n h =
+    sym (ap stored_place (one ∙ ap (λ (u : List (List ℕ)). a ∷ u) (two ∙ ap (λ (u : List (List ℕ)). b ∷ u) (three ∙ ap (λ (u : List (List ℕ)). c ∷ u) (four ∙ ap (λ (u : List (List ℕ)). d ∷ u) five))))
+    ∙ no_stored_more a b c d e t n h)
 
 -- ---- parts of a line between its quotes
 

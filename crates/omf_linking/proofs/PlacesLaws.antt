@@ -210,6 +210,10 @@ pub more-mapped : {A B : Type 0} (f : A → List B) (x : A) (rest left : List A)
 more-mapped f x rest left old new all e g h =
     ap (λ t. t ++ flat_map f rest) g ∙ append_assoc old (f x) (flat_map f rest) ∙ ap (λ t. old ++ t) (sym (ap (flat_map f) e)) ∙ h
 
+pub more-made : {A B : Type 0} (f : A → B) (x : A) (rest left : List A) (old new all : List B) → left ≡ x ∷ rest → new ≡ old ++ f x ∷ [] → old ++ map f left ≡ all → new ++ map f rest ≡ all
+more-made f x rest left old new all e g h =
+    ap (λ t. t ++ map f rest) g ∙ append_assoc old (f x ∷ []) (map f rest) ∙ ap (λ t. old ++ t) (sym (ap (map f) e)) ∙ h
+
 -- ---- the text of modules
 
 pub some_linked : (ms : List Module) (text : List ℕ) → 0 < length ms → linked (typed_modules ms) text ≡ by_sparse (typed_modules ms) (sparse (typed_modules ms) text)

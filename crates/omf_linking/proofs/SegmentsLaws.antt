@@ -3,7 +3,7 @@ use Rattle.std.proofs.Common.{◌≡◌, inl, inr, ℕ, zero, suc, ◌+◌, ◌-
 use Rattle.std.proofs.Math.Path.{fun_ext}
 use Rattle.std.proofs.Math.Seq.{drop-nil}
 use Rattle.std.proofs.lemmas.List.{length-append}
-use Rattle.std.specs.Prelude.{flat_map, Option, Some, None, option_map, slice_get, Result, Err, cond, nat_le, true, false}
+use Rattle.std.specs.Prelude.{flat_map, zip, Option, Some, None, option_map, slice_get, Result, Err, cond, nat_le, true, false}
 use Rattle.std.proofs.lemmas.List.{length-map}
 use Rattle.std.proofs.lemmas.List.FromFn.{length-enumerate_from}
 use Rattle.std.proofs.lemmas.Option.{slice_get_cases, slice_get_within, slice_get-map}
@@ -23,7 +23,7 @@ use Rattle.omf_placement.specs.Placement.{Places}
 use Rattle.omf_linking.specs.Faults.{of_memory}
 use Rattle.omf_linking.specs.LinkedMemory.{IsLinkedMemory}
 use Rattle.omf_linking.specs.Relocated.{IsRelocated}
-use Rattle.omf_linking.specs.Segments.{commons, is_common, Bytes, ModuleBytes, module_segment, module_segments, all_segments, image_bytes, with_images, with_own_image, with_own_images}
+use Rattle.omf_linking.specs.Segments.{commons, is_common, Bytes, ModuleBytes, module_segment, module_segments, all_segments, image_bytes, with_images, stored_image, stored_images}
 use Rattle.omf_linking.specs.declared.fault.LinkFault.{LinkFault}
 use Rattle.omf_linking.specs.declared.relocated.Relocated.{Relocated}
 
@@ -93,12 +93,17 @@ module _ (ms : List ModuleBytes) (j : ℕ) where
 
 -- ---- modules with the images that their placements give them
 
-pub own_images : (ms : List PlacedModule) (rs : List Relocated) → AllZip IsRelocated ms rs → with_images ms rs ≡ with_own_images ms
-own_images [] rs h = refl
-own_images (m ∷ ms) [] h = absurd h
-own_images (m ∷ ms) (r ∷ rs) h =
-    let same : image_bytes r ≡ (with_own_image m).1 = fun_ext (λ segment. fun_ext (λ x. h.0.bytes segment x)) in
-    ap₂ (λ (b : Bytes) (xs : List ModuleBytes). (m, b) ∷ xs) same (own_images ms rs h.1)
+pub own_bytes : (m : PlacedModule) (at : Places) (r : Relocated) → IsRelocated m r → image_bytes r ≡ (stored_image (m, at)).1
+own_bytes m at r h = fun_ext (λ segment. fun_ext (λ x. h.bytes segment x))
+
+pub images_stored : (ms : List (List Rec)) (pls at : List Places) (rs : List Relocated) → AllZip IsRelocated (zip ms pls) rs → with_images (zip ms at) rs ≡ stored_images (zip ms pls) at
+images_stored [] pls at rs h = refl
+images_stored (m ∷ ms) [] [] [] h = refl
+images_stored (m ∷ ms) [] (a ∷ at) [] h = refl
+images_stored (m ∷ ms) [] at (r ∷ rs) h = absurd h
+images_stored (m ∷ ms) (p ∷ pls) at [] h = absurd h
+images_stored (m ∷ ms) (p ∷ pls) [] (r ∷ rs) h = refl
+images_stored (m ∷ ms) (p ∷ pls) (a ∷ at) (r ∷ rs) h = ap₂ (λ (b : Bytes) (xs : List ModuleBytes). ((m, a), b) ∷ xs) (own_bytes (m, p) a r h.0) (images_stored ms pls at rs h.1)
 
 -- ---- the memory of segments as that of modules
 
@@ -107,9 +112,9 @@ linked_fault ss all memory.Memory e h = subst LieWell e h
 linked_fault ss all (memory.Overlap a s t) e h = subst (λ (xs : List SegmentAt). DoOverlap xs a s t) e h
 linked_fault ss all (memory.Beyond o) e h = subst (λ (xs : List SegmentAt). IsFirstBeyond xs o) e h
 
-pub own_memory : (ms : List PlacedModule) (rs : List Relocated) (r : Result (List Laid) LinkFault) → IsLinkedMemory (all_segments (with_images ms rs)) r → AllZip IsRelocated ms rs
-    → IsLinkedMemory (all_segments (with_own_images ms)) r
-own_memory ms rs r h z = subst (λ (xs : List ModuleBytes). IsLinkedMemory (all_segments xs) r) (own_images ms rs z) h
+pub stored_memory : (ms : List (List Rec)) (pls at : List Places) (rs : List Relocated) (r : Result (List Laid) LinkFault) → IsLinkedMemory (all_segments (with_images (zip ms at) rs)) r → AllZip IsRelocated (zip ms pls) rs
+    → IsLinkedMemory (all_segments (stored_images (zip ms pls) at)) r
+stored_memory ms pls at rs r h z = subst (λ (xs : List ModuleBytes). IsLinkedMemory (all_segments xs) r) (images_stored ms pls at rs z) h
 
 -- ---- one segment of a list, by its number
 

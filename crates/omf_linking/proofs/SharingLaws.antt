@@ -23,8 +23,8 @@ use Rattle.omf_placement.specs.Placement.{Places}
 use Rattle.omf_placement.proofs.ListLaws.{entry-at, next-at}
 use Rattle.omf_linking.specs.Inner.Sharing.{shared_after, shares_seen}
 use Rattle.omf_linking.specs.Inner.Titling.{IsFrameTable}
-use Rattle.omf_linking.specs.Locator.Drafted.{AreShared, HasEntries, Shared, Sharing, all_groups, all_parts, all_segments, all_shared, groups_framed, is_part, is_same, is_same_part, is_sharing, parts_framed, segments_framed, shared_by, sharing, sharing_of}
-use Rattle.omf_linking.specs.Locator.Items.{Title, first_titled, group_title, in_quotes, is_titled, segment_title, shared_frame}
+use Rattle.omf_linking.specs.Locator.Drafted.{HasEntries, Shared, Sharing, all_groups, all_parts, all_segments, all_shared, groups_framed, is_part, is_same, is_same_part, is_sharing, parts_framed, segments_framed, shared_by, sharing, sharing_of}
+use Rattle.omf_linking.specs.Locator.Items.{Title, first_titled, in_quotes, is_titled, segment_title, shared_frame}
 use Rattle.omf_linking.specs.Locator.Laws.{DraftsShareFrames}
 use Rattle.omf_linking.specs.declared.locator.shares.Shares.{Shares}
 use Rattle.omf_linking.proofs.KeyLaws.{more-in}

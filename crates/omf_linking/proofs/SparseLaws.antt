@@ -13,8 +13,8 @@ use Rattle.omf_check.specs.Tables.{segments, groups, externals}
 use Rattle.omf_placement.specs.declared.frame.Frame.{Frame}
 use Rattle.omf_placement.specs.declared.frame.Placed.{Placed}
 use Rattle.omf_linking.specs.Inner.Walking.{IsGiven, IsPut}
-use Rattle.omf_linking.specs.Locator.Items.{Item, Given, external_given, given_to, group_given, is_again, segment_given}
-use Rattle.omf_linking.specs.Locator.LinkEntries.{Target, SegmentPlace, GroupFrame, ExternalPlace}
+use Rattle.omf_linking.specs.Locator.Items.{Item, Nothing, Opened, Given, external_given, given_to, group_given, is_again, segment_given, stored_given}
+use Rattle.omf_linking.specs.Locator.LinkEntries.{Target, SegmentPlace, StoredPlace, GroupFrame, ExternalPlace}
 use Rattle.omf_linking.specs.Locator.Sparse.{Sparse, sparse_all, sparse_of}
 use Rattle.omf_linking.specs.Locator.Keys.{count_from}
 
@@ -137,9 +137,15 @@ module _ (items : List Item) (x : Item) where
   more_externals : filter_map external_given (items ++ x ∷ []) ≡ filter_map external_given items ++ filter_map external_given (x ∷ [])
   more_externals = filter_map-append external_given items (x ∷ [])
 
+  more_stored : filter_map stored_given (items ++ x ∷ []) ≡ filter_map stored_given items ++ filter_map stored_given (x ∷ [])
+  more_stored = filter_map-append stored_given items (x ∷ [])
+
 -- an item that gives nothing
 abbrev NoSegment : Item → Type 0
 NoSegment x = filter_map segment_given (x ∷ []) ≡ []
+
+abbrev NoStored : Item → Type 0
+NoStored x = filter_map stored_given (x ∷ []) ≡ []
 
 abbrev NoGroup : Item → Type 0
 NoGroup x = filter_map group_given (x ∷ []) ≡ []
@@ -150,6 +156,9 @@ NoExternal x = filter_map external_given (x ∷ []) ≡ []
 same_segments : (items : List Item) (x : Item) → NoSegment x → filter_map segment_given (items ++ x ∷ []) ≡ filter_map segment_given items
 same_segments items x e = more_segments items x ∙ ap (λ (ys : List ((ℕ × ℕ) × Placed)). filter_map segment_given items ++ ys) e ∙ append-nil (filter_map segment_given items)
 
+same_stored : (items : List Item) (x : Item) → NoStored x → filter_map stored_given (items ++ x ∷ []) ≡ filter_map stored_given items
+same_stored items x e = more_stored items x ∙ ap (λ (ys : List ((ℕ × ℕ) × ℕ)). filter_map stored_given items ++ ys) e ∙ append-nil (filter_map stored_given items)
+
 same_groups : (items : List Item) (x : Item) → NoGroup x → filter_map group_given (items ++ x ∷ []) ≡ filter_map group_given items
 same_groups items x e = more_groups items x ∙ ap (λ (ys : List ((ℕ × ℕ) × Option Frame)). filter_map group_given items ++ ys) e ∙ append-nil (filter_map group_given items)
 
@@ -157,21 +166,22 @@ same_externals : (items : List Item) (x : Item) → NoExternal x → filter_map 
 same_externals items x e = more_externals items x ∙ ap (λ (ys : List ((ℕ × ℕ) × Placed)). filter_map external_given items ++ ys) e ∙ append-nil (filter_map external_given items)
 
 -- a module's tables by the entries given
-abbrev tables : List ((ℕ × ℕ) × Placed) → List ((ℕ × ℕ) × Option Frame) → List ((ℕ × ℕ) × Placed) → ℕ × List Rec → Sparse
-tables ss gs es m = record {
+abbrev tables : List ((ℕ × ℕ) × Placed) → List ((ℕ × ℕ) × ℕ) → List ((ℕ × ℕ) × Option Frame) → List ((ℕ × ℕ) × Placed) → ℕ × List Rec → Sparse
+tables ss st gs es m = record {
   segments = map (given_to ss m.0) (count_from 1 (length (segments m.1)));
+  stored = map (given_to st m.0) (count_from 1 (length (segments m.1)));
   groups = map (given_to gs m.0) (count_from 1 (length (groups m.1)));
   externals = map (given_to es m.0) (count_from 1 (length (externals m.1)));
 }
 
-tables_same : (ss ts : List ((ℕ × ℕ) × Placed)) (gs hs : List ((ℕ × ℕ) × Option Frame)) (es fs : List ((ℕ × ℕ) × Placed)) (m : ℕ × List Rec) → ss ≡ ts → gs ≡ hs → es ≡ fs → tables ss gs es m ≡ tables ts hs fs m
-tables_same ss ts gs hs es fs m a b c = rw (a, b, c) refl
+tables_same : (ss ts : List ((ℕ × ℕ) × Placed)) (st su : List ((ℕ × ℕ) × ℕ)) (gs hs : List ((ℕ × ℕ) × Option Frame)) (es fs : List ((ℕ × ℕ) × Placed)) (m : ℕ × List Rec) → ss ≡ ts → st ≡ su → gs ≡ hs → es ≡ fs → tables ss st gs es m ≡ tables ts su hs fs m
+tables_same ss ts st su gs hs es fs m a d b c = rw (a, d, b, c) refl
 
-pub nothing_more : (items : List Item) (x : Item) (m : ℕ × List Rec) → NoSegment x → NoGroup x → NoExternal x → sparse_of (items ++ x ∷ []) m ≡ sparse_of items m
-nothing_more items x m a b c = tables_same _ _ _ _ _ _ m (same_segments items x a) (same_groups items x b) (same_externals items x c)
+pub nothing_more : (items : List Item) (x : Item) (m : ℕ × List Rec) → NoSegment x → NoStored x → NoGroup x → NoExternal x → sparse_of (items ++ x ∷ []) m ≡ sparse_of items m
+nothing_more items x m a d b c = tables_same _ _ _ _ _ _ _ _ m (same_segments items x a) (same_stored items x d) (same_groups items x b) (same_externals items x c)
 
-pub all_nothing_more : (items : List Item) (x : Item) (ms : List (List Rec)) → NoSegment x → NoGroup x → NoExternal x → sparse_all ms (items ++ x ∷ []) ≡ sparse_all ms items
-all_nothing_more items x ms a b c = all_same (sparse_of items) (sparse_of (items ++ x ∷ [])) 0 ms (λ k m l. nothing_more items x (k, m) a b c)
+pub all_nothing_more : (items : List Item) (x : Item) (ms : List (List Rec)) → NoSegment x → NoStored x → NoGroup x → NoExternal x → sparse_all ms (items ++ x ∷ []) ≡ sparse_all ms items
+all_nothing_more items x ms a d b c = all_same (sparse_of items) (sparse_of (items ++ x ∷ [])) 0 ms (λ k m l. nothing_more items x (k, m) a d b c)
 
 -- ---- one more entry of a table
 
@@ -185,26 +195,37 @@ module _ {V : Type 0} (gs : List ((ℕ × ℕ) × V)) (j i : ℕ) (v : V) (n : �
   table_other k e = map_same (given_to gs k) (given_to (gs ++ ((j, i), v) ∷ []) k) 1 n (λ l low. given_elsewhere gs j i v k l (ap (λ (b : Bool). b && (i == l)) e))
 
 -- an item that gives something to another module
-sparse_same : (a b : List (Option Placed)) (c d : List (Option (Option Frame))) (e f : List (Option Placed)) → a ≡ b → c ≡ d → e ≡ f → ◌≡◌ {A = Sparse} (record { segments = a; groups = c; externals = e }) (record { segments = b; groups = d; externals = f })
-sparse_same a b c d e f p q r = rw (p, q, r) refl
+sparse_same : (a b : List (Option Placed)) (g h : List (Option ℕ)) (c d : List (Option (Option Frame))) (e f : List (Option Placed)) → a ≡ b → g ≡ h → c ≡ d → e ≡ f
+    → ◌≡◌ {A = Sparse} (record { segments = a; stored = g; groups = c; externals = e }) (record { segments = b; stored = h; groups = d; externals = f })
+sparse_same a b g h c d e f p s q r = rw (p, s, q, r) refl
 
 pub other_module : (items : List Item) (j i : ℕ) (t : Target) (k : ℕ) (m : List Rec) → (j == k) ≡ false → sparse_of (items ++ Given j i t ∷ []) (k, m) ≡ sparse_of items (k, m)
 other_module items j i (SegmentPlace p) k m e =
     let x = Given j i (SegmentPlace p) in
-    sparse_same _ _ _ _ _ _
+    sparse_same _ _ _ _ _ _ _ _
     (ap (λ (gs : List ((ℕ × ℕ) × Placed)). map (given_to gs k) (count_from 1 (length (segments m)))) (more_segments items x) ∙ table_other (filter_map segment_given items) j i p (length (segments m)) k e)
+    (ap (λ (gs : List ((ℕ × ℕ) × ℕ)). map (given_to gs k) (count_from 1 (length (segments m)))) (same_stored items x refl))
+    (ap (λ (gs : List ((ℕ × ℕ) × Option Frame)). map (given_to gs k) (count_from 1 (length (groups m)))) (same_groups items x refl))
+    (ap (λ (gs : List ((ℕ × ℕ) × Placed)). map (given_to gs k) (count_from 1 (length (externals m)))) (same_externals items x refl))
+other_module items j i (StoredPlace p s) k m e =
+    let x = Given j i (StoredPlace p s) in
+    sparse_same _ _ _ _ _ _ _ _
+    (ap (λ (gs : List ((ℕ × ℕ) × Placed)). map (given_to gs k) (count_from 1 (length (segments m)))) (more_segments items x) ∙ table_other (filter_map segment_given items) j i p (length (segments m)) k e)
+    (ap (λ (gs : List ((ℕ × ℕ) × ℕ)). map (given_to gs k) (count_from 1 (length (segments m)))) (more_stored items x) ∙ table_other (filter_map stored_given items) j i s (length (segments m)) k e)
     (ap (λ (gs : List ((ℕ × ℕ) × Option Frame)). map (given_to gs k) (count_from 1 (length (groups m)))) (same_groups items x refl))
     (ap (λ (gs : List ((ℕ × ℕ) × Placed)). map (given_to gs k) (count_from 1 (length (externals m)))) (same_externals items x refl))
 other_module items j i (GroupFrame f) k m e =
     let x = Given j i (GroupFrame f) in
-    sparse_same _ _ _ _ _ _
+    sparse_same _ _ _ _ _ _ _ _
     (ap (λ (gs : List ((ℕ × ℕ) × Placed)). map (given_to gs k) (count_from 1 (length (segments m)))) (same_segments items x refl))
+    (ap (λ (gs : List ((ℕ × ℕ) × ℕ)). map (given_to gs k) (count_from 1 (length (segments m)))) (same_stored items x refl))
     (ap (λ (gs : List ((ℕ × ℕ) × Option Frame)). map (given_to gs k) (count_from 1 (length (groups m)))) (more_groups items x) ∙ table_other (filter_map group_given items) j i f (length (groups m)) k e)
     (ap (λ (gs : List ((ℕ × ℕ) × Placed)). map (given_to gs k) (count_from 1 (length (externals m)))) (same_externals items x refl))
 other_module items j i (ExternalPlace p) k m e =
     let x = Given j i (ExternalPlace p) in
-    sparse_same _ _ _ _ _ _
+    sparse_same _ _ _ _ _ _ _ _
     (ap (λ (gs : List ((ℕ × ℕ) × Placed)). map (given_to gs k) (count_from 1 (length (segments m)))) (same_segments items x refl))
+    (ap (λ (gs : List ((ℕ × ℕ) × ℕ)). map (given_to gs k) (count_from 1 (length (segments m)))) (same_stored items x refl))
     (ap (λ (gs : List ((ℕ × ℕ) × Option Frame)). map (given_to gs k) (count_from 1 (length (groups m)))) (same_groups items x refl))
     (ap (λ (gs : List ((ℕ × ℕ) × Placed)). map (given_to gs k) (count_from 1 (length (externals m)))) (more_externals items x) ∙ table_other (filter_map external_given items) j i p (length (externals m)) k e)
 
@@ -236,42 +257,88 @@ module _ {V : Type 0} (gs : List ((ℕ × ℕ) × V)) (j i : ℕ) (v : V) (n : �
   some_there : ((x : Option V) → 1 ≤ i → slice_get old (i - 1) ≡ Some x → is_some x ≡ true) → 1 ≤ i → i ≤ n → is_some (given_to gs j i) ≡ true
   some_there h low high = h (given_to gs j i) low (ap (λ (t : List (Option V)). slice_get t (i - 1)) is ∙ slice_get_count (given_to gs j) 1 n i low (omega arith))
 
+-- a segment without a place is stored nowhere
+no_more : {V W : Type 0} (b : Bool) (x : V) (y : W) (o : Option V) (p : Option W) → (o ≡ None → p ≡ None) → cond b (Some x) o ≡ None → cond b (Some y) p ≡ None
+no_more true x y o p h e = absurd cc
+no_more false x y o p h e = h e
+
+unmapped : {A B : Type 0} (f : A → B) (o : Option A) → option_map f o ≡ None → o ≡ None
+unmapped f None e = refl
+unmapped f (Some a) e = absurd cc
+
+none_found : (items : List Item) (j i : ℕ) → find (λ (g : (ℕ × ℕ) × Placed). (g.0.0 == j) && (g.0.1 == i)) (filter_map segment_given items) ≡ None → find (λ (g : (ℕ × ℕ) × ℕ). (g.0.0 == j) && (g.0.1 == i)) (filter_map stored_given items) ≡ None
+none_found [] j i e = refl
+none_found (Nothing ∷ items) j i e = none_found items j i e
+none_found (Opened k ∷ items) j i e = none_found items j i e
+none_found (Given a b (SegmentPlace p) ∷ items) j i e = none_found items j i (left ((a == j) && (b == i)) ((a, b), p) _ e)
+  where
+    left : {V : Type 0} (t : Bool) (x : V) (o : Option V) → cond t (Some x) o ≡ None → o ≡ None
+    left true x o e = absurd cc
+    left false x o e = e
+none_found (Given a b (StoredPlace p s) ∷ items) j i e = no_more ((a == j) && (b == i)) ((a, b), p) ((a, b), s) _ _ (none_found items j i) e
+none_found (Given a b (GroupFrame f) ∷ items) j i e = none_found items j i e
+none_found (Given a b (ExternalPlace p) ∷ items) j i e = none_found items j i e
+
+none_stored : (items : List Item) (j i : ℕ) → given_to (filter_map segment_given items) j i ≡ None → given_to (filter_map stored_given items) j i ≡ None
+none_stored items j i e = ap (option_map (λ (g : (ℕ × ℕ) × ℕ). g.1)) (none_found items j i (unmapped (λ (g : (ℕ × ℕ) × Placed). g.1) _ e))
+
 -- an entry of a module is given something
 module _ (items : List Item) (j i : ℕ) (m : List Rec) (old new : Sparse) (is : old ≡ sparse_of items (j, m)) where
-  pub segment_put : (p : Placed) → IsPut i p old.segments new.segments true → new.groups ≡ old.groups → new.externals ≡ old.externals
+  pub segment_put : (p : Placed) → IsPut i p old.segments new.segments true → new.stored ≡ old.stored → new.groups ≡ old.groups → new.externals ≡ old.externals
       → (is_again items (Given j i (SegmentPlace p)) ≡ false) × (new ≡ sparse_of (items ++ Given j i (SegmentPlace p) ∷ []) (j, m))
-  segment_put p put g e =
+  segment_put p put st g e =
       let x = Given j i (SegmentPlace p) in
       let own = ap (λ (s : Sparse). s.segments) is in (
         ap is_some (none_there (filter_map segment_given items) j i p (length (segments m)) old.segments new.segments own put.1 put.0),
-        sparse_same _ _ _ _ _ _
+        sparse_same _ _ _ _ _ _ _ _
             (put_here (filter_map segment_given items) j i p (length (segments m)) old.segments new.segments own put.1 put.0 put.2
             ∙ ap (λ (gs : List ((ℕ × ℕ) × Placed)). map (given_to gs j) (count_from 1 (length (segments m)))) (sym (more_segments items x)))
+            (st ∙ ap (λ (s : Sparse). s.stored) is ∙ ap (λ (gs : List ((ℕ × ℕ) × ℕ)). map (given_to gs j) (count_from 1 (length (segments m)))) (sym (same_stored items x refl)))
             (g ∙ ap (λ (s : Sparse). s.groups) is ∙ ap (λ (gs : List ((ℕ × ℕ) × Option Frame)). map (given_to gs j) (count_from 1 (length (groups m)))) (sym (same_groups items x refl)))
             (e ∙ ap (λ (s : Sparse). s.externals) is ∙ ap (λ (gs : List ((ℕ × ℕ) × Placed)). map (given_to gs j) (count_from 1 (length (externals m)))) (sym (same_externals items x refl))),
       )
 
-  pub group_put : (f : Option Frame) → IsPut i f old.groups new.groups true → new.segments ≡ old.segments → new.externals ≡ old.externals
+  pub stored_put : (p : Placed) (s : ℕ) → IsPut i p old.segments new.segments true → new.stored ≡ set old.stored (i - 1) (Some s) → new.groups ≡ old.groups → new.externals ≡ old.externals
+      → (is_again items (Given j i (StoredPlace p s)) ≡ false) × (new ≡ sparse_of (items ++ Given j i (StoredPlace p s) ∷ []) (j, m))
+  stored_put p s put st g e =
+      let x = Given j i (StoredPlace p s) in
+      let own = ap (λ (s : Sparse). s.segments) is in
+      let none = none_there (filter_map segment_given items) j i p (length (segments m)) old.segments new.segments own put.1 put.0 in
+      let high = reach_of (filter_map segment_given items) j i p (length (segments m)) old.segments new.segments own put.1 put.0 in (
+        ap is_some none,
+        sparse_same _ _ _ _ _ _ _ _
+            (put_here (filter_map segment_given items) j i p (length (segments m)) old.segments new.segments own put.1 put.0 put.2
+            ∙ ap (λ (gs : List ((ℕ × ℕ) × Placed)). map (given_to gs j) (count_from 1 (length (segments m)))) (sym (more_segments items x)))
+            (st ∙ ap (λ (t : Sparse). set t.stored (i - 1) (Some s)) is
+            ∙ sym (table_here (filter_map stored_given items) j i s (length (segments m)) (none_stored items j i none) put.0 high)
+            ∙ ap (λ (gs : List ((ℕ × ℕ) × ℕ)). map (given_to gs j) (count_from 1 (length (segments m)))) (sym (more_stored items x)))
+            (g ∙ ap (λ (s : Sparse). s.groups) is ∙ ap (λ (gs : List ((ℕ × ℕ) × Option Frame)). map (given_to gs j) (count_from 1 (length (groups m)))) (sym (same_groups items x refl)))
+            (e ∙ ap (λ (s : Sparse). s.externals) is ∙ ap (λ (gs : List ((ℕ × ℕ) × Placed)). map (given_to gs j) (count_from 1 (length (externals m)))) (sym (same_externals items x refl))),
+      )
+
+  pub group_put : (f : Option Frame) → IsPut i f old.groups new.groups true → new.segments ≡ old.segments → new.stored ≡ old.stored → new.externals ≡ old.externals
       → (is_again items (Given j i (GroupFrame f)) ≡ false) × (new ≡ sparse_of (items ++ Given j i (GroupFrame f) ∷ []) (j, m))
-  group_put f put g e =
+  group_put f put g st e =
       let x = Given j i (GroupFrame f) in
       let own = ap (λ (s : Sparse). s.groups) is in (
         ap is_some (none_there (filter_map group_given items) j i f (length (groups m)) old.groups new.groups own put.1 put.0),
-        sparse_same _ _ _ _ _ _
+        sparse_same _ _ _ _ _ _ _ _
             (g ∙ ap (λ (s : Sparse). s.segments) is ∙ ap (λ (gs : List ((ℕ × ℕ) × Placed)). map (given_to gs j) (count_from 1 (length (segments m)))) (sym (same_segments items x refl)))
+            (st ∙ ap (λ (s : Sparse). s.stored) is ∙ ap (λ (gs : List ((ℕ × ℕ) × ℕ)). map (given_to gs j) (count_from 1 (length (segments m)))) (sym (same_stored items x refl)))
             (put_here (filter_map group_given items) j i f (length (groups m)) old.groups new.groups own put.1 put.0 put.2
             ∙ ap (λ (gs : List ((ℕ × ℕ) × Option Frame)). map (given_to gs j) (count_from 1 (length (groups m)))) (sym (more_groups items x)))
             (e ∙ ap (λ (s : Sparse). s.externals) is ∙ ap (λ (gs : List ((ℕ × ℕ) × Placed)). map (given_to gs j) (count_from 1 (length (externals m)))) (sym (same_externals items x refl))),
       )
 
-  pub external_put : (p : Placed) → IsPut i p old.externals new.externals true → new.segments ≡ old.segments → new.groups ≡ old.groups
+  pub external_put : (p : Placed) → IsPut i p old.externals new.externals true → new.segments ≡ old.segments → new.stored ≡ old.stored → new.groups ≡ old.groups
       → (is_again items (Given j i (ExternalPlace p)) ≡ false) × (new ≡ sparse_of (items ++ Given j i (ExternalPlace p) ∷ []) (j, m))
-  external_put p put g e =
+  external_put p put g st e =
       let x = Given j i (ExternalPlace p) in
       let own = ap (λ (s : Sparse). s.externals) is in (
         ap is_some (none_there (filter_map external_given items) j i p (length (externals m)) old.externals new.externals own put.1 put.0),
-        sparse_same _ _ _ _ _ _
+        sparse_same _ _ _ _ _ _ _ _
             (g ∙ ap (λ (s : Sparse). s.segments) is ∙ ap (λ (gs : List ((ℕ × ℕ) × Placed)). map (given_to gs j) (count_from 1 (length (segments m)))) (sym (same_segments items x refl)))
+            (st ∙ ap (λ (s : Sparse). s.stored) is ∙ ap (λ (gs : List ((ℕ × ℕ) × ℕ)). map (given_to gs j) (count_from 1 (length (segments m)))) (sym (same_stored items x refl)))
             (e ∙ ap (λ (s : Sparse). s.groups) is ∙ ap (λ (gs : List ((ℕ × ℕ) × Option Frame)). map (given_to gs j) (count_from 1 (length (groups m)))) (sym (same_groups items x refl)))
             (put_here (filter_map external_given items) j i p (length (externals m)) old.externals new.externals own put.1 put.0 put.2
             ∙ ap (λ (gs : List ((ℕ × ℕ) × Placed)). map (given_to gs j) (count_from 1 (length (externals m)))) (sym (more_externals items x))),
@@ -280,6 +347,9 @@ module _ (items : List Item) (j i : ℕ) (m : List Rec) (old new : Sparse) (is :
   pub segment_again : (p : Placed) → IsPut i p old.segments new.segments false → 1 ≤ i → i ≤ length (segments m) → is_again items (Given j i (SegmentPlace p)) ≡ true
   segment_again p put low high = some_there (filter_map segment_given items) j i p (length (segments m)) old.segments new.segments (ap (λ (s : Sparse). s.segments) is) put.1 low high
 
+  pub stored_again : (p : Placed) (s : ℕ) → IsPut i p old.segments new.segments false → 1 ≤ i → i ≤ length (segments m) → is_again items (Given j i (StoredPlace p s)) ≡ true
+  stored_again p s put low high = some_there (filter_map segment_given items) j i p (length (segments m)) old.segments new.segments (ap (λ (s : Sparse). s.segments) is) put.1 low high
+
   pub group_again : (f : Option Frame) → IsPut i f old.groups new.groups false → 1 ≤ i → i ≤ length (groups m) → is_again items (Given j i (GroupFrame f)) ≡ true
   group_again f put low high = some_there (filter_map group_given items) j i f (length (groups m)) old.groups new.groups (ap (λ (s : Sparse). s.groups) is) put.1 low high
 
@@ -287,24 +357,28 @@ module _ (items : List Item) (j i : ℕ) (m : List Rec) (old new : Sparse) (is :
   external_again p put low high = some_there (filter_map external_given items) j i p (length (externals m)) old.externals new.externals (ap (λ (s : Sparse). s.externals) is) put.1 low high
 
 module _ (m : ℕ × List Rec) (i : ℕ) (old new : Sparse) where
-  pub segment_given_by : (b : Bool) (p : Placed) → IsPut i p old.segments new.segments b → new.groups ≡ old.groups → new.externals ≡ old.externals → IsGiven m i (SegmentPlace p) old new b
-  segment_given_by true p put g e = λ items is. segment_put items m.0 i m.1 old new is p put g e
-  segment_given_by false p put g e = λ items is low high. segment_again items m.0 i m.1 old new is p put low high
+  pub segment_given_by : (b : Bool) (p : Placed) → IsPut i p old.segments new.segments b → new.stored ≡ old.stored → new.groups ≡ old.groups → new.externals ≡ old.externals → IsGiven m i (SegmentPlace p) old new b
+  segment_given_by true p put st g e = λ items is. segment_put items m.0 i m.1 old new is p put st g e
+  segment_given_by false p put st g e = λ items is low high. segment_again items m.0 i m.1 old new is p put low high
 
-  pub group_given_by : (b : Bool) (f : Option Frame) → IsPut i f old.groups new.groups b → new.segments ≡ old.segments → new.externals ≡ old.externals → IsGiven m i (GroupFrame f) old new b
-  group_given_by true f put g e = λ items is. group_put items m.0 i m.1 old new is f put g e
-  group_given_by false f put g e = λ items is low high. group_again items m.0 i m.1 old new is f put low high
+  pub stored_given_by : (b : Bool) (p : Placed) (s : ℕ) → IsPut i p old.segments new.segments b → (b ≡ true → new.stored ≡ set old.stored (i - 1) (Some s)) → new.groups ≡ old.groups → new.externals ≡ old.externals → IsGiven m i (StoredPlace p s) old new b
+  stored_given_by true p s put st g e = λ items is. stored_put items m.0 i m.1 old new is p s put (st refl) g e
+  stored_given_by false p s put st g e = λ items is low high. stored_again items m.0 i m.1 old new is p s put low high
 
-  pub external_given_by : (b : Bool) (p : Placed) → IsPut i p old.externals new.externals b → new.segments ≡ old.segments → new.groups ≡ old.groups → IsGiven m i (ExternalPlace p) old new b
-  external_given_by true p put g e = λ items is. external_put items m.0 i m.1 old new is p put g e
-  external_given_by false p put g e = λ items is low high. external_again items m.0 i m.1 old new is p put low high
+  pub group_given_by : (b : Bool) (f : Option Frame) → IsPut i f old.groups new.groups b → new.segments ≡ old.segments → new.stored ≡ old.stored → new.externals ≡ old.externals → IsGiven m i (GroupFrame f) old new b
+  group_given_by true f put g st e = λ items is. group_put items m.0 i m.1 old new is f put g st e
+  group_given_by false f put g st e = λ items is low high. group_again items m.0 i m.1 old new is f put low high
+
+  pub external_given_by : (b : Bool) (p : Placed) → IsPut i p old.externals new.externals b → new.segments ≡ old.segments → new.stored ≡ old.stored → new.groups ≡ old.groups → IsGiven m i (ExternalPlace p) old new b
+  external_given_by true p put g st e = λ items is. external_put items m.0 i m.1 old new is p put g st e
+  external_given_by false p put g st e = λ items is low high. external_again items m.0 i m.1 old new is p put low high
 
 -- a module's tables with nothing given
 none_each : {V : Type 0} (j first n : ℕ) → map (given_to {V = V} [] j) (count_from first n) ≡ replicate n None
 none_each j first zero = refl
 none_each {V} j first (suc n) = ap (λ (xs : List (Option V)). None ∷ xs) (none_each {V = V} j (first + 1) n)
 
-pub nothing_given : (j : ℕ) (m : List Rec) (a : List (Option Placed)) (b : List (Option (Option Frame))) (c : List (Option Placed))
-    → a ≡ replicate (length (segments m)) None → b ≡ replicate (length (groups m)) None → c ≡ replicate (length (externals m)) None → ◌≡◌ {A = Sparse} (record { segments = a; groups = b; externals = c }) (sparse_of [] (j, m))
-nothing_given j m a b c e f g =
-    sparse_same _ _ _ _ _ _ (e ∙ sym (none_each {V = Placed} j 1 (length (segments m)))) (f ∙ sym (none_each {V = Option Frame} j 1 (length (groups m)))) (g ∙ sym (none_each {V = Placed} j 1 (length (externals m))))
+pub nothing_given : (j : ℕ) (m : List Rec) (a : List (Option Placed)) (d : List (Option ℕ)) (b : List (Option (Option Frame))) (c : List (Option Placed))
+    → a ≡ replicate (length (segments m)) None → d ≡ replicate (length (segments m)) None → b ≡ replicate (length (groups m)) None → c ≡ replicate (length (externals m)) None → ◌≡◌ {A = Sparse} (record { segments = a; stored = d; groups = b; externals = c }) (sparse_of [] (j, m))
+nothing_given j m a d b c e h f g =
+    sparse_same _ _ _ _ _ _ _ _ (e ∙ sym (none_each {V = Placed} j 1 (length (segments m)))) (h ∙ sym (none_each {V = ℕ} j 1 (length (segments m)))) (f ∙ sym (none_each {V = Option Frame} j 1 (length (groups m)))) (g ∙ sym (none_each {V = Placed} j 1 (length (externals m))))

@@ -1,5 +1,5 @@
 -- Modules laid in memory one after another.
-use Rattle.std.proofs.Common.{◌≡◌, ℕ, ◌+◌, ◌-◌, List, [], ◌∷◌, ◌++◌, length, drop, get_or, map, refl, sym, ap, ap₂, subst, ◌∙◌, arith, append-nil, append_assoc}
+use Rattle.std.proofs.Common.{◌≡◌, ℕ, ◌+◌, ◌-◌, List, [], ◌∷◌, ◌++◌, length, drop, map, refl, sym, ap, ap₂, subst, ◌∙◌, arith, append-nil, append_assoc}
 use Rattle.std.specs.Prelude.{All, IfSome, IsNone, flat_map, filter_map, zip, Option, Some, None, option_map, option_to_list, if◌then◌else◌}
 use Rattle.std.specs.List.{AllZip, cons_option, enumerate_from}
 use Rattle.std.proofs.lemmas.List.{map-append}
@@ -13,13 +13,13 @@ use Rattle.omf_placement.specs.Placement.{Places}
 use Rattle.omf_records.specs.Values.{Rec}
 use Rattle.omf_reloc.proofs.WalkedLaws.{laid-on}
 use Rattle.omf_linking.proofs.RelocatedLaws.{one_relocated, all_relocated}
-use Rattle.omf_linking.proofs.SegmentsLaws.{own_images}
+use Rattle.omf_linking.proofs.SegmentsLaws.{own_bytes}
 use Rattle.omf_linking.proofs.SpaceLaws.MemoryLaws.{extents_fit, zeros_lost, is_memory}
 use Rattle.omf_linking.specs.Inner.Laying.{extent_in, extents_in, laid_piece, laid_pieces}
 use Rattle.omf_linking.specs.Inner.Sweeping.{interval, intervals, spot}
 use Rattle.omf_linking.specs.Inner.Turning.{spots, IsBegun, IsTurn, IsTaken, left_segments, own_numbered, left_starts, AreTaken, IsFinished}
 use Rattle.omf_linking.specs.Relocated.{IsRelocated}
-use Rattle.omf_linking.specs.Segments.{ModuleBytes, image_bytes, module_segments, with_own_image, with_own_images}
+use Rattle.omf_linking.specs.Segments.{Bytes, ModuleBytes, image_bytes, module_segments, stored_image, stored_images}
 use Rattle.omf_linking.specs.Space.Memory.{Share, memory_byte, overlap, piece, pieces, share_of, shares, Lies}
 use Rattle.omf_linking.specs.Space.Segments.{SegmentAt, IsWithin, share_in, segment_shares}
 use Rattle.omf_linking.specs.Starts.{is_main, numbered_start, one_start}
@@ -54,8 +54,8 @@ spots_fit old new ss e lies h =
 
 -- ---- one more module
 
-own_image : (m : PlacedModule) (r : Relocated) → IsRelocated m r → (m, image_bytes r) ≡ with_own_image m
-own_image m r h = ap (λ (xs : List ModuleBytes). get_or xs 0 (with_own_image m)) (own_images (m ∷ []) (r ∷ []) (h, tt))
+own_image : (m : PlacedModule) (s : Places) (r : Relocated) → IsRelocated m r → ((m.0, s), image_bytes r) ≡ stored_image (m, s)
+own_image m s r h = ap (λ (b : Bytes). ((m.0, s), b)) (own_bytes m s r h)
 
 started_by : (j : ℕ) (m : PlacedModule) (r : Relocated) → IsRelocated m r → numbered_start (j, (m.0, r)) ≡ own_numbered (j, m)
 started_by j m r h = ap (λ (s : Option (ℕ × ℕ)). option_map (λ (x : ℕ × ℕ). (j, x)) (if is_main m.0 then s else None)) h.starts
@@ -70,29 +70,29 @@ shares_more ss ts a = ap (λ ps. shares ps a) (map-append piece ss ts) ∙ filte
 pub intervals_more : (ss ts : List Stretch) → intervals (pieces (ss ++ ts)) ≡ intervals (pieces ss) ++ intervals (pieces ts)
 intervals_more ss ts = ap intervals (map-append piece ss ts) ∙ map-append interval (pieces ss) (pieces ts)
 
-module _ (ms : List PlacedModule) (is : List Interval) (j : ℕ) (m : PlacedModule) (next : drop j ms ≡ m ∷ drop (j + 1) ms) where
-  segments_split : left_segments ms j ≡ module_segments (j, with_own_image m) ++ left_segments ms (j + 1)
-  segments_split = ap (λ (xs : List PlacedModule). flat_map module_segments (enumerate_from j (with_own_images xs))) next
+module _ (ms : List PlacedModule) (at : List Places) (is : List Interval) (j : ℕ) (m : PlacedModule) (s : Places) (next : drop j ms ≡ m ∷ drop (j + 1) ms) (next_at : drop j at ≡ s ∷ drop (j + 1) at) where
+  segments_split : left_segments ms at j ≡ module_segments (j, stored_image (m, s)) ++ left_segments ms at (j + 1)
+  segments_split = ap₂ (λ (xs : List PlacedModule) (ys : List Places). flat_map module_segments (enumerate_from j (stored_images xs ys))) next next_at
 
   starts_split : left_starts ms j ≡ option_to_list (own_numbered (j, m)) ++ left_starts ms (j + 1)
   starts_split = ap (λ (xs : List PlacedModule). filter_map own_numbered (enumerate_from j xs)) next ∙ cons_list (own_numbered (j, m)) (left_starts ms (j + 1))
 
-  module _ (old new : Turns) (r : Relocated) (reached : IsRelocated m r) (t : IsTurn old j m r new) (h : AreTaken ms is j old) where
-    own : module_segments (j, (m, image_bytes r)) ≡ module_segments (j, with_own_image m)
-    own = ap (λ (x : ModuleBytes). module_segments (j, x)) (own_image m r reached)
+  module _ (old new : Turns) (r : Relocated) (reached : IsRelocated m r) (t : IsTurn old j (m.0, s) r new) (h : AreTaken ms at is j old) where
+    own : module_segments (j, ((m.0, s), image_bytes r)) ≡ module_segments (j, stored_image (m, s))
+    own = ap (λ (x : ModuleBytes). module_segments (j, x)) (own_image m s r reached)
 
-    within_next : All IsWithin (left_segments ms (j + 1)) → All IsWithin (left_segments ms 0)
+    within_next : All IsWithin (left_segments ms at (j + 1)) → All IsWithin (left_segments ms at 0)
     within_next w =
-        let here : All IsWithin (module_segments (j, with_own_image m)) = subst (λ (xs : List SegmentAt). All IsWithin xs) own t.within in
-        h.within (subst (λ (xs : List SegmentAt). All IsWithin xs) (sym segments_split) (all-both IsWithin (module_segments (j, with_own_image m)) (left_segments ms (j + 1)) here w))
+        let here : All IsWithin (module_segments (j, stored_image (m, s))) = subst (λ (xs : List SegmentAt). All IsWithin xs) own t.within in
+        h.within (subst (λ (xs : List SegmentAt). All IsWithin xs) (sym segments_split) (all-both IsWithin (module_segments (j, stored_image (m, s))) (left_segments ms at (j + 1)) here w))
 
-    shared_next : (a : ℕ) → shares (pieces (h.stretches ++ t.stretches)) a ++ segment_shares (left_segments ms (j + 1)) a ≡ segment_shares (left_segments ms 0) a
+    shared_next : (a : ℕ) → shares (pieces (h.stretches ++ t.stretches)) a ++ segment_shares (left_segments ms at (j + 1)) a ≡ segment_shares (left_segments ms at 0) a
     shared_next a =
         let before = shares (pieces h.stretches) a in
-        let rest = segment_shares (left_segments ms (j + 1)) a in
-        let here : shares (pieces t.stretches) a ≡ segment_shares (module_segments (j, with_own_image m)) a = t.shared a ∙ ap (λ (xs : List SegmentAt). segment_shares xs a) own in
-        let split : segment_shares (left_segments ms j) a ≡ segment_shares (module_segments (j, with_own_image m)) a ++ rest
-        = ap (λ (xs : List SegmentAt). segment_shares xs a) segments_split ∙ filter_map-append (share_in a) (module_segments (j, with_own_image m)) (left_segments ms (j + 1)) in
+        let rest = segment_shares (left_segments ms at (j + 1)) a in
+        let here : shares (pieces t.stretches) a ≡ segment_shares (module_segments (j, stored_image (m, s))) a = t.shared a ∙ ap (λ (xs : List SegmentAt). segment_shares xs a) own in
+        let split : segment_shares (left_segments ms at j) a ≡ segment_shares (module_segments (j, stored_image (m, s))) a ++ rest
+        = ap (λ (xs : List SegmentAt). segment_shares xs a) segments_split ∙ filter_map-append (share_in a) (module_segments (j, stored_image (m, s))) (left_segments ms at (j + 1)) in
         ap (λ (xs : List Share). xs ++ rest) (shares_more h.stretches t.stretches a) ∙ append_assoc before (shares (pieces t.stretches) a) rest
         ∙ ap (λ (xs : List Share). before ++ (xs ++ rest)) here ∙ ap (λ (xs : List Share). before ++ xs) (sym split) ∙ h.shared a
 
@@ -108,7 +108,7 @@ module _ (ms : List PlacedModule) (is : List Interval) (j : ℕ) (m : PlacedModu
         ap (λ (xs : List (ℕ × (ℕ × ℕ))). xs ++ left_starts ms (j + 1)) (t.started ∙ ap (λ (o : Option (ℕ × (ℕ × ℕ))). old.starts.items ++ option_to_list o) (started_by j m r reached))
         ∙ append_assoc old.starts.items one (left_starts ms (j + 1)) ∙ ap (λ (xs : List (ℕ × (ℕ × ℕ))). old.starts.items ++ xs) (sym starts_split) ∙ h.started
 
-    pub one_taken : AreTaken ms is (j + 1) new
+    pub one_taken : AreTaken ms at is (j + 1) new
     one_taken = record {
       relocated = h.relocated ++ r ∷ [];
       stretches = h.stretches ++ t.stretches;
@@ -121,11 +121,11 @@ module _ (ms : List PlacedModule) (is : List Interval) (j : ℕ) (m : PlacedModu
       started = started_next;
     }
 
-pub taken_next : (ms : List PlacedModule) (is : List Interval) (j : ℕ) (m : PlacedModule) (old new : Turns) → drop j ms ≡ m ∷ drop (j + 1) ms → IsTaken old j m new → AreTaken ms is j old → AreTaken ms is (j + 1) new
-taken_next ms is j m old new next t h = one_taken ms is j m next old new t.0 t.1 t.2 h
+pub taken_next : (ms : List PlacedModule) (at : List Places) (is : List Interval) (j : ℕ) (m : PlacedModule) (s : Places) (old new : Turns) → drop j ms ≡ m ∷ drop (j + 1) ms → drop j at ≡ s ∷ drop (j + 1) at → IsTaken old j m s new → AreTaken ms at is j old → AreTaken ms at is (j + 1) new
+taken_next ms at is j m s old new next more t h = one_taken ms at is j m s next more old new t.0 t.1 t.2 h
 
-pub none_taken : (ms : List PlacedModule) (is : List Interval) (t : Turns) → IsBegun is t → AreTaken ms is 0 t
-none_taken ms is t h = record {
+pub none_taken : (ms : List PlacedModule) (at : List Places) (is : List Interval) (t : Turns) → IsBegun is t → AreTaken ms at is 0 t
+none_taken ms at is t h = record {
   relocated = [];
   stretches = [];
   each = tt;
@@ -147,13 +147,13 @@ starts_by k (m ∷ ms) (p ∷ pls) [] e h = absurd h
 starts_by k (m ∷ ms) (p ∷ pls) (r ∷ rs) e h =
     ap₂ (λ (o : Option (ℕ × (ℕ × ℕ))) (xs : List (ℕ × (ℕ × ℕ))). cons_option o xs) (started_by k (m, p) r h.0) (starts_by (k + 1) ms pls rs (omega (arith, e)) h.1)
 
-module _ (ms : List (List Rec)) (pls : List Places) (is : List Interval) (j : ℕ) (t : Turns) (all : Together) (placed : length pls ≡ length ms) (none : drop j (zip ms pls) ≡ [])
-    (h : AreTaken (zip ms pls) is j t) (f : IsFinished t is all) where
+module _ (ms : List (List Rec)) (pls at : List Places) (is : List Interval) (j : ℕ) (t : Turns) (all : Together) (placed : length pls ≡ length ms) (none : drop j (zip ms pls) ≡ [])
+    (h : AreTaken (zip ms pls) at is j t) (f : IsFinished t is all) where
   abbrev both : List PlacedModule
   both = zip ms pls
 
-  no_segments : left_segments both j ≡ []
-  no_segments = ap (λ (xs : List PlacedModule). flat_map module_segments (enumerate_from j (with_own_images xs))) none
+  no_segments : left_segments both at j ≡ []
+  no_segments = ap (λ (xs : List PlacedModule). flat_map module_segments (enumerate_from j (stored_images xs (drop j at)))) none
 
   no_starts : left_starts both j ≡ []
   no_starts = ap (λ (xs : List PlacedModule). filter_map own_numbered (enumerate_from j xs)) none
@@ -164,10 +164,10 @@ module _ (ms : List (List Rec)) (pls : List Places) (is : List Interval) (j : �
       let over : AreLaidOver [] (all_zeros (extents_in h.stretches) ++ laid_pieces h.stretches) t.image = subst (λ (es : List Extent). AreLaidOver [] (all_zeros es ++ laid_pieces h.stretches) t.image) same h.laid in
       subst (λ (i : List Laid). AreLaidOver [] (laid_pieces h.stretches) i) (sym f.memory) (zeros_lost h.stretches t.image over)
 
-  all_shared : (a : ℕ) → shares (pieces h.stretches) a ≡ segment_shares (left_segments both 0) a
+  all_shared : (a : ℕ) → shares (pieces h.stretches) a ≡ segment_shares (left_segments both at 0) a
   all_shared a = sym (append-nil (shares (pieces h.stretches) a)) ∙ ap (λ (xs : List SegmentAt). shares (pieces h.stretches) a ++ segment_shares xs a) (sym no_segments) ∙ h.shared a
 
-  pub all_one : AreOne ms pls all
+  pub all_one : AreOne ms pls at all
   all_one =
       let memory = is_memory h.stretches None all.memory refl (f.apart h.stretches h.lie h.counted) pieces_are in
       let each = all_relocated both j h.relocated none h.each in
@@ -183,7 +183,7 @@ module _ (ms : List (List Rec)) (pls : List Places) (is : List Interval) (j : �
         starts = ap one_start (starts_by 0 ms pls h.relocated placed each ∙ sym started) ∙ f.starts;
       }
 
-pub all_finished : (ms : List (List Rec)) (pls : List Places) (is js : List Interval) (j : ℕ) (t : Turns) (r : Option Together) → js ≡ is → length pls ≡ length ms → drop j (zip ms pls) ≡ []
-    → AreTaken (zip ms pls) is j t → IfSome r (IsFinished t js) → IfSome r (AreOne ms pls)
-all_finished ms pls is js j t None e placed none h f = tt
-all_finished ms pls is js j t (Some all) e placed none h f = all_one ms pls is j t all placed none h (subst (λ (xs : List Interval). IsFinished t xs all) e f)
+pub all_finished : (ms : List (List Rec)) (pls at : List Places) (is js : List Interval) (j : ℕ) (t : Turns) (r : Option Together) → js ≡ is → length pls ≡ length ms → drop j (zip ms pls) ≡ []
+    → AreTaken (zip ms pls) at is j t → IfSome r (IsFinished t js) → IfSome r (AreOne ms pls at)
+all_finished ms pls at is js j t None e placed none h f = tt
+all_finished ms pls at is js j t (Some all) e placed none h f = all_one ms pls at is j t all placed none h (subst (λ (xs : List Interval). IsFinished t xs all) e f)

@@ -23,7 +23,7 @@ use Rattle.omf_linking.specs.Inner.Walking.{AreLines, IsCurrent, IsGiven, IsTake
 use Rattle.omf_linking.specs.Inner.Titling.{AreTitles}
 use Rattle.omf_linking.specs.Locator.Items.{Item, Nothing, Opened, Given, current, given_at, group_given, group_title, in_quotes, is_again, item_of, item_in, kind_of, module_at, opened, or_unshared, segment_framed, segment_title, settled, shared_frame, told_kind, unless_again}
 use Rattle.omf_linking.specs.Locator.Keys.{count_from, entry_named, module_named, names_entry, names_module, the_one}
-use Rattle.omf_linking.specs.Locator.LinkEntries.{Key, Target, SegmentPlace, GroupFrame, Told, Own, SharedPlace, SharedFrame, Opens, Gives}
+use Rattle.omf_linking.specs.Locator.LinkEntries.{Key, Target, SegmentPlace, StoredPlace, GroupFrame, Told, Own, SharedPlace, SharedStored, SharedFrame, Opens, Gives}
 use Rattle.omf_linking.specs.Locator.Sparse.{Sparse, sparse_all, sparse_of}
 use Rattle.omf_linking.specs.declared.locator.fault.LineFault.{LineFault}
 use Rattle.omf_linking.specs.declared.locator.fault.LineFault.TheVariants as why
@@ -101,13 +101,13 @@ more_opened ms s new items j k at u own same here g kept =
           u.0 q ∙ ap₂ (λ b a. cond b true a) (unsigned_tied j q) (at.opened_is q) ∙ or_only (j == q) (list_any (λ i. i == q) (filter_map opened items))
           ∙ sym (ap (list_any (λ i. i == q)) begun ∙ list_any-append (λ i. i == q) (filter_map opened items) (j ∷ []));
       current_is = subst (λ (c : Option Current). IsCurrent ms c (current (items ++ Opened j ∷ []))) (sym here) (now, own);
-      given_is = ap (λ (v : Vec Sparse). v.items) g ∙ at.given_is ∙ sym (all_nothing_more items (Opened j) ms refl refl refl);
+      given_is = ap (λ (v : Vec Sparse). v.items) g ∙ at.given_is ∙ sym (all_nothing_more items (Opened j) ms refl refl refl refl);
       titles_are = subst (λ t. AreTitles ms t (items ++ Opened j ∷ [])) (sym kept) (titles-same ms s.titles items (Opened j) at.titles_are refl refl);
     }
 
 -- a line that does nothing
 pub more_nothing : (ms : List (List Rec)) (s : Lines) (items : List Item) → AreLines ms s items → AreLines ms s (items ++ Nothing ∷ [])
-more_nothing ms s items at = same_walk ms s s items (items ++ Nothing ∷ []) at (filter_map-append opened items (Nothing ∷ []) ∙ append-nil (filter_map opened items)) (refl, refl, refl) (at.given_is ∙ sym (all_nothing_more items Nothing ms refl refl refl)) (titles-same ms s.titles items Nothing at.titles_are refl refl)
+more_nothing ms s items at = same_walk ms s s items (items ++ Nothing ∷ []) at (filter_map-append opened items (Nothing ∷ []) ∙ append-nil (filter_map opened items)) (refl, refl, refl) (at.given_is ∙ sym (all_nothing_more items Nothing ms refl refl refl refl)) (titles-same ms s.titles items Nothing at.titles_are refl refl)
 
 -- ---- an entry is given something
 
@@ -116,6 +116,10 @@ place_kind : (a : ℕ) (o : Option Frame) (x : Target) → or_unshared (option_m
 place_kind a None x e = absurd cc
 place_kind a (Some f) x e = let same : SegmentPlace (record { address = a; frame = f }) ≡ x = cc in ap kind_of (sym same)
 
+stored_kind : (a s : ℕ) (o : Option Frame) (x : Target) → or_unshared (option_map (λ f. StoredPlace (record { address = a; frame = f }) s) o) ≡ Ok x → kind_of x ≡ kinds.Segment
+stored_kind a s None x e = absurd cc
+stored_kind a s (Some f) x e = let same : StoredPlace (record { address = a; frame = f }) s ≡ x = cc in ap kind_of (sym same)
+
 frame_kind : (o : Option Frame) (x : Target) → or_unshared (option_map (λ f. GroupFrame (Some f)) o) ≡ Ok x → kind_of x ≡ kinds.Group
 frame_kind None x e = absurd cc
 frame_kind (Some f) x e = let same : GroupFrame (Some f) ≡ x = cc in ap kind_of (sym same)
@@ -123,6 +127,7 @@ frame_kind (Some f) x e = let same : GroupFrame (Some f) ≡ x = cc in ap kind_o
 pub settled_kind : (ms : List (List Rec)) (items : List Item) (m : List Rec) (t : Told) (i : ℕ) (x : Target) → settled ms items m t i ≡ Ok x → kind_of x ≡ told_kind t
 settled_kind ms items m (Own y) i x e = let same : y ≡ x = cc in ap kind_of (sym same)
 settled_kind ms items m (SharedPlace a) i x e = place_kind a (shared_frame segment_title ms (in_quotes (segment_title m i)) (filter_map segment_framed items)) x e
+settled_kind ms items m (SharedStored a s) i x e = stored_kind a s (shared_frame segment_title ms (in_quotes (segment_title m i)) (filter_map segment_framed items)) x e
 settled_kind ms items m SharedFrame i x e = frame_kind (shared_frame group_title ms (in_quotes (group_title m i)) (filter_map group_given items)) x e
 
 module _ (ms : List (List Rec)) (items : List Item) (k : Key) (t : Told) (j : ℕ) (now : current items ≡ Some j) where

@@ -1,6 +1,7 @@
 -- The placements of modules by a link's text, each external placed by the text or by its name (this profile's rule).
-use Rattle.std.specs.Prelude.{◌≡◌, ⊤, ℕ, ◌+◌, List, [], ◌∷◌, map, flat_map, filter_map, zip, Option, Some, None, Result, Ok, Err}
+use Rattle.std.specs.Prelude.{◌≡◌, ⊤, ℕ, ◌+◌, List, [], ◌∷◌, map, flat_map, filter_map, zip, Option, Some, None, option_map, Result, Ok, Err}
 use Rattle.std.specs.List.{enumerate_from}
+use Rattle.omf_check.specs.Tables.{entry}
 use Rattle.omf_records.specs.Values.{Rec}
 use Rattle.omf_records.specs.Inner.Seen.{map_ok}
 -- computed: derived_is_taken of omf_placement.
@@ -89,6 +90,28 @@ by_sparse ms (Err f) = Err (of_locator f)
 abbrev pub linked : List (List Rec) → List ℕ → Result (List Places) LinkFault
 linked [] text = Err fault.NoModules
 linked (m ∷ ms) text = by_sparse (m ∷ ms) (sparse (m ∷ ms) text)
+
+-- Where the segments of a module are stored: each at the address that a text gives for that, or else where it runs.
+abbrev pub stored_place : Placed → Option ℕ → Placed
+stored_place p None = p
+stored_place p (Some a) = record { address = a; frame = p.frame }
+
+abbrev pub stored_segment : List Placed → ℕ × Option ℕ → Option Placed
+stored_segment ps (i, s) = option_map (λ p. stored_place p s) (entry ps i)
+
+abbrev pub stored_places : Sparse × Places → Places
+stored_places x = placed_by (filter_map (stored_segment x.1.segments) (enumerate_from 1 x.0.stored)) []
+
+abbrev pub all_stored : List Sparse → List Places → List Places
+all_stored ss pls = map stored_places (zip ss pls)
+
+-- The same of modules that run at these placements of a text.
+abbrev pub stored_in : Result (List Sparse) LocatorFault → List Places → List Places
+stored_in (Ok ss) pls = all_stored ss pls
+stored_in (Err f) pls = pls
+
+abbrev pub stored_by : List (List Rec) → List ℕ → List Places → List Places
+stored_by ms text pls = stored_in (sparse ms text) pls
 
 -- A result is exactly the defined value or fault. Memory may run out at any time.
 abbrev pub IsOutcome : {A : Type 0} → Result A LinkFault → Result A LinkFault → Type 0

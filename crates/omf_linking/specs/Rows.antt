@@ -14,10 +14,10 @@ use Rattle.omf_linking.specs.declared.relocated.Relocated.{Relocated}
 
 -- What is given to groups alone, and to externals alone.
 abbrev pub given_groups : List (Option (Option Frame)) → Sparse
-given_groups fs = record { segments = []; groups = fs; externals = [] }
+given_groups fs = record { segments = []; stored = []; groups = fs; externals = [] }
 
 abbrev pub given_externals : List (Option Placed) → Sparse
-given_externals ps = record { segments = []; groups = []; externals = ps }
+given_externals ps = record { segments = []; stored = []; groups = []; externals = ps }
 
 -- The places of the three segments of module m, and a text that gives it these. The first and the last have one name.
 abbrev pub place_at : ℕ → Placed

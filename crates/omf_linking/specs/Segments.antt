@@ -48,15 +48,15 @@ module_segments m = map (module_segment m.0 m.1.0.1 m.1.1) (enumerate_from 1 (co
 abbrev pub all_segments : List ModuleBytes → List SegmentAt
 all_segments ms = flat_map module_segments (enumerate_from 0 ms)
 
--- Modules with the bytes of these images; and with those of their images at their placements.
+-- Modules with the bytes of these images; and at the placements where their bytes are stored, with those of their images where they run.
 abbrev pub image_bytes : Relocated → Bytes
 image_bytes r = byte_at r.image
 
 abbrev pub with_images : List PlacedModule → List Relocated → List ModuleBytes
 with_images ms rs = zip ms (map image_bytes rs)
 
-abbrev pub with_own_image : PlacedModule → ModuleBytes
-with_own_image m = (m, image profile_limits m.1 m.0)
+abbrev pub stored_image : PlacedModule × Places → ModuleBytes
+stored_image x = ((x.0.0, x.1), image profile_limits x.0.1 x.0.0)
 
-abbrev pub with_own_images : List PlacedModule → List ModuleBytes
-with_own_images ms = map with_own_image ms
+abbrev pub stored_images : List PlacedModule → List Places → List ModuleBytes
+stored_images ms stored = map stored_image (zip ms stored)

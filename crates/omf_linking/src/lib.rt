@@ -24,7 +24,7 @@ pub use fault::{FileFault, LinkFault};
 pub use files::{InputFile, file_modules, modules_of_files};
 pub use folding::{folded, folded_all, folded_text};
 pub use memory::memory_image;
-pub use placing::link;
+pub use placing::{LinkedPlaces, link};
 pub use plain::plain_text;
 pub use reading::{modules_in, read_all};
 pub use relocated::{Relocated, relocate_all, start_of};

@@ -5,6 +5,7 @@
 //! S "_TEXT" 7C00 0 0           ; a segment: address, base of the frame, selector
 //! S "_DATA" "DATA" 7C40 real   ; the segment of this name and class; its real-mode frame
 //! S "_CODE" 7C35 shared        ; the frame of the first line for a segment of this name and class
+//! S "_VARS" 500 real at FF000  ; it runs at 500H, and its bytes are stored at FF000H
 //! G "DGROUP" 7C40 7C4          ; a group: base and selector; `real` for the frame of its lowest member; `shared`
 //! X "_printf" FFFF0 F0000 F000 ; an external
 //! M #2                         ; the second module of the input

@@ -1,12 +1,14 @@
 //! The memory of several modules.
 
-ghost use Rattle.std.specs.Prelude.{◌≡◌, ◌<◌, ◌^◌, length};
+ghost use Rattle.std.specs.Prelude.{◌≡◌, ◌<◌, ◌^◌, List, length, zip};
 ghost use Rattle.std.specs.List.{AllZip};
+ghost use Rattle.omf_check.specs.Module.{typed_modules};
 ghost use Rattle.omf_placement.specs.Derive.{placed_modules};
+ghost use Rattle.omf_placement.specs.Placement.{Places};
 ghost use Rattle.omf_linking.specs.Inner.Runs.{IsTried};
 ghost use Rattle.omf_linking.specs.LinkedMemory.{IsLinkedMemory};
 ghost use Rattle.omf_linking.specs.Relocated.{IsRelocated};
-ghost use Rattle.omf_linking.specs.Segments.{all_segments, with_images, with_own_images};
+ghost use Rattle.omf_linking.specs.Segments.{all_segments, stored_images, with_images};
 
 use crate::fault::LinkFault;
 use crate::relocated::Relocated;
@@ -34,8 +36,9 @@ fn try_image(
     try_memory(alloc, &segments)
 }
 
-/// Returns the memory of modules at their placements: an image with the addresses of memory as the offsets of segment 0. A byte of a
-/// segment is at the segment's address plus its offset. Common segments may overlap; the byte of the last one counts.
+/// Returns the memory of modules at these placements: an image with the addresses of memory as the offsets of segment 0. A byte of a
+/// segment is at the segment's address plus its offset. Common segments may overlap; the byte of the last one counts. The modules may be
+/// relocated for other placements: then they are stored at these, and run at those.
 ///
 /// # Errors
 ///
@@ -53,7 +56,7 @@ pub fn memory_image(
     requires placed { length placements.now ≡ length modules.now }
     requires relocated { length relocated.now ≡ length modules.now }
     ensures images { IsLinkedMemory (all_segments (with_images (placed_modules modules.now placements.now) relocated.now)) result }
-    ensures placements { AllZip IsRelocated (placed_modules modules.now placements.now) relocated.now → IsLinkedMemory (all_segments (with_own_images (placed_modules modules.now placements.now))) result }
+    ensures stored { (runs : List Places) → AllZip IsRelocated (zip (typed_modules modules.now) runs) relocated.now → IsLinkedMemory (all_segments (stored_images (zip (typed_modules modules.now) runs) placements.now)) result }
 {
     let tried = try_image(alloc, modules, placements, relocated);
     let segments = ModuleSegments {

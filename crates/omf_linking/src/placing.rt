@@ -5,7 +5,7 @@ ghost use Rattle.omf_check.specs.Module.{recs_of, typed_modules};
 ghost use Rattle.omf_records.specs.Inner.Seen.{map_ok};
 ghost use Rattle.omf_reloc.specs.declared.fault.Kind.TheVariants.{Segment};
 ghost use Rattle.omf_linking.specs.Locator.Sparse.{bad_lines};
-ghost use Rattle.omf_linking.specs.Placing.{IsOutcome, all_given, frame_given, given_as, given_in, given_of, linked, or_missing, places_given, places_of};
+ghost use Rattle.omf_linking.specs.Placing.{IsOutcome, all_given, all_stored, frame_given, given_as, given_in, given_of, linked, or_missing, places_given, places_of, stored_by, stored_place, stored_places, stored_segment};
 ghost use Rattle.omf_linking.specs.declared.fault.LinkFault.TheVariants.{Memory};
 
 use crate::fault::LinkFault;
@@ -153,20 +153,93 @@ fn given_of(alloc: Global, sparse: &[Sparse]) -> Result<Vec<Given>, AllocError>
     Ok(given)
 }
 
+/// Returns where a segment is stored, if it runs at a place.
+fn stored_place(place: Placed, stored: Option<u32>) -> Placed
+    ensures { result ≡ stored_place place stored }
+{
+    match stored {
+        Some(address) => Placed {
+            address,
+            frame: place.frame,
+        },
+        None => place,
+    }
+}
+
+/// Adds where the segment with an index, from 1, is stored, if it has a place.
+fn add_stored(
+    segments: &mut Vec<Placed>,
+    placement: &Placement,
+    index: usize,
+    stored: Option<u32>,
+) -> Result<(), AllocError>
+    ensures { OnOk result (segments.new.items ≡ segments.old.items ++ option_to_list (stored_segment placement.now.segments (index, stored))) }
+{
+    let Some(place) = placement.segment(index) else {
+        return Ok(());
+    };
+    segments.push(stored_place(place, stored))?;
+    Ok(())
+}
+
+/// Returns where the segments of a module are stored, by what a text gives them and by where they run.
+fn stored_places(
+    alloc: Global,
+    given: &Sparse,
+    placement: &Placement,
+) -> Result<Placement, AllocError>
+    ensures { IfOk result (λ p. p ≡ stored_places (given.now, placement.now)) }
+{
+    let mut segments = Vec::new(alloc);
+    let stored = given.stored();
+    for (k, address) in stored.iter().enumerate() {
+        add_stored(&mut segments, placement, k + 1, *address)?;
+    }
+    Ok(Placement::of(segments, Vec::new(alloc), Vec::new(alloc)))
+}
+
+/// Returns where the segments of modules are stored.
+fn all_stored(
+    alloc: Global,
+    sparse: &[Sparse],
+    placements: &[Placement],
+) -> Result<Vec<Placement>, AllocError>
+    requires { length placements.now ≡ length sparse.now }
+    ensures all { IfOk result (λ v. v.items ≡ all_stored sparse.now placements.now) }
+    ensures each { IfOk result (λ v. length v.items ≡ length sparse.now) }
+{
+    let mut stored = Vec::new(alloc);
+    for (j, given) in sparse.iter().enumerate() {
+        stored.push(stored_places(alloc, given, &placements[j])?)?;
+    }
+    Ok(stored)
+}
+
+/// Where a text puts modules.
+#[derive(Drop)]
+pub struct LinkedPlaces {
+    /// The placement of each module, where it runs.
+    pub placements: Vec<Placement>,
+    /// Where the segments of each module are stored, as a placement without groups and externals.
+    pub stored: Vec<Placement>,
+}
+
 /// Returns the placements of modules by a text: segments, groups and externals at the places that `sparse_places` finds in it; each other
 /// external at that of the one public of its name, as `derive` finds it; a weak one without a public at that of its default, as `with_weak`
-/// finds it.
+/// finds it. And where the segments are stored: at the address after `at` in the line of a segment, or else where they run.
 ///
 /// # Errors
 ///
 /// The first of: `NoModules` if there is none; `Line` for a line that does not fit, as in `sparse_places`; `Reach`, with `Missing`, for the
 /// first module with a segment without a place, or a group without a frame: one that has no line, or that has a line `real` and no lowest
 /// member; `External` for an external without a place. `Memory` if memory runs out, only if every line is understood.
-pub fn link(alloc: Global, modules: &[Checked], text: &[u8]) -> Result<Vec<Placement>, LinkFault>
+pub fn link(alloc: Global, modules: &[Checked], text: &[u8]) -> Result<LinkedPlaces, LinkFault>
     requires { length modules.now < 2 ^ 32 }
-    ensures placements { IsOutcome (linked (typed_modules modules.now) text.now) (map_ok (λ v. v.items) result) }
+    ensures placements { IsOutcome (linked (typed_modules modules.now) text.now) (map_ok (λ l. l.placements.items) result) }
+    ensures stored { IfOk result (λ l. l.stored.items ≡ stored_by (typed_modules modules.now) text.now l.placements.items) }
     ensures lines { IfErr result (λ fault. fault ≡ Memory → bad_lines text.now ≡ []) }
-    ensures each { IfOk result (λ v. length v.items ≡ length modules.now) }
+    ensures each { IfOk result (λ l. length l.placements.items ≡ length modules.now) }
+    ensures each_stored { IfOk result (λ l. length l.stored.items ≡ length modules.now) }
 {
     if modules.is_empty() {
         return Err(LinkFault::NoModules);
@@ -176,5 +249,6 @@ pub fn link(alloc: Global, modules: &[Checked], text: &[u8]) -> Result<Vec<Place
     let by_hand = given_of(alloc, &sparse)?;
     let given = with_weak(alloc, modules, &places, &by_hand)?;
     let placements = derive(alloc, modules, &places, &given)?;
-    Ok(placements)
+    let stored = all_stored(alloc, &sparse, &placements)?;
+    Ok(LinkedPlaces { placements, stored })
 }

@@ -5,19 +5,21 @@ ghost use Rattle.omf_linking.specs.Space.Segments.{segment_shares};
 ghost use Rattle.omf_reloc.specs.Rows.{at, frame};
 ghost use Rattle.omf_reloc.specs.declared.fault.Kind.TheVariants.{Group, Segment};
 ghost use Rattle.omf_reloc.specs.declared.fault.ReachFault.TheVariants.{Missing};
-ghost use Rattle.omf_linking.specs.Locator.Rows.{given_segments, named_only, three_segments};
-ghost use Rattle.omf_linking.specs.Placing.{given_of, linked, placed_by, places_given};
+ghost use Rattle.omf_linking.specs.Locator.Rows.{given_segments, given_stored, named_only, three_segments};
+ghost use Rattle.omf_linking.specs.Placing.{all_stored, given_of, linked, placed_by, places_given};
 ghost use Rattle.omf_linking.specs.Rows.{ending, given_at, given_externals, given_groups, lying, share, three_lines, three_places};
 ghost use Rattle.omf_linking.specs.Segments.{all_segments, is_common};
 ghost use Rattle.omf_linking.specs.Starts.{main_starts, one_start};
 ghost use Rattle.omf_linking.specs.declared.fault.LinkFault.TheVariants.{Line, NoModules, Reach, Starts};
 ghost use Rattle.omf_linking.specs.declared.locator.fault.LineFault.TheVariants.{Unknown};
 
-/// What a text gives a module: a place for each of its segments; none for the second; a group with a line `real` and without a member.
+/// What a text gives a module: a place for each of its segments; none for the second; a group with a line `real` and without a member; an
+/// address at which the first of two segments is stored.
 pub fn places_that_a_text_gives()
     ensures all { places_given 0 three_segments (given_segments (Some (at 0x10 0 0) ∷ Some (at 0x20 0 0) ∷ Some (at 0x30 0 0) ∷ [])) ≡ Ok (placed_by (at 0x10 0 0 ∷ at 0x20 0 0 ∷ at 0x30 0 0 ∷ []) []) }
     ensures segment { places_given 1 three_segments (given_segments (Some (at 0x10 0 0) ∷ None ∷ None ∷ [])) ≡ Err (Reach 1 (Missing Segment 2)) }
     ensures group { places_given 0 [] (given_groups (Some (Some (frame 0 8)) ∷ Some None ∷ [])) ≡ Err (Reach 0 (Missing Group 2)) }
+    ensures stored { all_stored (given_stored (Some (at 0x10 0x20 2) ∷ Some (at 0x30 0x20 2) ∷ []) (Some 0x8000 ∷ None ∷ []) ∷ []) (placed_by (at 0x10 0x20 2 ∷ at 0x30 0x20 2 ∷ []) (frame 0x20 2 ∷ []) ∷ []) ≡ placed_by (at 0x8000 0x20 2 ∷ at 0x30 0x20 2 ∷ []) [] ∷ [] }
     ensures external { given_of (given_externals [] ∷ given_externals (None ∷ Some (at 0x30 0 0) ∷ []) ∷ []) ≡ given_at 1 2 0x30 ∷ [] }
 {}
 

@@ -27,18 +27,20 @@ fn at_once(
     alloc: Global,
     modules: &[Checked],
     placements: &[Placement],
+    stored: &[Placement],
 ) -> Result<Together, LinkFault>
     requires few { length modules.now < 2 ^ 32 }
     requires placed { length placements.now ≡ length modules.now }
-    ensures { IsTogether (typed_modules modules.now) placements.now result }
+    requires stored { length stored.now ≡ length modules.now }
+    ensures { IsTogether (typed_modules modules.now) placements.now stored.now result }
 {
     let relocated = relocate_all(alloc, modules, placements)?;
-    let memory = memory_image(alloc, modules, placements, &relocated)?;
+    let memory = memory_image(alloc, modules, stored, &relocated)?;
     let start = start_of(modules, &relocated)?;
     Ok(Together { memory, start })
 }
 
-/// Relocates each of the modules to its placement, and lays them in one memory. One module's image is kept beside the memory at a time, unless
+/// Relocates each of the modules to its placement, where it runs, and lays them in one memory at the placements where they are stored. One module's image is kept beside the memory at a time, unless
 /// there is a fault: to find the first, all images are made again and kept.
 ///
 /// # Errors
@@ -49,13 +51,15 @@ pub fn laid_together(
     alloc: Global,
     modules: &[Checked],
     placements: &[Placement],
+    stored: &[Placement],
 ) -> Result<Together, LinkFault>
     requires few { length modules.now < 2 ^ 32 }
     requires placed { length placements.now ≡ length modules.now }
-    ensures { IsTogether (typed_modules modules.now) placements.now result }
+    requires stored { length stored.now ≡ length modules.now }
+    ensures { IsTogether (typed_modules modules.now) placements.now stored.now result }
 {
-    match by_turns(alloc, modules, placements) {
+    match by_turns(alloc, modules, placements, stored) {
         Some(together) => Ok(together),
-        None => at_once(alloc, modules, placements),
+        None => at_once(alloc, modules, placements, stored),
     }
 }

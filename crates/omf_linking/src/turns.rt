@@ -164,11 +164,11 @@ impl Turns {
         Ok(())
     }
 
-    /// Relocates a module, adds it, and drops its image. None if that cannot be done.
-    fn take(&mut self, alloc: Global, member: &Member<'_>) -> Option<()>
-        ensures { IfSome result (λ done. IsTaken self.old member.now.number (recs_of member.now.«module».now.bytes, member.now.placement.now) self.new) }
+    /// Relocates a module to the placement where it runs, adds it where it is stored, and drops its image. None if that cannot be done.
+    fn take(&mut self, alloc: Global, member: &Member<'_>, run: &Placement) -> Option<()>
+        ensures { IfSome result (λ done. IsTaken self.old member.now.number (recs_of member.now.«module».now.bytes, run.now) member.now.placement.now self.new) }
     {
-        let relocated = Relocated::of(alloc, member.number, member.module, member.placement).ok()?;
+        let relocated = Relocated::of(alloc, member.number, member.module, run).ok()?;
         self.add(alloc, member, &relocated).ok()
     }
 
@@ -203,17 +203,20 @@ fn no_modules(alloc: Global, intervals: &[Interval]) -> Result<Turns, AllocError
     })
 }
 
-/// Relocates modules to their placements, one after another, and lays each in one memory. None if memory runs out, or if there is a fault.
+/// Relocates modules to their placements, one after another, and lays each in one memory, where it is stored. None if memory runs out, or if
+/// there is a fault.
 pub(crate) fn by_turns(
     alloc: Global,
     modules: &[Checked],
     placements: &[Placement],
+    stored: &[Placement],
 ) -> Option<Together>
     requires few { length modules.now < 2 ^ 32 }
     requires placed { length placements.now ≡ length modules.now }
-    ensures { IfSome result (AreOne (typed_modules modules.now) placements.now) }
+    requires stored { length stored.now ≡ length modules.now }
+    ensures { IfSome result (AreOne (typed_modules modules.now) placements.now stored.now) }
 {
-    let Ok(intervals) = intervals_of(alloc, modules, placements) else {
+    let Ok(intervals) = intervals_of(alloc, modules, stored) else {
         return None;
     };
     let Ok(mut turns) = no_modules(alloc, &intervals) else {
@@ -223,9 +226,9 @@ pub(crate) fn by_turns(
         let member = Member {
             number: j as u32,
             module,
-            placement: &placements[j],
+            placement: &stored[j],
         };
-        turns.take(alloc, &member)?;
+        turns.take(alloc, &member, &placements[j])?;
     }
     turns.finish(&intervals)
 }

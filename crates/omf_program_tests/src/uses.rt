@@ -14,7 +14,7 @@ use omf_check::{Checked, Profile, check};
 use omf_cmd::{RunFault, fault_line};
 use omf_frame::Source;
 use omf_image::Image;
-use omf_linking::{LinkFault, link};
+use omf_linking::{LinkFault, LinkedPlaces, link};
 use omf_reloc::{Frame, Placement, reach, relocate};
 use sha2::{Digest, Sha256};
 use std::alloc::{AllocError, Global};
@@ -78,5 +78,11 @@ pub fn link_two(
     requires { length modules.now ≡ 2 }
     ensures { IsOutcome (linked (typed_modules modules.now) addresses.now) (map_ok (λ v. v.items) result) }
 {
-    link(alloc, modules, addresses)
+    match link(alloc, modules, addresses) {
+        Ok(linked) => {
+            let LinkedPlaces { placements, .. } = linked;
+            Ok(placements)
+        }
+        Err(fault) => Err(fault),
+    }
 }

@@ -2,6 +2,7 @@
 use Rattle.std.specs.Prelude.{◌≡◌, ◌⊎◌, ℕ, List, true, false, Option, option_map, slice_get, Result, Ok, Err}
 use Rattle.omf_image.specs.Overlay.{byte_at}
 use Rattle.omf_records.specs.Values.{Rec}
+use Rattle.omf_linking.specs.Placing.{stored_by}
 use Rattle.omf_linking.specs.Space.Segments.{SegmentAt, segment_shares}
 use Rattle.omf_linking.specs.Together.{segments_of}
 use Rattle.omf_linking.specs.declared.fault.LinkFault.TheVariants as link
@@ -21,11 +22,11 @@ first_owner ss a = option_map (λ s. s.owner) (slice_get (segment_shares ss a) 0
 
 -- That of modules at the placements of a link text.
 abbrev pub owner_at : (ms : List (List Rec)) (text : List ℕ) → AreTogether ms text → ℕ → Option Owner
-owner_at ms text t a = first_owner (segments_of ms t.placements) a
+owner_at ms text t a = first_owner (segments_of ms t.placements (stored_by ms text t.placements)) a
 
 -- The same of modules that are linked.
 abbrev pub linked_owner : List (List Rec) → LinkedModules → ℕ → Option Owner
-linked_owner ms l a = first_owner (segments_of ms l.placements.items) a
+linked_owner ms l a = first_owner (segments_of ms l.placements.items l.stored.items) a
 
 -- A byte of their memory is at an address that the form does not have. This is the lowest, and the first segment with a byte there.
 pub record IsOutsideOf (f : Form) (ms : List (List Rec)) (text : List ℕ) (address : ℕ) (owner : Option Owner) : Type 0 where

@@ -102,7 +102,7 @@ abbrev pub expected : List ℕ → List ℕ
 expected [] = codes "M, S, G, X or ;"
 expected (c ∷ cs) =
     if c == 77 then codes "M KEY"
-    else if c == 83 then codes "S KEY ADDRESS (BASE SELECTOR|real|shared)"
+    else if c == 83 then codes "S KEY ADDRESS (BASE SELECTOR|real|shared) [at STORED]"
     else if c == 71 then codes "G KEY (BASE SELECTOR|real|shared)"
     else if c == 88 then codes "X KEY ADDRESS (BASE SELECTOR|real)"
     else codes "M, S, G, X or ;"

@@ -13,9 +13,10 @@ use Rattle.omf_records.specs.Values.{At, Contents, PublicItem, Publics, Rec}
 
 -- ---- of a module
 
--- The address of each segment and of each external of a module, in index order; none where there is none.
+-- The address of each segment and of each external of a module, in index order; none where there is none. For segments that are stored elsewhere, also where.
 pub record Addresses : Type 0 where
   pub segments : List (Option ℕ)
+  pub stored : List (Option ℕ)
   pub externals : List (Option ℕ)
 
 abbrev pub AddressedModule : Type 0
@@ -64,7 +65,7 @@ abbrev pub place_address : Placed → Option ℕ
 place_address p = Some p.address
 
 abbrev pub addresses_of : Places → Addresses
-addresses_of pl = record { segments = map place_address pl.segments; externals = map place_address pl.externals }
+addresses_of pl = record { segments = map place_address pl.segments; stored = []; externals = map place_address pl.externals }
 
 abbrev pub addressed : List (List Rec) → List Places → List AddressedModule
 addressed ms pls = zip ms (map addresses_of pls)
@@ -139,7 +140,7 @@ abbrev pub externals_settled : (Bool → List NamedAddress) → List Rec × Spar
 externals_settled among m = with_defaults among m (externals_given among m) (weak_pairs m.0) (externals_given among m)
 
 abbrev pub addresses_given : List NamedAddress → List Rec × Sparse → Addresses
-addresses_given all m = record { segments = segments_given m.1; externals = externals_settled (seen_given all m) m }
+addresses_given all m = record { segments = segments_given m.1; stored = m.1.stored; externals = externals_settled (seen_given all m) m }
 
 abbrev pub addressed_by : List (List Rec) → List Sparse → List AddressedModule
 addressed_by ms ss = zip ms (map (addresses_given (all_given ms ss)) (zip ms ss))

@@ -1,6 +1,6 @@
 -- The map of a link: a line for each segment of several modules at their addresses, then for each of their publics, then for each of their externals (this
 -- profile's rule). Modules are counted from 1, and so are the segments and the externals of each.
-use Rattle.std.specs.Prelude.{ℕ, List, [], ◌∷◌, ◌++◌, flat_map, Option, option_map, unwrap_or, codes, decimal, false}
+use Rattle.std.specs.Prelude.{ℕ, List, [], ◌∷◌, ◌++◌, flat_map, Option, Some, None, option_map, unwrap_or, codes, decimal, false}
 use Rattle.std.specs.List.{enumerate_from}
 use Rattle.omf_check.specs.Tables.{names, segments, externals}
 use Rattle.omf_check.specs.declared.segment.SegInfo.{SegInfo}
@@ -16,9 +16,14 @@ line words = in_words words ++ 10 ∷ []
 abbrev pub address_or_dash : Option ℕ → List ℕ
 address_or_dash address = unwrap_or (option_map (hex 8) address) (codes "-")
 
+-- The end of a segment's line: `at` and the address at which it is stored, if that is not its own.
+abbrev pub stored_end : Option ℕ → List ℕ
+stored_end None = 10 ∷ []
+stored_end (Some a) = codes " at " ++ hex 8 a ++ 10 ∷ []
+
 -- A segment: the number of its module, its index, its address, its length, its name and that of its class.
 abbrev pub segment_line : ℕ → AddressedModule → ℕ × SegInfo → List ℕ
-segment_line number m s = line (codes "segment" ∷ decimal number ∷ decimal s.0 ∷ address_or_dash (address_at m.1.segments s.0) ∷ hex 8 s.1.length ∷ named (names m.0) s.1.name ∷ named (names m.0) s.1.class ∷ [])
+segment_line number m s = in_words (codes "segment" ∷ decimal number ∷ decimal s.0 ∷ address_or_dash (address_at m.1.segments s.0) ∷ hex 8 s.1.length ∷ named (names m.0) s.1.name ∷ named (names m.0) s.1.class ∷ []) ++ stored_end (address_at m.1.stored s.0)
 
 abbrev pub segment_lines : ℕ × AddressedModule → List ℕ
 segment_lines m = flat_map (segment_line m.0 m.1) (enumerate_from 1 (segments m.1.0))

@@ -1,5 +1,5 @@
 -- Definitions for the worked examples.
-use Rattle.std.specs.Prelude.{ℕ, List, [], ◌∷◌, ◌++◌, flat_map, map, Option}
+use Rattle.std.specs.Prelude.{ℕ, List, [], ◌∷◌, ◌++◌, flat_map, map, None, Option}
 use Rattle.omf_check.specs.Rows.{H, N, S, M}
 use Rattle.omf_linking.specs.Locator.Sparse.{Sparse}
 use Rattle.omf_placement.specs.Placement.{Places}
@@ -18,7 +18,11 @@ map_by ms ss = map_text (addressed_by (map module_of ms) ss)
 
 -- A text gives a module these places.
 abbrev pub gives : List (Option Placed) → List (Option Placed) → Sparse
-gives segments externals = record { segments = segments; groups = []; externals = externals }
+gives segments externals = record { segments = segments; stored = map (λ s. None) segments; groups = []; externals = externals }
+
+-- It also gives segments addresses at which they are stored.
+abbrev pub stores : List (Option ℕ) → Sparse → Sparse
+stores stored s = record s { stored = stored }
 
 -- A text of these lines.
 abbrev pub lines : List (List ℕ) → List ℕ

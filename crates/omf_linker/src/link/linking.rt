@@ -12,20 +12,22 @@ use crate::link::unresolved::unresolved_text;
 use crate::map::given_text;
 use omf_check::Checked;
 use omf_linking::locator::sparse_places;
-use omf_linking::{LinkFault, Together, laid_together, link};
+use omf_linking::{LinkFault, LinkedPlaces, Together, laid_together, link};
 use omf_placement::Placement;
 use std::alloc::Global;
 
 /// Modules at the placements of a link text.
 #[derive(Drop)]
 pub struct LinkedModules {
-    /// The placement of each module.
+    /// The placement of each module, where it runs.
     pub placements: Vec<Placement>,
+    /// Where the segments of each module are stored, as a placement.
+    pub stored: Vec<Placement>,
     /// The memory that they share, and their start.
     pub together: Together,
 }
 
-/// Links modules: gives them the placements of a link text, relocates each, and lays them in one memory.
+/// Links modules: gives them the placements of a link text, relocates each, and lays them in one memory, where the text stores them.
 ///
 /// # Errors
 ///
@@ -38,11 +40,14 @@ pub(crate) fn linked_modules(
     requires { length modules.now < 2 ^ 32 }
     ensures linked { AreLinked (typed_modules modules.now) text.now result }
     ensures placed { IfOk result (λ l. length l.placements.items ≡ length modules.now) }
+    ensures stored { IfOk result (λ l. length l.stored.items ≡ length modules.now) }
 {
-    let placements = link(alloc, modules, text)?;
-    let together = laid_together(alloc, modules, &placements)?;
+    let places = link(alloc, modules, text)?;
+    let together = laid_together(alloc, modules, &places.placements, &places.stored)?;
+    let LinkedPlaces { placements, stored } = places;
     Ok(LinkedModules {
         placements,
+        stored,
         together,
     })
 }
@@ -66,13 +71,14 @@ pub(crate) fn text_at(
     let LinkedModules {
         placements,
         together,
+        ..
     } = linked;
     let shown = Output::of_memory(alloc, together.memory, together.start)?;
     Ok((shown, placements))
 }
 
-/// The memory image of modules as text, at the placements that a link text gives them: the bytes of the memory that they share, and their
-/// start address, in the form of `Output::of_memory`.
+/// The memory image of modules as text, at the placements that a link text gives them: the bytes of the memory that they share, where the text
+/// stores them, and their start address, in the form of `Output::of_memory`.
 ///
 /// # Errors
 ///

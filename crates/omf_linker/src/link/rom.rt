@@ -56,19 +56,21 @@ fn outside_of(alloc: Global, labeled: Labeled<'_>, address: u32, owner: Option<O
     }
 }
 
-/// The first segment of modules at their placements with a byte at an address.
+/// The first segment of modules with a byte at an address: they run at their placements, and are stored at others.
 fn owner_at(
     alloc: Global,
     modules: &[Checked],
     placements: &[Placement],
+    stored: &[Placement],
     address: u32,
 ) -> Result<Option<Owner>, LinkFault>
     requires few { length modules.now < 2 ^ 32 }
     requires placed { length placements.now ≡ length modules.now }
-    ensures { IfOk result (λ owner. owner ≡ first_owner (segments_of (typed_modules modules.now) placements.now) address) }
+    requires stored { length stored.now ≡ length modules.now }
+    ensures { IfOk result (λ owner. owner ≡ first_owner (segments_of (typed_modules modules.now) placements.now stored.now) address) }
 {
     let relocated = relocate_all(alloc, modules, placements)?;
-    let segments = segments_of(alloc, modules, placements, &relocated)?;
+    let segments = segments_of(alloc, modules, stored, &relocated)?;
     Ok(first_owner(&segments, address))
 }
 
@@ -77,9 +79,17 @@ fn owner_at(
 fn outside(alloc: Global, labeled: Labeled<'_>, linked: &LinkedModules, address: u32) -> ImageFault
     requires few { length labeled.modules.now < 2 ^ 32 }
     requires placed { length linked.now.placements.items ≡ length labeled.modules.now }
+    requires stored { length linked.now.stored.items ≡ length labeled.modules.now }
     ensures { IsOwned (map string_bytes labeled.entry.labels.now) (typed_modules labeled.entry.modules.now) linked.now address result }
 {
-    match owner_at(alloc, labeled.modules, &linked.placements, address) {
+    let found = owner_at(
+        alloc,
+        labeled.modules,
+        &linked.placements,
+        &linked.stored,
+        address,
+    );
+    match found {
         Ok(owner) => outside_of(alloc, labeled, address, owner),
         Err(_) => ImageFault::Link(LinkFault::Memory),
     }
@@ -94,6 +104,7 @@ fn linked_file(
 ) -> Result<Vec<u8>, ImageFault>
     requires few { length labeled.modules.now < 2 ^ 32 }
     requires placed { length linked.now.placements.items ≡ length labeled.modules.now }
+    requires stored { length linked.now.stored.items ≡ length labeled.modules.now }
     ensures { IsLinkedFile form (map string_bytes labeled.entry.labels.now) (typed_modules labeled.entry.modules.now) linked.now (map_ok (λ file. file.items) result) }
 {
     match memory_file(alloc, form, &linked.together.memory) {
@@ -112,6 +123,7 @@ fn placed_file(
 ) -> Result<(Vec<u8>, Vec<Placement>), ImageFault>
     requires few { length labeled.modules.now < 2 ^ 32 }
     requires placed { length linked.placements.items ≡ length labeled.modules.now }
+    requires stored { length linked.stored.items ≡ length labeled.modules.now }
     ensures file { IsLinkedFile form (map string_bytes labeled.entry.labels.now) (typed_modules labeled.entry.modules.now) linked (map_ok (λ r. r.0.items) result) }
     ensures placed { IfOk result (λ r. length r.1.items ≡ length labeled.entry.modules.now) }
     ensures kept { IfOk result (λ r. r.1.items ≡ linked.placements.items) }
@@ -144,7 +156,7 @@ pub(crate) fn file_at(
     }
 }
 
-/// The memory of modules at the placements that a link text gives them, as a file in a form.
+/// The memory of modules at the placements that a link text gives them, where it stores them, as a file in a form.
 ///
 /// # Errors
 ///

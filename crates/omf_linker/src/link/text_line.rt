@@ -102,9 +102,11 @@ fn told_kind(told: Told) -> Kind
 {
     match told {
         Told::Own(Target::Segment(_)) => Kind::Segment,
+        Told::Own(Target::Stored { .. }) => Kind::Segment,
         Told::Own(Target::Group(_)) => Kind::Group,
         Told::Own(Target::External(_)) => Kind::External,
         Told::SharedPlace(_) => Kind::Segment,
+        Told::SharedStored { .. } => Kind::Segment,
         Told::SharedFrame => Kind::Group,
     }
 }
@@ -284,7 +286,7 @@ fn expected(said: &[u8]) -> &'static str
 {
     match said {
         [b'M', ..] => "M KEY",
-        [b'S', ..] => "S KEY ADDRESS (BASE SELECTOR|real|shared)",
+        [b'S', ..] => "S KEY ADDRESS (BASE SELECTOR|real|shared) [at STORED]",
         [b'G', ..] => "G KEY (BASE SELECTOR|real|shared)",
         [b'X', ..] => "X KEY ADDRESS (BASE SELECTOR|real)",
         _ => "M, S, G, X or ;",

@@ -12,6 +12,8 @@ use std::marker::Model;
 #[derive(Drop)]
 pub struct Addresses {
     segments: Vec<Option<u32>>,
+    /// Where segments are stored, if that is elsewhere.
+    stored: Vec<Option<u32>>,
     externals: Vec<Option<u64>>,
 }
 
@@ -20,7 +22,7 @@ impl Model for Addresses {
 
     ghost Value = { Seen };
 
-    ghost view = { λ a. record { segments = a.segments.items; externals = a.externals.items } };
+    ghost view = { λ a. record { segments = a.segments.items; stored = a.stored.items; externals = a.externals.items } };
 }
 
 /// The address of a place, if there is one.
@@ -72,6 +74,17 @@ fn externals_of(alloc: Global, placement: &Placement) -> Result<Vec<Option<u64>>
     Ok(addresses)
 }
 
+/// The address of the segment with an index, from 1, if it has one.
+fn segment_at(addresses: &[Option<u32>], index: u16) -> Option<u64>
+    ensures { result ≡ address_at addresses.now index }
+{
+    match entry_of(addresses, usize::from(index)) {
+        Some(Some(address)) => Some(u64::from(address)),
+        Some(None) => None,
+        None => None,
+    }
+}
+
 /// The address of the entry with an index, from 1, if it has one.
 pub(crate) fn known_at(addresses: &[Option<u64>], index: u16) -> Option<u64>
     ensures { result ≡ address_at addresses.now index }
@@ -81,11 +94,16 @@ pub(crate) fn known_at(addresses: &[Option<u64>], index: u16) -> Option<u64>
 
 impl Addresses {
     /// These addresses.
-    pub(crate) fn new(segments: Vec<Option<u32>>, externals: Vec<Option<u64>>) -> Addresses
-        ensures { result ≡ record { segments = segments.items; externals = externals.items } }
+    pub(crate) fn new(
+        segments: Vec<Option<u32>>,
+        stored: Vec<Option<u32>>,
+        externals: Vec<Option<u64>>,
+    ) -> Addresses
+        ensures { result ≡ record { segments = segments.items; stored = stored.items; externals = externals.items } }
     {
         Addresses {
             segments,
+            stored,
             externals,
         }
     }
@@ -100,6 +118,7 @@ impl Addresses {
     {
         Ok(Addresses {
             segments: segments_of(alloc, placement)?,
+            stored: Vec::new(alloc),
             externals: externals_of(alloc, placement)?,
         })
     }
@@ -115,11 +134,14 @@ impl Addresses {
     pub(crate) fn segment(&self, index: u16) -> Option<u64>
         ensures { result ≡ address_at self.now.segments index }
     {
-        match entry_of(&self.segments, usize::from(index)) {
-            Some(Some(address)) => Some(u64::from(address)),
-            Some(None) => None,
-            None => None,
-        }
+        segment_at(&self.segments, index)
+    }
+
+    /// The address at which the segment with an index, from 1, is stored, if that is not its own.
+    pub(crate) fn stored(&self, index: u16) -> Option<u64>
+        ensures { result ≡ address_at self.now.stored index }
+    {
+        segment_at(&self.stored, index)
     }
 
     /// The address of the external with an index, from 1, if it has one.

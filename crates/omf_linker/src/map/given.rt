@@ -188,7 +188,8 @@ fn module_addresses<'a>(
     let own = PublicAddresses::of_locals(alloc, module, &segments)?;
     let first = external_addresses(alloc, all, &own, module, given)?;
     let externals = with_defaults(alloc, all, &own, module, given, first)?;
-    Ok(Addresses::new(segments, externals))
+    let stored = given.stored().to_vec(alloc)?;
+    Ok(Addresses::new(segments, stored, externals))
 }
 
 /// The addresses of modules.
@@ -209,7 +210,8 @@ fn all_addresses(
     Ok(addresses)
 }
 
-/// The map of modules by what a text gives them, in the form of `map_text`. An external has the address that the text gives it, or else that
+/// The map of modules by what a text gives them, in the form of `map_text`; the line of a segment that is stored elsewhere ends with `at` and
+/// that address. An external has the address that the text gives it, or else that
 /// of the one public of its name; a weak one without a public that of its default. A segment without a place in the text has no address, and neither has a public of it, nor an external for whose
 /// name no public or more than one is found: they have a dash.
 ///

@@ -9,7 +9,7 @@ ghost use Rattle.omf_linker.specs.Map.MapText.{external_lines, map_text, public_
 ghost use Rattle.omf_linker.specs.Inner.Steps.{part_lines};
 
 use crate::map::addresses::Addresses;
-use crate::map::printing::{print_external, print_public, print_segment};
+use crate::map::printing::{print_external, print_public, print_segment, print_stored};
 use crate::map::publics::{offset_from, publics_in};
 use omf_check::{Checked, SegInfo, Undecoded};
 use omf_placement::Placement;
@@ -41,7 +41,8 @@ fn print_segment_of(
     let address = addresses.segment(index);
     let name = module.name(segment.name);
     let class = module.name(segment.class);
-    print_segment(text, number, index, address, segment.length, name, class)
+    print_segment(text, number, index, address, segment.length, name, class)?;
+    print_stored(text, addresses.stored(index))
 }
 
 /// Prints a line for each segment of a module.

@@ -2,8 +2,9 @@
 
 ghost use Rattle.std.specs.Prelude.{◌++◌, ◌∷◌, [], string_bytes, codes, decimal, unwrap_or, option_map};
 ghost use Rattle.omf_frame.specs.Bytes.{AddsText};
+ghost use Rattle.omf_placement.specs.Entries.{in_words};
 ghost use Rattle.omf_placement.specs.Quoted.{hex, quoted};
-ghost use Rattle.omf_linker.specs.Map.MapText.{address_or_dash, line};
+ghost use Rattle.omf_linker.specs.Map.MapText.{address_or_dash, line, stored_end};
 
 use omf_frame::Name;
 use std::alloc::AllocError;
@@ -67,20 +68,33 @@ fn print_name(text: &mut String, name: Option<Name<'_>>) -> Result<(), AllocErro
     }
 }
 
-/// Prints the names of a segment and of its class, and the end of the line.
+/// Prints the names of a segment and of its class.
 fn print_names(
     text: &mut String,
     name: Option<Name<'_>>,
     class: Option<Name<'_>>,
 ) -> Result<(), AllocError>
-    ensures { AddsText result (string_bytes text.old) (string_bytes text.new) (32 ∷ unwrap_or (option_map quoted name.entry) (codes "-") ++ 32 ∷ unwrap_or (option_map quoted class.entry) (codes "-") ++ 10 ∷ []) }
+    ensures { AddsText result (string_bytes text.old) (string_bytes text.new) (32 ∷ unwrap_or (option_map quoted name.entry) (codes "-") ++ 32 ∷ unwrap_or (option_map quoted class.entry) (codes "-")) }
 {
     print_name(text, name)?;
-    print_name(text, class)?;
-    text.push_str("\n")
+    print_name(text, class)
 }
 
-/// Prints a segment's line: the number of its module, its index, its address, its length, its name and that of its class.
+/// Prints the end of a segment's line: where it is stored, if that is elsewhere.
+pub fn print_stored(text: &mut String, stored: Option<u64>) -> Result<(), AllocError>
+    ensures { AddsText result (string_bytes text.old) (string_bytes text.new) (stored_end stored) }
+{
+    match stored {
+        Some(address) => {
+            text.push_str(" at")?;
+            print_digits(text, address)?;
+            text.push_str("\n")
+        }
+        None => text.push_str("\n"),
+    }
+}
+
+/// Prints a segment's line without its end: the number of its module, its index, its address, its length, its name and that of its class.
 pub fn print_segment(
     text: &mut String,
     number: usize,
@@ -90,7 +104,7 @@ pub fn print_segment(
     name: Option<Name<'_>>,
     class: Option<Name<'_>>,
 ) -> Result<(), AllocError>
-    ensures { AddsText result (string_bytes text.old) (string_bytes text.new) (line (codes "segment" ∷ decimal number ∷ decimal index ∷ address_or_dash address ∷ hex 8 length ∷ unwrap_or (option_map quoted name.entry) (codes "-") ∷ unwrap_or (option_map quoted class.entry) (codes "-") ∷ [])) }
+    ensures { AddsText result (string_bytes text.old) (string_bytes text.new) (in_words (codes "segment" ∷ decimal number ∷ decimal index ∷ address_or_dash address ∷ hex 8 length ∷ unwrap_or (option_map quoted name.entry) (codes "-") ∷ unwrap_or (option_map quoted class.entry) (codes "-") ∷ [])) }
 {
     print_entry(text, "segment", number, index, address)?;
     print_digits(text, length)?;

@@ -1,7 +1,7 @@
 -- The entries of the code, and the steps of parsing a line.
 use Rattle.std.specs.Prelude.{ℕ, List, [], Option, Some, None}
 use Rattle.omf_placement.specs.Inner.EntryReading.{words_of}
-use Rattle.omf_linking.specs.Locator.LinkEntries.{Key, Named, OfClass, Numbered, Target, SegmentPlace, GroupFrame, ExternalPlace, Told, Own, SharedPlace, SharedFrame, LinkEntry, Blank, Opens, Gives}
+use Rattle.omf_linking.specs.Locator.LinkEntries.{Key, Named, OfClass, Numbered, Target, SegmentPlace, StoredPlace, GroupFrame, ExternalPlace, Told, Own, SharedPlace, SharedStored, SharedFrame, LinkEntry, Blank, Opens, Gives}
 use Rattle.omf_linking.specs.declared.locator.entry.Key.TheVariants as keys
 use Rattle.omf_linking.specs.declared.locator.entry.Key as written_key
 use Rattle.omf_linking.specs.declared.locator.entry.Target.TheVariants as targets
@@ -19,12 +19,14 @@ key_seen (keys.Numbered k) = Numbered k
 
 abbrev pub target_seen : written_target.Target → Target
 target_seen (targets.Segment p) = SegmentPlace p
+target_seen (targets.Stored p s) = StoredPlace p s
 target_seen (targets.Group f) = GroupFrame f
 target_seen (targets.External p) = ExternalPlace p
 
 abbrev pub told_seen : written_told.Told → Told
 told_seen (tellings.Own t) = Own (target_seen t)
 told_seen (tellings.SharedPlace a) = SharedPlace a
+told_seen (tellings.SharedStored a s) = SharedStored a s
 told_seen tellings.SharedFrame = SharedFrame
 
 -- An entry of the code.

@@ -5,11 +5,12 @@ use Rattle.omf_image.specs.Overlay.{AreLaidOver}
 use Rattle.omf_image.specs.Painting.{all_zeros}
 use Rattle.omf_image.specs.declared.painting.Extent.{Extent}
 use Rattle.omf_placement.specs.Derive.{PlacedModule}
+use Rattle.omf_placement.specs.Placement.{Places}
 use Rattle.omf_reloc.specs.Image.{start}
 use Rattle.omf_linking.specs.Inner.Laying.{laid_pieces}
 use Rattle.omf_linking.specs.Inner.Sweeping.{intervals, spot}
 use Rattle.omf_linking.specs.Relocated.{IsRelocated}
-use Rattle.omf_linking.specs.Segments.{image_bytes, module_segments, with_own_images}
+use Rattle.omf_linking.specs.Segments.{image_bytes, module_segments, stored_images}
 use Rattle.omf_linking.specs.Space.Memory.{Lies, pieces, shares, IsFirstOverlap}
 use Rattle.omf_linking.specs.Space.Segments.{SegmentAt, IsWithin, segment_shares}
 use Rattle.omf_linking.specs.Starts.{is_main, numbered_start, one_start}
@@ -38,13 +39,13 @@ pub record IsTurn (old : Turns) (j : ℕ) (m : PlacedModule) (r : Relocated) (ne
   pub laid : AreLaidOver old.image (laid_pieces stretches) new.image
   pub started : new.starts.items ≡ old.starts.items ++ option_to_list (numbered_start (j, (m.0, r)))
 
--- One more module, with the image and the start that it has at its placement.
-abbrev pub IsTaken : Turns → ℕ → PlacedModule → Turns → Type 0
-IsTaken old j m new = (r : Relocated) × IsRelocated m r × IsTurn old j m r new
+-- One more module, with the image and the start that it has at its placement, stored at another.
+abbrev pub IsTaken : Turns → ℕ → PlacedModule → Places → Turns → Type 0
+IsTaken old j m at new = (r : Relocated) × IsRelocated m r × IsTurn old j (m.0, at) r new
 
 -- The segments and the starts of the modules from one on.
-abbrev pub left_segments : List PlacedModule → ℕ → List SegmentAt
-left_segments ms j = flat_map module_segments (enumerate_from j (with_own_images (drop j ms)))
+abbrev pub left_segments : List PlacedModule → List Places → ℕ → List SegmentAt
+left_segments ms stored j = flat_map module_segments (enumerate_from j (stored_images (drop j ms) (drop j stored)))
 
 abbrev pub own_start : PlacedModule → Option (ℕ × ℕ)
 own_start m = if is_main m.0 then start m.1 m.0 else None
@@ -56,13 +57,13 @@ abbrev pub left_starts : List PlacedModule → ℕ → List (ℕ × (ℕ × ℕ)
 left_starts ms j = filter_map own_numbered (enumerate_from j (drop j ms))
 
 -- The modules before one are in memory.
-pub record AreTaken (ms : List PlacedModule) (is : List Interval) (j : ℕ) (t : Turns) : Type 0 where
+pub record AreTaken (ms : List PlacedModule) (at : List Places) (is : List Interval) (j : ℕ) (t : Turns) : Type 0 where
   pub relocated : List Relocated
   pub stretches : List Stretch
   pub each : AllZip IsRelocated (take j ms) relocated
   pub lie : All Lies stretches
-  pub within : All IsWithin (left_segments ms j) → All IsWithin (left_segments ms 0)
-  pub shared : (a : ℕ) → shares (pieces stretches) a ++ segment_shares (left_segments ms j) a ≡ segment_shares (left_segments ms 0) a
+  pub within : All IsWithin (left_segments ms at j) → All IsWithin (left_segments ms at 0)
+  pub shared : (a : ℕ) → shares (pieces stretches) a ++ segment_shares (left_segments ms at j) a ≡ segment_shares (left_segments ms at 0) a
   pub counted : t.intervals.items ≡ intervals (pieces stretches)
   pub laid : AreLaidOver [] (all_zeros (spots is) ++ laid_pieces stretches) t.image
   pub started : t.starts.items ++ left_starts ms j ≡ left_starts ms 0

@@ -20,9 +20,9 @@ pub record HasEntries (m : List Rec) (pl : Places) : Type 0 where
   pub groups : length pl.groups ≡ length (groups m)
   pub externals : pl.externals ≡ []
 
--- Exactly the places of a module's segments and the frames of its groups, and none of its externals.
+-- Exactly the places of a module's segments and the frames of its groups, and none of its externals. No segment is stored elsewhere.
 abbrev pub told_places : List Rec × Places → Sparse
-told_places m = record { segments = map Some m.1.segments; groups = map (λ f. Some (Some f)) m.1.groups; externals = map (λ e. None) (externals m.0) }
+told_places m = record { segments = map Some m.1.segments; stored = map (λ s. None) (segments m.0); groups = map (λ f. Some (Some f)) m.1.groups; externals = map (λ e. None) (externals m.0) }
 
 -- Which segments and groups of a module share the frame of their name, by their indices and frames.
 pub record Sharing : Type 0 where

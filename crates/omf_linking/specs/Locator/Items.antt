@@ -11,7 +11,7 @@ use Rattle.omf_placement.specs.declared.frame.Placed.{Placed}
 use Rattle.omf_reloc.specs.declared.fault.Kind.{Kind}
 use Rattle.omf_reloc.specs.declared.fault.Kind.TheVariants as kinds
 use Rattle.omf_linking.specs.Locator.Keys.{class_name, entry_name, entry_named, module_named}
-use Rattle.omf_linking.specs.Locator.LinkEntries.{Key, Target, SegmentPlace, GroupFrame, ExternalPlace, Told, Own, SharedPlace, SharedFrame, LinkEntry, Blank, Opens, Gives, Line}
+use Rattle.omf_linking.specs.Locator.LinkEntries.{Key, Target, SegmentPlace, StoredPlace, GroupFrame, ExternalPlace, Told, Own, SharedPlace, SharedStored, SharedFrame, LinkEntry, Blank, Opens, Gives, Line}
 use Rattle.omf_linking.specs.declared.locator.fault.LineFault.{LineFault}
 use Rattle.omf_linking.specs.declared.locator.fault.LineFault.TheVariants as why
 use Rattle.omf_linking.specs.declared.locator.fault.LocatorFault.{LocatorFault}
@@ -34,7 +34,13 @@ current items = last (filter_map opened items)
 -- What items give: the module and the index of an entry, and its place or its frame.
 abbrev pub segment_given : Item → Option ((ℕ × ℕ) × Placed)
 segment_given (Given j i (SegmentPlace p)) = Some ((j, i), p)
+segment_given (Given j i (StoredPlace p s)) = Some ((j, i), p)
 segment_given _ = None
+
+-- The address at which a segment is stored, if that is not its own.
+abbrev pub stored_given : Item → Option ((ℕ × ℕ) × ℕ)
+stored_given (Given j i (StoredPlace p s)) = Some ((j, i), s)
+stored_given _ = None
 
 abbrev pub group_given : Item → Option ((ℕ × ℕ) × Option Frame)
 group_given (Given j i (GroupFrame f)) = Some ((j, i), f)
@@ -51,6 +57,9 @@ given_to gs j i = option_map (λ g. g.1) (find (λ g. (g.0.0 == j) && (g.0.1 == 
 abbrev pub segment_place : List Item → ℕ → ℕ → Option Placed
 segment_place items j i = given_to (filter_map segment_given items) j i
 
+abbrev pub stored_address : List Item → ℕ → ℕ → Option ℕ
+stored_address items j i = given_to (filter_map stored_given items) j i
+
 abbrev pub group_frame : List Item → ℕ → ℕ → Option (Option Frame)
 group_frame items j i = given_to (filter_map group_given items) j i
 
@@ -62,6 +71,7 @@ abbrev pub is_again : List Item → Item → Bool
 is_again before Nothing = false
 is_again before (Opened j) = list_any (λ k. k == j) (filter_map opened before)
 is_again before (Given j i (SegmentPlace p)) = is_some (segment_place before j i)
+is_again before (Given j i (StoredPlace p s)) = is_some (segment_place before j i)
 is_again before (Given j i (GroupFrame f)) = is_some (group_frame before j i)
 is_again before (Given j i (ExternalPlace p)) = is_some (external_place before j i)
 
@@ -72,12 +82,14 @@ unless_again before (Err w) = Err w
 -- The kind of what is given something.
 abbrev pub kind_of : Target → Kind
 kind_of (SegmentPlace p) = kinds.Segment
+kind_of (StoredPlace p s) = kinds.Segment
 kind_of (GroupFrame f) = kinds.Group
 kind_of (ExternalPlace p) = kinds.External
 
 abbrev pub told_kind : Told → Kind
 told_kind (Own t) = kind_of t
 told_kind (SharedPlace a) = kinds.Segment
+told_kind (SharedStored a s) = kinds.Segment
 told_kind SharedFrame = kinds.Group
 
 -- What segments and groups share a frame by: a segment its name and its class, a group its name; without a name it is empty. As it is written in quotes.
@@ -100,6 +112,7 @@ is_titled title ms t e = option_map_or (λ m. bytes_eq t.0 (in_quotes (title m e
 -- that line names no frame: it is `real`, of a group.
 abbrev pub segment_framed : Item → Option ((ℕ × ℕ) × Option Frame)
 segment_framed (Given j i (SegmentPlace p)) = Some ((j, i), Some p.frame)
+segment_framed (Given j i (StoredPlace p s)) = Some ((j, i), Some p.frame)
 segment_framed _ = None
 
 abbrev pub first_titled : (List Rec → ℕ → Title) → List (List Rec) → Title → List ((ℕ × ℕ) × Option Frame) → Option ((ℕ × ℕ) × Option Frame)
@@ -116,6 +129,7 @@ or_unshared None = Err why.Unshared
 abbrev pub settled : List (List Rec) → List Item → List Rec → Told → ℕ → Result Target LineFault
 settled ms before m (Own t) i = Ok t
 settled ms before m (SharedPlace a) i = or_unshared (option_map (λ f. SegmentPlace (record { address = a; frame = f })) (shared_frame segment_title ms (in_quotes (segment_title m i)) (filter_map segment_framed before)))
+settled ms before m (SharedStored a s) i = or_unshared (option_map (λ f. StoredPlace (record { address = a; frame = f }) s) (shared_frame segment_title ms (in_quotes (segment_title m i)) (filter_map segment_framed before)))
 settled ms before m SharedFrame i = or_unshared (option_map (λ f. GroupFrame (Some f)) (shared_frame group_title ms (in_quotes (group_title m i)) (filter_map group_given before)))
 
 -- The module that a line is for: its number, and its records.

@@ -17,16 +17,19 @@ pub data Key : Type 0 where
   OfClass : List ℕ → List ℕ → Key
   Numbered : ℕ → Key
 
--- A line gives a segment a place, a group a frame (none: that of its lowest member), an external a place.
+-- A line gives a segment a place, or a place and the address at which its bytes are stored; a group a frame (none: that of its lowest member); an external a place.
 pub data Target : Type 0 where
   SegmentPlace : Placed → Target
+  StoredPlace : Placed → ℕ → Target
   GroupFrame : Option Frame → Target
   ExternalPlace : Placed → Target
 
--- What a line says: a place or a frame of its own; the address of a segment, in the frame that its name shares; or that a group is in the frame that its name shares.
+-- What a line says: a place or a frame of its own; the address of a segment, in the frame that its name shares, without or with an address at which it is stored; or
+-- that a group is in the frame that its name shares.
 pub data Told : Type 0 where
   Own : Target → Told
   SharedPlace : ℕ → Told
+  SharedStored : ℕ → ℕ → Told
   SharedFrame : Told
 
 pub data LinkEntry : Type 0 where
@@ -62,8 +65,32 @@ abbrev pub own_or : Option Target → Option Told → Option Told
 own_or (Some t) o = Some (Own t)
 own_or None o = o
 
+abbrev pub run_place : List (List ℕ) → Option Told
+run_place ws = own_or (option_map SegmentPlace (place_in ws)) (shared_place ws)
+
+-- A segment may be stored elsewhere than it runs: `address base selector at stored`, `address real at stored` or `address shared at stored`.
+abbrev pub is_at : List ℕ → Bool
+is_at w = bytes_eq w (codes "at")
+
+abbrev pub stored_at : Option Told → Option ℕ → Option Told
+stored_at (Some (Own (SegmentPlace p))) (Some s) = Some (Own (StoredPlace p s))
+stored_at (Some (SharedPlace a)) (Some s) = Some (SharedStored a s)
+stored_at _ _ = None
+
+abbrev pub stored_word : List ℕ → List ℕ → Option ℕ
+stored_word w s = if is_at w then hexadecimal 8 (digits_of s) else None
+
+abbrev pub stored_place : List (List ℕ) → Option Told
+stored_place (a ∷ b ∷ w ∷ s ∷ []) = stored_at (run_place (a ∷ b ∷ [])) (stored_word w s)
+stored_place (a ∷ b ∷ c ∷ w ∷ s ∷ []) = stored_at (run_place (a ∷ b ∷ c ∷ [])) (stored_word w s)
+stored_place _ = None
+
+abbrev pub told_or : Option Told → Option Told → Option Told
+told_or (Some t) o = Some t
+told_or None o = o
+
 abbrev pub segment_in : List (List ℕ) → Option Told
-segment_in ws = own_or (option_map SegmentPlace (place_in ws)) (shared_place ws)
+segment_in ws = told_or (run_place ws) (stored_place ws)
 
 abbrev pub group_in : List (List ℕ) → Option Told
 group_in ws = own_or (option_map GroupFrame (frame_in ws)) (shared_word ws)

@@ -1,5 +1,5 @@
 -- Definitions for the worked examples.
-use Rattle.std.specs.Prelude.{ℕ, List, [], ◌∷◌, Option, None, codes}
+use Rattle.std.specs.Prelude.{ℕ, List, [], ◌∷◌, map, Option, None, codes}
 use Rattle.std.specs.List.{join_with_byte}
 use Rattle.omf_placement.specs.declared.frame.Placed.{Placed}
 use Rattle.omf_records.specs.Values.{Rec, Header, Names, Segment}
@@ -25,4 +25,8 @@ three_segments = header (codes "m") ∷ record { kind = 0x96; contents = Names (
 
 -- What is given to segments alone.
 abbrev pub given_segments : List (Option Placed) → Sparse
-given_segments ps = record { segments = ps; groups = []; externals = [] }
+given_segments ps = record { segments = ps; stored = map (λ p. None) ps; groups = []; externals = [] }
+
+-- The same, with the addresses at which they are stored.
+abbrev pub given_stored : List (Option Placed) → List (Option ℕ) → Sparse
+given_stored ps ss = record { segments = ps; stored = ss; groups = []; externals = [] }

@@ -6,22 +6,25 @@ use Rattle.omf_records.specs.Inner.Seen.{map_ok}
 use Rattle.omf_check.specs.Tables.{segments, groups, externals}
 use Rattle.omf_placement.specs.declared.frame.Frame.{Frame}
 use Rattle.omf_placement.specs.declared.frame.Placed.{Placed}
-use Rattle.omf_linking.specs.Locator.Items.{Item, segment_place, group_frame, external_place, items_after}
+use Rattle.omf_linking.specs.Locator.Items.{Item, segment_place, stored_address, group_frame, external_place, items_after}
 use Rattle.omf_linking.specs.Locator.Keys.{count_from}
 use Rattle.omf_linking.specs.Locator.LinkEntries.{bad_line, link_lines}
 use Rattle.omf_linking.specs.declared.locator.fault.LineFault.TheVariants as why
 use Rattle.omf_linking.specs.declared.locator.fault.LocatorFault.{LocatorFault}
 use Rattle.omf_linking.specs.declared.locator.fault.LocatorFault.TheVariants as fault
 
--- For each entry of a module's tables, in index order: its place or its frame, if a line gives it one. A group's frame may be that of its lowest member.
+-- For each entry of a module's tables, in index order: its place or its frame, if a line gives it one. A group's frame may be that of its lowest member. For each
+-- segment also the address at which it is stored, if a line gives it one.
 pub record Sparse : Type 0 where
   pub segments : List (Option Placed)
+  pub stored : List (Option ℕ)
   pub groups : List (Option (Option Frame))
   pub externals : List (Option Placed)
 
 abbrev pub sparse_of : List Item → ℕ × List Rec → Sparse
 sparse_of items m = record {
   segments = map (segment_place items m.0) (count_from 1 (length (segments m.1)));
+  stored = map (stored_address items m.0) (count_from 1 (length (segments m.1)));
   groups = map (group_frame items m.0) (count_from 1 (length (groups m.1)));
   externals = map (external_place items m.0) (count_from 1 (length (externals m.1)));
 }

@@ -3,7 +3,7 @@
 ghost use Rattle.std.specs.Prelude.{◌≡◌, ◌∷◌, ◌==◌, ◌<◌, [], option_map, length, IfSome};
 ghost use Rattle.std.specs.List.{list_all, list_any, slice_split};
 ghost use Rattle.omf_placement.specs.Inner.EntryReading.{frame_of, real_of, words_of};
-ghost use Rattle.omf_linking.specs.Locator.LinkEntries.{class_after, classed_entry, decimal_of, entry_by, entry_of_parts, frame_in, group_in, has_comment, if_short, is_printed, is_shared, link_entry_on, name_entry, named_entry, number_of, numbered_entry, opens, place_in, segment_in, shared_place, shared_word, unnamed_entry, words_in};
+ghost use Rattle.omf_linking.specs.Locator.LinkEntries.{class_after, classed_entry, decimal_of, entry_by, entry_of_parts, frame_in, group_in, has_comment, if_short, is_printed, is_shared, link_entry_on, name_entry, named_entry, number_of, numbered_entry, opens, place_in, run_place, segment_in, shared_place, shared_word, stored_at, stored_place, stored_word, unnamed_entry, words_in};
 ghost use Rattle.omf_linking.specs.Inner.LineParsing.{key_seen, seen, told_seen, words_left};
 
 use omf_placement::cut::cut;
@@ -26,6 +26,13 @@ pub enum Key<'a> {
 pub enum Target {
     /// The place of a segment.
     Segment(Placed),
+    /// The place of a segment, and the address at which its bytes are stored.
+    Stored {
+        /// Where it runs.
+        place: Placed,
+        /// Where its first byte is stored.
+        address: u32,
+    },
     /// The frame of a group; none if it is that of its lowest member.
     Group(Option<Frame>),
     /// The place of an external.
@@ -39,6 +46,13 @@ pub enum Told {
     Own(Target),
     /// `S key address shared`: a segment is at this address, in the frame that its name and class share.
     SharedPlace(u32),
+    /// `S key address shared at stored`: the same, and its bytes are stored at another address.
+    SharedStored {
+        /// Where it runs.
+        address: u32,
+        /// Where its first byte is stored.
+        stored: u32,
+    },
     /// `G key shared`: a group is in the frame that its name shares.
     SharedFrame,
 }
@@ -170,13 +184,115 @@ fn shared_place(words: Option<&[u8]>) -> Option<Told>
     Some(Told::SharedPlace(hexadecimal(digits_of(address), 8)?))
 }
 
-/// Parses what an `S` line says: a place, or `address shared`.
-fn segment_in(words: Option<&[u8]>) -> Option<Told>
-    ensures { option_map told_seen result ≡ segment_in (words_left words.entry) }
+/// Parses where a segment runs: a place, or `address shared`.
+fn run_place(words: Option<&[u8]>) -> Option<Told>
+    ensures { option_map told_seen result ≡ run_place (words_left words.entry) }
 {
     match place_in(words) {
         Some(place) => Some(Told::Own(Target::Segment(place))),
         None => shared_place(words),
+    }
+}
+
+/// Returns what a line says of a segment, with the address at which it is stored.
+fn stored_at(told: Option<Told>, stored: Option<u32>) -> Option<Told>
+    ensures { option_map told_seen result ≡ stored_at (option_map told_seen told) stored }
+{
+    let told = told?;
+    let stored = stored?;
+    match told {
+        Told::Own(Target::Segment(place)) => Some(Told::Own(Target::Stored {
+            place,
+            address: stored,
+        })),
+        Told::SharedPlace(address) => Some(Told::SharedStored { address, stored }),
+        Told::Own(Target::Stored { .. }) => None,
+        Told::Own(Target::Group(_)) => None,
+        Told::Own(Target::External(_)) => None,
+        Told::SharedStored { .. } => None,
+        Told::SharedFrame => None,
+    }
+}
+
+/// Parses `at stored`: a word and a number.
+fn stored_word(word: &[u8], number: &[u8]) -> Option<u32>
+    ensures { result ≡ stored_word word.now number.now }
+{
+    if word == b"at".as_slice() {
+        hexadecimal(digits_of(number), 8)
+    } else {
+        None
+    }
+}
+
+/// Parses `address real`: two words.
+fn place_of_two(address: &[u8], second: &[u8]) -> Option<Placed>
+    ensures { result ≡ place_in (address.now ∷ second.now ∷ []) }
+{
+    if second == b"real".as_slice() {
+        real_of(digits_of(address))
+    } else {
+        None
+    }
+}
+
+/// Parses `address shared`: two words.
+fn shared_of_two(address: &[u8], second: &[u8]) -> Option<Told>
+    ensures { option_map told_seen result ≡ shared_place (address.now ∷ second.now ∷ []) }
+{
+    if !is_shared(second) {
+        return None;
+    }
+    Some(Told::SharedPlace(hexadecimal(digits_of(address), 8)?))
+}
+
+/// Parses two words that say where a segment runs: `address real` or `address shared`.
+fn run_of_two(address: &[u8], second: &[u8]) -> Option<Told>
+    ensures { option_map told_seen result ≡ run_place (address.now ∷ second.now ∷ []) }
+{
+    match place_of_two(address, second) {
+        Some(place) => Some(Told::Own(Target::Segment(place))),
+        None => shared_of_two(address, second),
+    }
+}
+
+/// Parses three words that say where a segment runs: `address base selector`.
+fn run_of_three(address: &[u8], base: &[u8], selector: &[u8]) -> Option<Told>
+    ensures { option_map told_seen result ≡ run_place (address.now ∷ base.now ∷ selector.now ∷ []) }
+{
+    let place = placed_of(digits_of(address), digits_of(base), digits_of(selector))?;
+    Some(Told::Own(Target::Segment(place)))
+}
+
+/// Parses where a segment runs and where it is stored: `address base selector at stored`, `address real at stored` or
+/// `address shared at stored`.
+fn stored_place(words: Option<&[u8]>) -> Option<Told>
+    ensures { option_map told_seen result ≡ stored_place (words_left words.entry) }
+{
+    let (first, more) = cut(words?, b' ');
+    let (second, more) = cut(more?, b' ');
+    let (third, more) = cut(more?, b' ');
+    let (fourth, more) = cut(more?, b' ');
+    let Some(more) = more else {
+        return stored_at(run_of_two(first, second), stored_word(third, fourth));
+    };
+    let (fifth, more) = cut(more, b' ');
+    if more.is_some() {
+        return None;
+    }
+    stored_at(
+        run_of_three(first, second, third),
+        stored_word(fourth, fifth),
+    )
+}
+
+/// Parses what an `S` line says: where a segment runs, and where it is stored.
+fn segment_in(words: Option<&[u8]>) -> Option<Told>
+    ensures { option_map told_seen result ≡ segment_in (words_left words.entry) }
+{
+    match run_place(words) {
+        Some(told) => Some(told),
+        None => stored_place(words),
     }
 }
 
@@ -331,7 +447,8 @@ fn named_entry<'a>(letter: &[u8], text: &'a [u8]) -> Option<LinkEntry<'a>>
 /// Parses a line: a letter, a key, and a place, a frame or `shared`; or nothing. `None` if it is none of these.
 ///
 /// - `M key`
-/// - `S key address base selector` or `S key address real`, and the same with `X`; `S key address shared`
+/// - `S key address base selector` or `S key address real`, and the same with `X`; `S key address shared`; of a segment each also with
+///   `at stored` at its end
 /// - `G key base selector`, `G key real` or `G key shared`
 ///
 /// A key is `"NAME"`, `"NAME" "CLASS"` or `#N`. From a `;` outside of names on a line is a comment.

@@ -55,6 +55,7 @@ fn kind_of(target: Target) -> Kind
 {
     match target {
         Target::Segment(_) => Kind::Segment,
+        Target::Stored { .. } => Kind::Segment,
         Target::Group(_) => Kind::Group,
         Target::External(_) => Kind::External,
     }
@@ -67,6 +68,7 @@ fn told_kind(told: Told) -> Kind
     match told {
         Told::Own(target) => kind_of(target),
         Told::SharedPlace(_) => Kind::Segment,
+        Told::SharedStored { .. } => Kind::Segment,
         Told::SharedFrame => Kind::Group,
     }
 }

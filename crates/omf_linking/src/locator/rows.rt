@@ -4,8 +4,8 @@ ghost use Rattle.std.specs.Prelude.{◌≡◌, [], ◌∷◌, codes, Some, None,
 ghost use Rattle.omf_reloc.specs.Rows.{at, frame};
 ghost use Rattle.omf_reloc.specs.declared.fault.Kind.TheVariants as kinds;
 ghost use Rattle.omf_linking.specs.Locator.Keys.{entry_named, module_named};
-ghost use Rattle.omf_linking.specs.Locator.LinkEntries.{link_entry_on, Named, OfClass, Numbered, SegmentPlace, GroupFrame, ExternalPlace, Own, SharedPlace, SharedFrame, Blank, Opens, Gives};
-ghost use Rattle.omf_linking.specs.Locator.Rows.{given_segments, lines, named_only, three_segments};
+ghost use Rattle.omf_linking.specs.Locator.LinkEntries.{link_entry_on, Named, OfClass, Numbered, SegmentPlace, StoredPlace, GroupFrame, ExternalPlace, Own, SharedPlace, SharedStored, SharedFrame, Blank, Opens, Gives};
+ghost use Rattle.omf_linking.specs.Locator.Rows.{given_segments, given_stored, lines, named_only, three_segments};
 ghost use Rattle.omf_linking.specs.Locator.Sparse.{sparse};
 ghost use Rattle.omf_linking.specs.declared.locator.fault.LineFault.TheVariants as why;
 ghost use Rattle.omf_linking.specs.declared.locator.fault.LocatorFault.TheVariants.{Line};
@@ -22,6 +22,9 @@ pub fn lines_of_a_link()
     ensures external { link_entry_on (codes "X #12 46C 400 40") ≡ Some (Gives (Numbered 12) (Own (ExternalPlace (at 0x46C 0x400 0x40)))) }
     ensures shared { link_entry_on (codes "S \"_TEXT\" 7C10 shared ; x") ≡ Some (Gives (Named (codes "_TEXT")) (SharedPlace 0x7C10)) }
     ensures shared_group { link_entry_on (codes "G #1 shared") ≡ Some (Gives (Numbered 1) SharedFrame) }
+    ensures stored { link_entry_on (codes "S \"_DATA\" 500 50 5 at FF000") ≡ Some (Gives (Named (codes "_DATA")) (Own (StoredPlace (at 0x500 0x50 5) 0xFF000))) }
+    ensures stored_real { link_entry_on (codes "S #2 505 real at 0FF00H ; x") ≡ Some (Gives (Numbered 2) (Own (StoredPlace (at 0x505 0x500 0x50) 0xFF00))) }
+    ensures stored_shared { link_entry_on (codes "S #2 600 shared at FF100") ≡ Some (Gives (Numbered 2) (SharedStored 0x600 0xFF100)) }
     ensures nothing { link_entry_on (codes "; S \"a\"") ≡ Some Blank }
 {}
 
@@ -39,6 +42,11 @@ pub fn lines_that_are_none()
     ensures by_order { link_entry_on (codes "S 7C00 0 0") ≡ None }
     ensures shared_external { link_entry_on (codes "X #1 46C shared") ≡ None }
     ensures shared_more { link_entry_on (codes "S #1 7C00 shared 0") ≡ None }
+    ensures stored_nowhere { link_entry_on (codes "S #1 500 real at") ≡ None }
+    ensures stored_to { link_entry_on (codes "S #1 500 real to 600") ≡ None }
+    ensures stored_more { link_entry_on (codes "S #1 500 50 5 at 600 0") ≡ None }
+    ensures stored_group { link_entry_on (codes "G #1 real at 600") ≡ None }
+    ensures stored_external { link_entry_on (codes "X #1 500 real at 600") ≡ None }
     ensures control { link_entry_on (codes "M \"a\tb\"") ≡ None }
 {}
 
@@ -66,5 +74,9 @@ pub fn what_texts_give()
     ensures opened { sparse (three_segments ∷ []) (lines (codes "M #1" ∷ codes "M \"m\"" ∷ [])) ≡ Err (Line 2 why.Twice) }
     ensures unshared { sparse (three_segments ∷ []) (lines (codes "M #1" ∷ codes "S #1 10 20 2" ∷ codes "S #3 30 shared" ∷ [])) ≡ Err (Line 3 why.Unshared) }
     ensures shared { sparse (three_segments ∷ three_segments ∷ []) (lines (codes "M #2" ∷ codes "S #1 10 20 2" ∷ codes "S #3 30 10 1" ∷ codes "M #1" ∷ codes "S #3 50 shared" ∷ codes "S #1 40 shared" ∷ [])) ≡ Ok (given_segments (Some (at 0x40 0x20 2) ∷ None ∷ Some (at 0x50 0x10 1) ∷ []) ∷ given_segments (Some (at 0x10 0x20 2) ∷ None ∷ Some (at 0x30 0x10 1) ∷ []) ∷ []) }
+    ensures stored { sparse (three_segments ∷ []) (lines (codes "M #1" ∷ codes "S #1 10 20 2 at 8000" ∷ codes "S #2 30 20 2" ∷ codes "S #3 40 20 2 at 9000" ∷ [])) ≡ Ok (given_stored (Some (at 0x10 0x20 2) ∷ Some (at 0x30 0x20 2) ∷ Some (at 0x40 0x20 2) ∷ []) (Some 0x8000 ∷ None ∷ Some 0x9000 ∷ []) ∷ []) }
+    ensures stored_shared { sparse (three_segments ∷ three_segments ∷ []) (lines (codes "M #1" ∷ codes "S #1 10 20 2 at 8000" ∷ codes "M #2" ∷ codes "S #1 40 shared at 9000" ∷ codes "S #3 50 30 3" ∷ [])) ≡ Ok (given_stored (Some (at 0x10 0x20 2) ∷ None ∷ None ∷ []) (Some 0x8000 ∷ None ∷ None ∷ []) ∷ given_stored (Some (at 0x40 0x20 2) ∷ None ∷ Some (at 0x50 0x30 3) ∷ []) (Some 0x9000 ∷ None ∷ None ∷ []) ∷ []) }
+    ensures stored_again { sparse (three_segments ∷ []) (lines (codes "M #1" ∷ codes "S #2 10 20 2 at 8000" ∷ codes "S #2 10 20 2" ∷ [])) ≡ Err (Line 3 why.Twice) }
+    ensures again_stored { sparse (three_segments ∷ []) (lines (codes "M #1" ∷ codes "S #2 10 20 2" ∷ codes "S #2 10 20 2 at 8000" ∷ [])) ≡ Err (Line 3 why.Twice) }
     ensures no_entry { sparse (three_segments ∷ []) (lines (codes "M #2" ∷ codes "q" ∷ [])) ≡ Err (Line 2 why.NotUnderstood) }
 {}

@@ -1,6 +1,6 @@
 //! What a text gives the entries of a module.
 
-ghost use Rattle.std.specs.Prelude.{◌≡◌, ◌<◌, ◌^◌, [], ℕ, List, IfOk, None, length, option_and_then, replicate};
+ghost use Rattle.std.specs.Prelude.{◌≡◌, ◌-◌, ◌<◌, ◌^◌, [], ℕ, List, IfOk, None, Some, false, length, option_and_then, replicate, set, true};
 ghost use Rattle.omf_check.specs.Tables.{entry};
 ghost use Rattle.omf_check.specs.Module.{recs_of};
 ghost use Rattle.omf_linking.specs.Inner.LineParsing.{target_seen};
@@ -18,19 +18,21 @@ use std::marker::Model;
 #[derive(Drop)]
 pub struct Sparse {
     segments: Vec<Option<Placed>>,
+    /// The addresses at which the segments are stored.
+    stored: Vec<Option<u32>>,
     groups: Vec<Option<Option<Frame>>>,
     externals: Vec<Option<Placed>>,
 }
 
 impl Model for Sparse {
-    ghost use Rattle.std.specs.Prelude.{◌<◌, ◌^◌, length};
+    ghost use Rattle.std.specs.Prelude.{◌≡◌, ◌<◌, ◌^◌, length};
     ghost use Rattle.omf_linking.specs.Locator.Sparse.{Sparse as Seen};
 
     ghost Value = { Seen };
 
-    ghost view = { λ s. record { segments = s.segments.items; groups = s.groups.items; externals = s.externals.items } };
+    ghost view = { λ s. record { segments = s.segments.items; stored = s.stored.items; groups = s.groups.items; externals = s.externals.items } };
 
-    ghost invariant = { λ s. (length s.segments.items < 2 ^ 16) × (length s.groups.items < 2 ^ 16) × (length s.externals.items < 2 ^ 16) };
+    ghost invariant = { λ s. (length s.segments.items < 2 ^ 16) × (length s.stored.items ≡ length s.segments.items) × (length s.groups.items < 2 ^ 16) × (length s.externals.items < 2 ^ 16) };
 }
 
 /// Returns a table of `count` places that are not given.
@@ -43,6 +45,17 @@ fn no_places(alloc: Global, count: u16) -> Result<Vec<Option<Placed>>, AllocErro
         places.push(None)?;
     }
     Ok(places)
+}
+
+/// Returns a table of `count` addresses that are not given.
+fn no_addresses(alloc: Global, count: u16) -> Result<Vec<Option<u32>>, AllocError>
+    ensures { IfOk result (λ v. v.items ≡ replicate count None) }
+{
+    let mut addresses = Vec::new(alloc);
+    for _index in 0..count {
+        addresses.push(None)?;
+    }
+    Ok(addresses)
 }
 
 /// Returns a table of `count` frames that are not given.
@@ -69,6 +82,28 @@ fn put_place(places: &mut Vec<Option<Placed>>, index: u32, place: Placed) -> boo
     true
 }
 
+/// Sets the place with an index, from 1, and the address at which it is stored. Returns whether there was none.
+fn put_stored(
+    places: &mut Vec<Option<Placed>>,
+    stored: &mut Vec<Option<u32>>,
+    index: u32,
+    place: Placed,
+    address: u32,
+) -> bool
+    requires { length stored.old.items ≡ length places.old.items }
+    ensures place { IsPut index place places.old.items places.new.items result }
+    ensures stored { result ≡ true → stored.new.items ≡ set stored.old.items (index - 1) (Some address) }
+    ensures same { result ≡ false → stored.new.items ≡ stored.old.items }
+{
+    let index = index as usize;
+    if index == 0 || index > places.len() || places[index - 1].is_some() {
+        return false;
+    }
+    places[index - 1] = Some(place);
+    stored[index - 1] = Some(address);
+    true
+}
+
 /// Sets the frame with an index, from 1. Returns whether there was none.
 fn put_frame(frames: &mut Vec<Option<Option<Frame>>>, index: u32, frame: Option<Frame>) -> bool
     ensures { IsPut index frame frames.old.items frames.new.items result }
@@ -88,6 +123,7 @@ impl Sparse {
     {
         Ok(Sparse {
             segments: no_places(alloc, module.segments())?,
+            stored: no_addresses(alloc, module.segments())?,
             groups: no_frames(alloc, module.groups())?,
             externals: no_places(alloc, module.externals())?,
         })
@@ -115,6 +151,13 @@ impl Sparse {
         &self.segments
     }
 
+    /// Returns the addresses at which the segments are stored, where a text gives one.
+    pub fn stored(&self) -> &[Option<u32>]
+        ensures { result.now ≡ self.now.stored }
+    {
+        &self.stored
+    }
+
     /// Returns the frames of the groups: `Some(None)` is that of the lowest member.
     pub fn groups(&self) -> &[Option<Option<Frame>>]
         ensures all { result.now ≡ self.now.groups }
@@ -137,6 +180,9 @@ impl Sparse {
     {
         match target {
             Target::Segment(place) => put_place(&mut self.segments, index, place),
+            Target::Stored { place, address } => {
+                put_stored(&mut self.segments, &mut self.stored, index, place, address)
+            }
             Target::Group(frame) => put_frame(&mut self.groups, index, frame),
             Target::External(place) => put_place(&mut self.externals, index, place),
         }

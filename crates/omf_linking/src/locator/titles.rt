@@ -1,6 +1,6 @@
 //! The frames that names share: that of the first line for a segment of a name and class, or for a group of a name.
 
-ghost use Rattle.std.specs.Prelude.{◌≡◌, ◌∷◌, ◌++◌, [], IfOk, List, OnOk, Option, Some, ℕ, filter_map, flat_map, slice_get, unwrap_or};
+ghost use Rattle.std.specs.Prelude.{◌≡◌, ◌∷◌, ◌++◌, [], IfOk, List, None, OnOk, Option, Some, ℕ, filter_map, flat_map, slice_get, unwrap_or};
 ghost use Rattle.omf_check.specs.Module.{recs_of};
 ghost use Rattle.omf_records.specs.Inner.Seen.{map_ok};
 ghost use Rattle.omf_records.specs.Values.{Rec as Records};
@@ -8,7 +8,7 @@ ghost use Rattle.omf_placement.specs.Quoted.{escaped};
 ghost use Rattle.omf_placement.specs.declared.frame.Frame.{Frame as Base};
 ghost use Rattle.omf_linking.specs.Inner.LineParsing.{target_seen, told_seen};
 ghost use Rattle.omf_linking.specs.Inner.Titling.{AreTitles, IsFrameTable, title_text};
-ghost use Rattle.omf_linking.specs.Locator.LinkEntries.{GroupFrame, SegmentPlace};
+ghost use Rattle.omf_linking.specs.Locator.LinkEntries.{GroupFrame};
 ghost use Rattle.omf_linking.specs.Locator.Drafted.{is_same, is_same_part};
 ghost use Rattle.omf_linking.specs.Locator.Items.{Given, Item, Title, group_given, group_title, in_quotes, segment_framed, segment_title, settled, shared_frame};
 
@@ -189,6 +189,15 @@ impl Titles {
                 Some(frame) => Ok(Ok(Target::Segment(Placed { address, frame }))),
                 None => Ok(Err(LineFault::Unshared)),
             },
+            Told::SharedStored { address, stored } => {
+                match self.segment(alloc, module, index)? {
+                    Some(frame) => Ok(Ok(Target::Stored {
+                        place: Placed { address, frame },
+                        address: stored,
+                    })),
+                    None => Ok(Err(LineFault::Unshared)),
+                }
+            }
             Told::SharedFrame => match self.group(alloc, module, index)? {
                 Some(frame) => Ok(Ok(Target::Group(Some(frame)))),
                 None => Ok(Err(LineFault::Unshared)),
@@ -204,7 +213,7 @@ impl Titles {
         index: u16,
         place: Placed,
     ) -> Result<(), AllocError>
-        ensures { OnOk result ((ms : List (List Records)) (items : List Item) (j : ℕ) → slice_get ms j ≡ Some (recs_of «module».now.bytes) → AreTitles ms self.old items → AreTitles ms self.new (items ++ Given j index (SegmentPlace place) ∷ [])) }
+        ensures { OnOk result ((ms : List (List Records)) (items : List Item) (j : ℕ) (x : Item) → slice_get ms j ≡ Some (recs_of «module».now.bytes) → segment_framed x ≡ Some ((j, index), Some place.frame) → group_given x ≡ None → AreTitles ms self.old items → AreTitles ms self.new (items ++ x ∷ [])) }
     {
         let title = segment_title(alloc, module, index)?;
         self.segments.add(title, Some(place.frame))?;
@@ -238,6 +247,7 @@ impl Titles {
     {
         match target {
             Target::Segment(place) => self.note_segment(alloc, module, index, place),
+            Target::Stored { place, .. } => self.note_segment(alloc, module, index, place),
             Target::Group(frame) => self.note_group(alloc, module, index, frame),
             Target::External(_) => Ok(()),
         }

@@ -2,8 +2,8 @@
 
 use super::module_of;
 use omf_check::Checked;
-use omf_linking::{LinkFault, link};
-use omf_placement::{DeriveFault, Frame, Placed, Placement};
+use omf_linking::{LinkFault, LinkedPlaces, link};
+use omf_placement::{DeriveFault, Frame, Placed};
 use omf_samples::{END, EXTERNAL, GROUP, HEADER, LOCAL_EXTERNAL, NAMES, PUBLIC, SEGMENT};
 use std::alloc::Global;
 
@@ -99,9 +99,9 @@ static CASES: [Case; 6] = [
 ];
 
 /// External 1 of the first placement, or the fault.
-fn answer_in(linked: Result<Vec<Placement>, LinkFault>) -> Answer {
+fn answer_in(linked: Result<LinkedPlaces, LinkFault>) -> Answer {
     match linked {
-        Ok(placements) => match placements.first()?.external(1) {
+        Ok(linked) => match linked.placements.first()?.external(1) {
             Some(place) => Some(Ok(place)),
             None => None,
         },

@@ -5,8 +5,8 @@ use omf_check::Checked;
 use omf_frame::faulty::{Script, Then};
 use omf_image::Image;
 use omf_linking::{
-    LinkFault, Relocated, laid_together, link, memory_image, modules_in, read_all, relocate_all,
-    start_of,
+    LinkFault, LinkedPlaces, Relocated, laid_together, link, memory_image, modules_in, read_all,
+    relocate_all, start_of,
 };
 use omf_placement::Placement;
 use omf_samples::{BadHex, HEADER, NAMES, joined};
@@ -68,7 +68,7 @@ fn memory_at(
 }
 
 /// The placements that a text gives modules.
-fn linked(alloc: Global, modules: &[Checked], text: &[u8]) -> Result<Vec<Placement>, LinkFault> {
+fn linked(alloc: Global, modules: &[Checked], text: &[u8]) -> Result<LinkedPlaces, LinkFault> {
     if modules.len() > 8 {
         return Err(LinkFault::Read);
     }
@@ -77,8 +77,8 @@ fn linked(alloc: Global, modules: &[Checked], text: &[u8]) -> Result<Vec<Placeme
 
 /// The memory and the start of modules that a text links.
 fn memory_by(alloc: Global, modules: &[Checked], text: &[u8]) -> Result<Memory, LinkFault> {
-    let placements = linked(alloc, modules, text)?;
-    memory_at(alloc, modules, &placements)
+    let linked = linked(alloc, modules, text)?;
+    memory_at(alloc, modules, &linked.placements)
 }
 
 /// The memory and the start of the modules of an input.
@@ -91,20 +91,22 @@ fn memory_of(alloc: Global, input: &[u8]) -> Result<Memory, LinkFault> {
 fn together_at(
     alloc: Global,
     modules: &[Checked],
-    placements: &[Placement],
+    linked: &LinkedPlaces,
 ) -> Result<Memory, LinkFault> {
-    if modules.len() > 8 || placements.len() != modules.len() {
+    let placements = &linked.placements;
+    let stored = &linked.stored;
+    if modules.len() > 8 || placements.len() != modules.len() || stored.len() != modules.len() {
         return Err(LinkFault::Read);
     }
-    let together = laid_together(alloc, modules, placements)?;
+    let together = laid_together(alloc, modules, placements, stored)?;
     Ok((together.memory, together.start))
 }
 
 /// The same, of the modules of an input.
 fn together_of(alloc: Global, input: &[u8]) -> Result<Memory, LinkFault> {
     let (modules, text) = modules_in(alloc, ANY, input)?;
-    let placements = linked(alloc, &modules, text)?;
-    together_at(alloc, &modules, &placements)
+    let linked = linked(alloc, &modules, text)?;
+    together_at(alloc, &modules, &linked)
 }
 
 /// Whether a memory is one run, and the start is that of the main module; or a growth is refused.

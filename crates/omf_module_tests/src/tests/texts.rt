@@ -149,8 +149,8 @@ fn given(alloc: Global, modules: &[Checked; 1], text: &str) -> Given {
 
 /// The places of a module that a text links.
 fn linked(alloc: Global, modules: &[Checked; 1], text: &str) -> Linked {
-    let placements = link(alloc, modules, text.as_bytes())?;
-    Ok(placed_of(&placements))
+    let linked = link(alloc, modules, text.as_bytes())?;
+    Ok(placed_of(&linked.placements))
 }
 
 /// Whether a text gives a module what it is to give, or a growth is refused and it `may_fail`.
@@ -208,6 +208,27 @@ fn shares_a_frame(alloc: Global, may_fail: bool) -> bool {
     }
 }
 
+/// Whether a segment runs at its place and is stored at another, and the next one is stored where it runs; or a growth is refused and it
+/// `may_fail`.
+fn is_stored_elsewhere(alloc: Global, may_fail: bool) -> bool {
+    let Some(module) = module_of(alloc, ROWS) else {
+        return may_fail;
+    };
+    let text = b"M #1\nS #2 20 1234 5 at 8000\nS #1 10 shared\nX #1 30 0 0".as_slice();
+    match link(alloc, &[module], text) {
+        Ok(linked) => {
+            placed_of(&linked.placements) == (Some(0x10), Some(0x20), Some(0x30))
+                && placed_of(&linked.stored) == (Some(0x10), Some(0x8000), None)
+        }
+        Err(_) => may_fail,
+    }
+}
+
+#[test]
+fn a_segment_is_stored_elsewhere(rt: HostRuntime) {
+    assert_eq!(rt; is_stored_elsewhere(rt.alloc(), false), true);
+}
+
 #[test]
 fn a_segment_shares_the_frame_of_its_name(rt: HostRuntime) {
     assert_eq!(rt; shares_a_frame(rt.alloc(), false), true);
@@ -222,4 +243,5 @@ fn a_text_places_entries_by_names_and_numbers(rt: HostRuntime) {
 #[test]
 fn a_refused_growth_gives_no_other_entry(rt: HostRuntime) {
     assert_eq!(rt; first_wrong(rt.alloc(), true), None);
+    assert_eq!(rt; is_stored_elsewhere(rt.alloc(), true), true);
 }

@@ -9,7 +9,7 @@ use Rattle.omf_placement.specs.Inner.Derived.{derived}
 use Rattle.omf_placement.specs.Placement.{Places}
 use Rattle.omf_placement.specs.Weak.{with_weak}
 use Rattle.omf_linking.specs.Locator.Sparse.{Sparse}
-use Rattle.omf_linking.specs.Placing.{given_of, linked, places_of}
+use Rattle.omf_linking.specs.Placing.{all_stored, given_of, linked, places_of, stored_in}
 use Rattle.omf_linking.proofs.EachLaws.{typed_length}
 use Rattle.omf_linking.proofs.LinkLaws.{derived_as_many, external-outcome, linked-as, some-typed}
 use Rattle.omf_linking.proofs.PlacesLaws.{all-have-places, text-tables}
@@ -42,6 +42,27 @@ returns-clause-each c =
     let fit = all-have-places 0 ms ss pls (text-tables ms c.args.text.now ss c.in_ok-sparse.ensures.given) placed in
     derived_as_many c.args.modules.now c.deref-5.result.now c.in_ok-placements.placements.items c.deref-6.result.now
     (ap length c.deref-5.ensures.value ∙ AllZip-long IsPlaceOf ms pls fit ∙ typed_length c.args.modules.now) c.in_ok-placements.ensures
+
+pub all_stored-requires : goal.all_stored-requires
+all_stored-requires c =
+    let ms = typed_modules c.args.modules.now in
+    let ss = c.in_ok-sparse.sparse.items in
+    let pls = c.in_ok-places.places.items in
+    let placed : places_of 0 (zip ms ss) ≡ Ok pls = subst (λ (xs : List Sparse). places_of 0 (zip ms xs) ≡ Ok pls) c.deref.ensures.value c.in_ok-places.ensures in
+    let fit = all-have-places 0 ms ss pls (text-tables ms c.args.text.now ss c.in_ok-sparse.ensures.given) placed in
+    let many : length c.in_ok-placements.placements.items ≡ length c.args.modules.now
+    = derived_as_many c.args.modules.now c.deref-5.result.now c.in_ok-placements.placements.items c.deref-6.result.now
+    (ap length c.deref-5.ensures.value ∙ AllZip-long IsPlaceOf ms pls fit ∙ typed_length c.args.modules.now) c.in_ok-placements.ensures in
+    ap length c.deref-8.ensures.value ∙ many ∙ sym (ap length c.deref-7.ensures.value ∙ c.in_ok-sparse.ensures.each)
+
+pub returns-clause-each_stored : goal.returns-clause-each_stored
+returns-clause-each_stored c = c.in_ok-stored.ensures.each ∙ ap length c.deref-7.ensures.value ∙ c.in_ok-sparse.ensures.each
+
+pub returns-clause-stored : goal.returns-clause-stored
+returns-clause-stored c =
+    let ms = typed_modules c.args.modules.now in
+    c.in_ok-stored.ensures.all ∙ ap₂ (λ (ss : List Sparse) (pls : List Places). all_stored ss pls) c.deref-7.ensures.value c.deref-8.ensures.value
+    ∙ sym (ap (λ r. stored_in r c.in_ok-placements.placements.items) c.in_ok-sparse.ensures.given)
 
 pub returns-in_err-placements-clause-placements : goal.returns-in_err-placements-clause-placements
 returns-in_err-placements-clause-placements c =

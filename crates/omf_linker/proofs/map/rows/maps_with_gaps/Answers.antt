@@ -6,6 +6,10 @@ pub returns-clause-gaps : goal.returns-clause-gaps
 unfolding digits
 returns-clause-gaps c = refl
 
+pub returns-clause-stored : goal.returns-clause-stored
+unfolding digits
+returns-clause-stored c = refl
+
 pub returns-clause-by_hand : goal.returns-clause-by_hand
 unfolding digits
 returns-clause-by_hand c = refl

@@ -1,4 +1,4 @@
-use Rattle.std.proofs.Common.{List, ◌≡◌, ◌≤◌, ◌+◌, ◌∙◌, ◌++◌, ◌∷◌, [], ap, ap₂, append-nil, arith, drop, length, rules, subst, sym, take, true}
+use Rattle.std.proofs.Common.{List, ◌≡◌, ◌≤◌, ◌+◌, ◌∙◌, ◌++◌, [], ap, ap₂, append-nil, arith, drop, length, rules, sym, take, true}
 use Rattle.std.specs.Prelude.{Some, slice_get}
 use Rattle.std.proofs.lemmas.List.{drop_all}
 use Rattle.omf_check.specs.Module.{records_in}
@@ -7,7 +7,6 @@ use Rattle.omf_check.specs.WellFormed.{recs}
 use Rattle.omf_placement.specs.declared.frame.Frame.{Frame}
 use Rattle.omf_placement.proofs.ListLaws.{entry-at}
 use Rattle.omf_linking.specs.Inner.Sharing.{shared_after}
-use Rattle.omf_linking.specs.Inner.Titling.{IsFrameTable}
 use Rattle.omf_linking.specs.Locator.Drafted.{groups_framed}
 use Rattle.omf_linking.specs.Locator.Items.{in_quotes, group_title}
 use Rattle.omf_linking.proofs.KeyLaws.{all-in}

@@ -5,13 +5,11 @@ use Rattle.std.proofs.lemmas.Option.{slice_get-get_or}
 use Rattle.std.proofs.lemmas.Slice.Zip.{AllZip-long}
 use Rattle.omf_check.specs.Module.{records_in, typed_modules}
 use Rattle.omf_check.specs.WellFormed.{recs}
-use Rattle.omf_records.specs.Values.{Rec}
-use Rattle.omf_placement.specs.Placement.{Places}
 use Rattle.omf_placement.specs.declared.frame.Frame.{Frame}
 use Rattle.omf_placement.specs.declared.frame.Placed.{Placed}
 use Rattle.omf_placement.proofs.ListLaws.{all-mapped, more-mapped, next-at}
 use Rattle.omf_linking.specs.Inner.Sharing.{shares_seen}
-use Rattle.omf_linking.specs.Locator.Drafted.{HasEntries, Shared, all_groups, all_parts, all_shared, is_part, shared_by, sharing_of}
+use Rattle.omf_linking.specs.Locator.Drafted.{HasEntries, all_groups, all_parts, all_shared, is_part, shared_by, sharing_of}
 use Rattle.omf_linking.specs.Locator.Items.{group_title, segment_title}
 use Rattle.omf_linking.proofs.SharingLaws.{Entered, all-split, clear-more, entered, groups-zipped, groups_of, has-at, more-so-far, none-entered, none-so-far, segments_of, shares-are, typed-length, typed-slice}
 use Rattle.omf_linking.proofs.locator.shares.shares_of.Goals as goal
