@@ -53,15 +53,16 @@ fn push_interval(closed: &mut Vec<ClosedByte>, interval: Interval<'_>) -> Result
     Ok(())
 }
 
-/// The closed bytes of a segment with these intervals, in ascending order of offset.
+/// The closed bytes of a segment with these intervals, in ascending order of offset. There is room for `room` of them at once.
 pub(crate) fn closed_bytes(
     alloc: Global,
     intervals: &[Interval<'_>],
+    room: usize,
 ) -> Result<Vec<ClosedByte>, AllocError>
     requires { All IsWhole intervals.now }
     ensures { IfOk result (λ v. v.items ≡ flat_map closed_in intervals.now) }
 {
-    let mut closed = Vec::new(alloc);
+    let mut closed = Vec::with_capacity(alloc, room)?;
     for interval in intervals {
         push_interval(&mut closed, *interval)?;
     }

@@ -36,10 +36,10 @@ pub(crate) fn begun<'a>(
         least,
         selectors: program.frames()?,
         shapes,
-        parts: Vec::new(alloc),
-        firsts: Vec::new(alloc),
+        parts: Vec::with_capacity(alloc, modules.len())?,
+        firsts: Vec::with_capacity(alloc, modules.len())?,
         names: Names::new(alloc),
-        fixes: Vec::new(alloc),
+        fixes: Vec::with_capacity(alloc, modules.len())?,
         groups: BTreeMap::new(alloc),
         queue: Vec::new(alloc),
     };
@@ -92,10 +92,10 @@ impl<'a> Search<'a> {
 
     /// Puts the segment of a module's start at the program's start.
     fn seed_start(&mut self, number: usize, module: &Checked) -> Result<(), AllocError> {
-        let (Some((selector, offset)), Some((segment, within))) = (
-            self.program.start,
-            start_of(module),
-        ) else {
+        let Some((selector, offset)) = self.program.start else {
+            return Ok(());
+        };
+        let Some((segment, within)) = start_of(module) else {
             return Ok(());
         };
         let frame = u32::from(selector).wrapping_mul(16);
@@ -275,6 +275,10 @@ fn push_candidate(
     ensures { OnOk result (candidates.new.items ≡ candidates.old.items ++ option_to_list candidate) }
 {
     if let Some(candidate) = candidate {
+        // Most modules have one.
+        if candidates.is_empty() {
+            candidates.reserve_exact(1)?;
+        }
         candidates.push(candidate)?;
     }
     Ok(())
@@ -376,7 +380,7 @@ fn verdicts(
     requires { AllZip (HasShapes ended.program.now ended.most) modules.now shapes.now }
     ensures { IfOk result (λ v. AllZip (IsTold ended.entry.program.now ended.entry.most) modules.now v.items) }
 {
-    let mut verdicts = Vec::new(ended.search.alloc);
+    let mut verdicts = Vec::with_capacity(ended.search.alloc, modules.len())?;
     for (number, module) in modules.iter().enumerate() {
         let own = shapes[number].as_slice();
         verdicts.push(verdict(ended, number, module, own)?)?;

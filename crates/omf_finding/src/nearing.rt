@@ -12,7 +12,7 @@ use crate::closed::{ClosedByte, closed_bytes};
 use crate::found::segment_count;
 use crate::patterning::{Interval, Pattern, marked_pattern};
 use crate::program::Program;
-use crate::shapes::{Rare, address_for, rare_at};
+use crate::shapes::{Rare, address_for, count_closed, rare_at};
 use crate::windows::Windows;
 use omf_check::Checked;
 use std::alloc::{AllocError, Global};
@@ -228,7 +228,7 @@ impl<'a> Indexed<'a> {
         requires whole { All IsWhole intervals.now }
         ensures { IfOk result (λ r. (byte : ℕ → Option PatternByte) → AreIntervals byte intervals.now → IsNearOf byte self.now.program.now most segment r) }
     {
-        let closed = closed_bytes(alloc, intervals)?;
+        let closed = closed_bytes(alloc, intervals, count_closed(intervals))?;
         let addresses = self.tried(alloc, intervals)?;
         let Some(place) = best_of(self.program, &addresses, &closed, most) else {
             return Ok(None);

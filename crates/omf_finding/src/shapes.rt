@@ -1,6 +1,6 @@
 //! The segments of modules, and the places of a program where their closed bytes are.
 
-ghost use Rattle.std.specs.Prelude.{◌≡◌, ◌⊎◌, ◌+◌, ◌<◌, ◌≤◌, ◌^◌, ◌==◌, ℕ, All, length, not, true, Option, None, IfOk, IfSome};
+ghost use Rattle.std.specs.Prelude.{◌≡◌, ◌⊎◌, ◌+◌, ◌++◌, ◌∷◌, [], ◌<◌, ◌≤◌, ◌^◌, ◌==◌, ℕ, All, length, not, true, Option, None, IfOk, IfSome, OnOk};
 ghost use Rattle.std.specs.List.{AllZip};
 ghost use Rattle.omf_finding.specs.Finding.{IsCut};
 ghost use Rattle.omf_finding.specs.Inner.Walking.{byte_in};
@@ -250,7 +250,7 @@ fn closed_in(interval: Interval<'_>) -> usize {
 }
 
 /// The number of closed bytes.
-fn count_closed(intervals: &[Interval<'_>]) -> usize {
+pub(crate) fn count_closed(intervals: &[Interval<'_>]) -> usize {
     let mut closed: usize = 0;
     for interval in intervals {
         closed = closed.saturating_add(closed_in(*interval));
@@ -267,6 +267,17 @@ fn extent(intervals: &[Interval<'_>]) -> (u32, u64) {
         end = end.max(u64::from(interval.first).saturating_add(interval.values.len() as u64));
     }
     (start, end)
+}
+
+/// Appends a place. The first one takes memory for all that there may be.
+fn push_place(places: &mut Vec<u32>, address: u32, room: usize) -> Result<(), AllocError>
+    ensures { OnOk result (places.new.items ≡ places.old.items ++ address ∷ []) }
+{
+    if places.is_empty() {
+        places.reserve_exact(room)?;
+    }
+    places.push(address)?;
+    Ok(())
 }
 
 /// A program, with an index of its windows.
@@ -314,6 +325,7 @@ impl<'a> Indexed<'a> {
     {
         let mut places = Vec::new(alloc);
         let first = self.windows.first(rare.key);
+        let room = self.most.min(rare.count as usize);
         for k in 0..MOST_TRIED {
             match self.tried(intervals, rare, first, k) {
                 Tried::End => return Ok((places, false)),
@@ -322,7 +334,7 @@ impl<'a> Indexed<'a> {
                     if places.len() >= self.most {
                         return Ok((places, true));
                     }
-                    places.push(address)?;
+                    push_place(&mut places, address, room)?;
                 }
             }
         }
@@ -358,7 +370,7 @@ impl<'a> Indexed<'a> {
                 })
             }
             None => {
-                let few = closed_bytes(alloc, intervals)?;
+                let few = closed_bytes(alloc, intervals, closed)?;
                 Ok(Shape {
                     segment,
                     closed,
@@ -384,7 +396,7 @@ impl<'a> Indexed<'a> {
         requires marked { IsMarked pattern.now }
         ensures { IfOk result (λ v. AreShapes (byte_in pattern.now) self.now.program.now.bytes.items self.now.program.now.base self.now.most count v.items) }
     {
-        let mut shapes = Vec::new(alloc);
+        let mut shapes = Vec::with_capacity(alloc, usize::from(count))?;
         for index in 0..count {
             let segment = index + 1;
             let intervals = pattern.intervals(alloc, segment)?;
@@ -417,7 +429,7 @@ pub(crate) fn shapes_of(
         windows: Windows::of(alloc, &program.bytes)?,
         most,
     };
-    let mut shapes = Vec::new(alloc);
+    let mut shapes = Vec::with_capacity(alloc, modules.len())?;
     for module in modules {
         shapes.push(indexed.module_shapes(alloc, module)?)?;
     }

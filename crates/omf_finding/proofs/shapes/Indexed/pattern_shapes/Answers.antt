@@ -11,7 +11,7 @@ loop-index-init c =
     let bytes = byte_in c.args.pattern.now in
     let program = c.args.self.now.program.now in
     let most = c.args.self.now.most in
-    subst (AreShapes bytes program.bytes.items program.base most 0) (sym c.new-shapes.ensures.items) (shapes-first bytes program.bytes.items program.base most)
+    subst (AreShapes bytes program.bytes.items program.base most 0) (sym c.in_ok-shapes.ensures.items) (shapes-first bytes program.bytes.items program.base most)
 
 pub shape-requires-clause-whole : goal.shape-requires-clause-whole
 shape-requires-clause-whole c =

@@ -3,7 +3,7 @@ use Rattle.omf_finding.specs.Inner.Shaping.{is_at}
 use Rattle.omf_finding.specs.declared.shapes.Tried.TheVariants as tried
 use Rattle.omf_finding.proofs.PlaceLaws.{cut-common, cut-full, places-all, places-some}
 use Rattle.omf_finding.proofs.WindowLaws.{AreSoFar, places-more, places-same, tries-rise, trying}
-use Rattle.omf_finding.proofs.shapes.Indexed.places_of.Goals.{in-Other, in-Place+else-len-self+in_ok-push-in-Place}
+use Rattle.omf_finding.proofs.shapes.Indexed.places_of.Goals.{in-Other, in-Place+else-len-self+in_ok-push_place-in-Place}
 use Rattle.omf_finding.proofs.shapes.Indexed.places_of.Goals as goal
 
 pub returns-in-End-clause-places : goal.returns-in-End-clause-places
@@ -41,7 +41,7 @@ loop-k-preserved c =
     let next : first + k + 1 ≡ first + (k + 1) = omega arith in
     let one : AreSoFar try first (first + k + 1) new = elim c.match-tried.branch [
       | in-Other w ↦ let same : new ≡ old = ap (λ ps. ps.items) w.places-is in subst (λ ps. AreSoFar try first (first + k + 1) ps) (sym same) (places-same try first (first + k) old c.loop-k.invariant (sym w.in-Other.ensures))
-      | in-Place+else-len-self+in_ok-push-in-Place w ↦
+      | in-Place+else-len-self+in_ok-push_place-in-Place w ↦
           let pushed : new ≡ old ++ w.in-Place.address ∷ [] = search rules in
           places-more try first (first + k) old c.loop-k.invariant (tries-rise test program.base c.args.rare.offset self.windows.sorted.items c.args.rare.key c.requires.windows.increases) new w.in-Place.address (sym w.in-Place.ensures) pushed
     ] in
