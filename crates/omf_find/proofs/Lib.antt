@@ -1,3 +1,4 @@
+mod GapLaws
 mod GatheredLaws
 mod MzLaws
 mod NearlyLaws

@@ -1,5 +1,8 @@
 //! The parts of a program that no segment explains.
 
+ghost use Rattle.std.specs.Prelude.{◌≡◌, IfOk, OnOk};
+ghost use Rattle.omf_find.specs.Room.{AddsGap, AreGaps, AreInOrder};
+
 use crate::rows::SegmentRow;
 use std::alloc::{AllocError, Global};
 
@@ -17,6 +20,16 @@ impl Gap {
     }
 }
 
+/// Appends the gap from one address up to another, if there is any address between.
+fn push_gap(gaps: &mut Vec<Gap>, first: u64, end: u64) -> Result<(), AllocError>
+    ensures { OnOk result (AddsGap first end gaps.old.items gaps.new.items) }
+{
+    if first < end {
+        gaps.push(Gap { first, end })?;
+    }
+    Ok(())
+}
+
 /// The parts of a program, from one address up to another, that are in none of these segments, which are in ascending order.
 ///
 /// # Errors
@@ -27,22 +40,17 @@ pub fn gaps_of(
     first: u64,
     end: u64,
     rows: &[SegmentRow],
-) -> Result<Vec<Gap>, AllocError> {
+) -> Result<Vec<Gap>, AllocError>
+    ensures { IfOk result (λ v. AreInOrder rows.now → AreGaps first end rows.now v.items) }
+{
     let mut gaps = Vec::new(alloc);
     let mut next = first;
     for row in rows {
-        let start = u64::from(row.address).min(end);
-        if next < start {
-            gaps.push(Gap {
-                first: next,
-                end: start,
-            })?;
-        }
-        next = next.max(u64::from(row.address).saturating_add(row.length));
+        let address = u64::from(row.address);
+        push_gap(&mut gaps, next, address.min(end))?;
+        next = next.max(address.saturating_add(row.length));
     }
-    if next < end {
-        gaps.push(Gap { first: next, end })?;
-    }
+    push_gap(&mut gaps, next, end)?;
     Ok(gaps)
 }
 

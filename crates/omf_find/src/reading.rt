@@ -5,8 +5,8 @@ ghost use Rattle.omf_find.specs.Gathered.{Adds, AreTaken, IsTaken, IsVerdict, Ta
 
 use crate::part::after;
 use crate::source::name_of;
-use omf_check::{CheckFault, Checked, Profile, check};
-use omf_frame::{Bytes, Place, Reason, is_header};
+use omf_check::{CheckFault, Checked, Profile, check_with};
+use omf_frame::{Bytes, Framer, Place, Reason, is_header};
 use omf_host::put_quoted;
 use omf_library::{LibraryFault, Span, SpanFault, read_header, spans_in};
 use std::alloc::{AllocError, Global};
@@ -28,6 +28,8 @@ pub struct Gathered {
     pub modules: Vec<Checked>,
     pub origins: Vec<Origin>,
     pub left_out: String,
+    /// It frames the records of each module, so that its memory is taken once.
+    framer: Framer,
 }
 
 /// The answer of the check to a module.
@@ -38,10 +40,15 @@ pub enum Verdict {
 }
 
 /// Checks the module that bytes begin with.
-fn judge(alloc: Global, profile: Profile, bytes: &[u8]) -> Result<Verdict, AllocError>
+fn judge(
+    alloc: Global,
+    framer: &mut Framer,
+    profile: Profile,
+    bytes: &[u8],
+) -> Result<Verdict, AllocError>
     ensures { IfOk result (IsVerdict profile bytes.now) }
 {
-    match check(alloc, &mut Bytes::new(bytes), profile) {
+    match check_with(alloc, framer, &mut Bytes::new(bytes), profile) {
         Ok(module) => Ok(Verdict::Accepted(module)),
         Err(CheckFault::Refused { reason, place }) => Ok(Verdict::Refused { reason, place }),
         // Bytes in memory are always read.
@@ -131,7 +138,18 @@ impl Gathered {
             modules: Vec::new(alloc),
             origins: Vec::new(alloc),
             left_out: String::new(alloc),
+            framer: Framer::new(alloc),
         }
+    }
+
+    /// Takes memory for this many modules more.
+    fn reserve(&mut self, count: usize) -> Result<(), AllocError>
+        ensures modules { OnOk result (self.new.modules.items ≡ self.old.modules.items) }
+        ensures origins { OnOk result (self.new.origins.items ≡ self.old.origins.items) }
+    {
+        self.origins.reserve(count)?;
+        self.modules.reserve(count)?;
+        Ok(())
     }
 
     /// Takes a module.
@@ -155,7 +173,7 @@ impl Gathered {
         ensures { OnOk result ((own : List Taken) × IsTaken profile origin bytes.now own × Adds self.old self.new own) }
     {
         let alloc = *self.left_out.allocator();
-        match judge(alloc, profile, bytes)? {
+        match judge(alloc, &mut self.framer, profile, bytes)? {
             Verdict::Accepted(module) => {
                 let length = module.bytes().len();
                 self.push(origin, module)?;
@@ -198,6 +216,7 @@ impl Gathered {
         match read_header(bytes) {
             Ok(header) => {
                 let spans = spans_in(alloc, bytes, header.page as usize)?;
+                self.reserve(spans.members.len())?;
                 self.take_members(profile, file, name, &spans.members)?;
                 match spans.end {
                     Ok(_) => Ok(()),

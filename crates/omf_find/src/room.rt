@@ -1,7 +1,7 @@
 //! Room for segments that are not in a program: the addresses that no segment of a found module has.
 
 ghost use Rattle.std.specs.Prelude.{◌≡◌, ◌<◌, ◌≤◌, IfOk, MatchOption, get_or, length, ⊤};
-ghost use Rattle.omf_find.specs.Room.{IsAfter, IsLeftOf, IsParagraph, IsPlaceIn, IsRoom};
+ghost use Rattle.omf_find.specs.Room.{AreInOrder, IsAfter, IsAround, IsLeftOf, IsParagraph, IsPlaceIn, IsRoom};
 ghost use Rattle.omf_find.specs.declared.gaps.Gap.{Gap as Between};
 
 use crate::gaps::{Gap, gaps_of};
@@ -76,13 +76,15 @@ fn gap_for(gaps: &[Gap], begin: usize, end: usize, from: u32, size: u64) -> Opti
 }
 
 impl Room {
-    /// The room around segments, which are in ascending order, and after an address.
+    /// The room around segments, which are in ascending order: all addresses that none of them has. What is after all segments is after an
+    /// address too.
     ///
     /// # Errors
     ///
     /// `AllocError` if memory runs out.
     pub fn around(alloc: Global, rows: &[SegmentRow], end: u64) -> Result<Room, AllocError>
-        ensures { IfOk result (λ r. (end ≤ r.next) × IsAfter rows.now r.next) }
+        ensures next { IfOk result (λ r. (end ≤ r.next) × IsAfter rows.now r.next) }
+        ensures free { IfOk result (λ r. AreInOrder rows.now → IsAround rows.now r) }
     {
         let next = next_after(rows, end);
         Ok(Room {
