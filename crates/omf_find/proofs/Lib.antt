@@ -5,3 +5,4 @@ mod NearlyLaws
 mod PartLaws
 mod RoomLaws
 mod RowLaws
+mod TextLaws

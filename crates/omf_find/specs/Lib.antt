@@ -8,6 +8,7 @@ pub mod NameRow
 pub mod Rows
 pub mod Map
 pub mod Nearly
+pub mod NearLines
 pub mod Symbols
 pub mod Room
 pub mod Parts

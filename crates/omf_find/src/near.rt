@@ -1,13 +1,15 @@
 //! The lines of segments that are nearly in a program.
 
-ghost use Rattle.std.specs.Prelude.{◌≡◌, ◌-◌, ◌++◌, [], ◌∷◌, IfOk, IsPermutation, List, OnOk, length, map, nat_le, ℕ};
+ghost use Rattle.std.specs.Prelude.{◌≡◌, ◌-◌, ◌++◌, [], ◌∷◌, IfOk, IsPermutation, List, OnOk, length, map, nat_le, option_map, string_bytes, ℕ};
 ghost use Rattle.std.specs.List.Sorted.{IsNonDecreasingBy};
+ghost use Rattle.omf_frame.specs.Bytes.{AddsText};
 ghost use Rattle.omf_check.specs.Module.{recs_of};
+ghost use Rattle.omf_find.specs.NearLines.{AreTexts, IsBeforeIn, IsByteLine, IsNearText, IsReferenceLine, byte_line, external_text, length_in, length_text, near_line, offset_text, public_text, reference_line};
 ghost use Rattle.omf_find.specs.Nearly.{AreNearly, IsBefore, all_wanted, place, places_of, publics_of, record_publics, seen, wanted_of};
 
 use crate::fields::{Format, address, begin, byte, close, name, number};
-use crate::source::Source;
-use omf_check::{Checked, Undecoded};
+use crate::source::{Source, put_own};
+use omf_check::{Checked, SegInfo, Undecoded};
 use omf_finding::{Difference, Near, Program, References, Stray, Verdict, nearest};
 use omf_frame::Name;
 use omf_records::{Items, Public};
@@ -195,29 +197,66 @@ fn public_before(module: &Checked, segment: u16, offset: u32) -> Before<'_>
     best
 }
 
+/// The same in a module, if there is one.
+fn before_in(module: Option<&Checked>, segment: u16, offset: u32) -> Before<'_>
+    ensures { IsBeforeIn (option_map (λ m. m.now) «module».entry) segment offset result }
+{
+    match module {
+        Some(module) => public_before(module, segment, offset),
+        None => None,
+    }
+}
+
+/// Appends the public before an offset, and how far the offset is after it.
+fn put_public(
+    text: &mut Vec<u8>,
+    format: Format,
+    offset: u32,
+    before: Before<'_>,
+) -> Result<(), AllocError>
+    ensures { AddsText result text.old.items text.new.items (public_text format offset before.entry) }
+{
+    match before {
+        Some((first, public)) => {
+            name(text, format, "public", public.0)?;
+            let after = offset.saturating_sub(first);
+            address(text, format, "after", u64::from(after))
+        }
+        None => Ok(()),
+    }
+}
+
 /// Appends the segment and the offset of a place, and the public before it.
 fn put_offset(
     text: &mut Vec<u8>,
     format: Format,
-    module: Option<&Checked>,
     segment: u16,
     offset: u32,
-) -> Result<(), AllocError> {
+    before: Before<'_>,
+) -> Result<(), AllocError>
+    ensures { AddsText result text.old.items text.new.items (offset_text format segment offset before.entry) }
+{
     number(text, format, "index", u64::from(segment))?;
     address(text, format, "offset", u64::from(offset))?;
-    let Some(module) = module else {
-        return Ok(());
-    };
-    let Some((first, public)) = public_before(module, segment, offset) else {
-        return Ok(());
-    };
-    name(text, format, "public", public.0)?;
-    address(
-        text,
-        format,
-        "after",
-        u64::from(offset.saturating_sub(first)),
-    )
+    put_public(text, format, offset, before)
+}
+
+/// Appends the line of a byte that differs, after this public.
+fn put_byte_line(
+    text: &mut Vec<u8>,
+    format: Format,
+    near: &Near,
+    difference: &Difference,
+    before: Before<'_>,
+) -> Result<(), AllocError>
+    ensures { AddsText result text.old.items text.new.items (byte_line format near.now difference.now before.entry) }
+{
+    let place = u64::from(near.address) + u64::from(difference.offset);
+    begin(text, format, "byte", place)?;
+    put_offset(text, format, near.segment, difference.offset, before)?;
+    byte(text, format, "own", Some(difference.own))?;
+    byte(text, format, "program", difference.there)?;
+    close(text, format)
 }
 
 /// Appends the line of a byte that differs.
@@ -227,12 +266,69 @@ fn put_difference(
     module: Option<&Checked>,
     near: &Near,
     difference: &Difference,
-) -> Result<(), AllocError> {
-    let place = u64::from(near.address) + u64::from(difference.offset);
-    begin(text, format, "byte", place)?;
-    put_offset(text, format, module, near.segment, difference.offset)?;
-    byte(text, format, "own", Some(difference.own))?;
-    byte(text, format, "program", difference.there)?;
+) -> Result<(), AllocError>
+    ensures { OnOk result ((line : List ℕ) × IsByteLine format (option_map (λ m. m.now) «module».entry) near.now difference.now line × (text.new.items ≡ text.old.items ++ line)) }
+{
+    let before = before_in(module, near.segment, difference.offset);
+    put_byte_line(text, format, near, difference, before)?;
+    Ok(())
+}
+
+/// Appends the lines of the bytes that differ.
+fn put_differences(
+    text: &mut Vec<u8>,
+    format: Format,
+    module: Option<&Checked>,
+    near: &Near,
+    differences: &[Difference],
+) -> Result<(), AllocError>
+    ensures { OnOk result ((lines : List ℕ) × AreTexts (IsByteLine format (option_map (λ m. m.now) «module».entry) near.now) differences.now lines × (text.new.items ≡ text.old.items ++ lines)) }
+{
+    for difference in differences {
+        put_difference(text, format, module, near, difference)?;
+    }
+    Ok(())
+}
+
+/// Appends the name of an external of a module.
+fn put_external(
+    text: &mut Vec<u8>,
+    format: Format,
+    module: Option<&Checked>,
+    external: u16,
+) -> Result<(), AllocError>
+    ensures { AddsText result text.old.items text.new.items (external_text format (option_map (λ m. m.now) «module».entry) external) }
+{
+    match module {
+        Some(module) => put_own(text, format, "name", module.external(external)),
+        None => Ok(()),
+    }
+}
+
+/// A reference of a segment that is near, which goes elsewhere.
+#[derive(Clone, Copy)]
+struct Away<'a> {
+    near: &'a Near,
+    stray: &'a Stray,
+}
+
+/// Appends the line of a reference that goes elsewhere, after this public.
+fn put_reference_line(
+    text: &mut Vec<u8>,
+    format: Format,
+    module: Option<&Checked>,
+    away: Away<'_>,
+    before: Before<'_>,
+) -> Result<(), AllocError>
+    ensures { AddsText result text.old.items text.new.items (reference_line format (option_map (λ m. m.now) «module».entry) away.entry.near.now away.entry.stray.now before.entry) }
+{
+    let Away { near, stray } = away;
+    let place = u64::from(near.address) + u64::from(stray.offset);
+    begin(text, format, "reference", place)?;
+    put_offset(text, format, near.segment, stray.offset, before)?;
+    put_external(text, format, module, stray.external)?;
+    address(text, format, "own", u64::from(stray.wanted))?;
+    address(text, format, "program", u64::from(stray.there))?;
     close(text, format)
 }
 
@@ -243,18 +339,57 @@ fn put_stray(
     module: Option<&Checked>,
     near: &Near,
     stray: &Stray,
-) -> Result<(), AllocError> {
-    let place = u64::from(near.address) + u64::from(stray.offset);
-    begin(text, format, "reference", place)?;
-    put_offset(text, format, module, near.segment, stray.offset)?;
-    if let Some(module) = module
-        && let Some(external) = module.external(stray.external)
-    {
-        name(text, format, "name", external.0)?;
+) -> Result<(), AllocError>
+    ensures { OnOk result ((line : List ℕ) × IsReferenceLine format (option_map (λ m. m.now) «module».entry) near.now stray.now line × (text.new.items ≡ text.old.items ++ line)) }
+{
+    let before = before_in(module, near.segment, stray.offset);
+    put_reference_line(text, format, module, Away { near, stray }, before)?;
+    Ok(())
+}
+
+/// Appends the lines of references that go elsewhere.
+fn put_strays(
+    text: &mut Vec<u8>,
+    format: Format,
+    module: Option<&Checked>,
+    near: &Near,
+    strays: &[Stray],
+) -> Result<(), AllocError>
+    ensures { OnOk result ((lines : List ℕ) × AreTexts (IsReferenceLine format (option_map (λ m. m.now) «module».entry) near.now) strays.now lines × (text.new.items ≡ text.old.items ++ lines)) }
+{
+    for stray in strays {
+        put_stray(text, format, module, near, stray)?;
     }
-    address(text, format, "own", u64::from(stray.wanted))?;
-    address(text, format, "program", u64::from(stray.there))?;
-    close(text, format)
+    Ok(())
+}
+
+/// Appends the length of a segment.
+fn put_length(
+    text: &mut Vec<u8>,
+    format: Format,
+    segment: Option<SegInfo>,
+) -> Result<(), AllocError>
+    ensures { AddsText result text.old.items text.new.items (length_text format segment) }
+{
+    match segment {
+        Some(segment) => address(text, format, "length", segment.length),
+        None => Ok(()),
+    }
+}
+
+/// Appends the length of a segment of a module.
+fn put_length_in(
+    text: &mut Vec<u8>,
+    format: Format,
+    module: Option<&Checked>,
+    segment: u16,
+) -> Result<(), AllocError>
+    ensures { AddsText result text.old.items text.new.items (length_in format (option_map (λ m. m.now) «module».entry) segment) }
+{
+    match module {
+        Some(module) => put_length(text, format, module.segment(segment)),
+        None => Ok(()),
+    }
 }
 
 /// Appends the line of a segment that is nearly in the program.
@@ -263,14 +398,12 @@ fn put_segment(
     format: Format,
     source: Source<'_>,
     one: &Nearly,
-) -> Result<(), AllocError> {
+) -> Result<(), AllocError>
+    ensures { AddsText result text.old.items text.new.items (near_line format (map string_bytes source.entry.files.now) source.entry.gathered.now one.now) }
+{
     let near = &one.near;
     begin(text, format, "near", u64::from(near.address))?;
-    if let Some(module) = source.module(one.module)
-        && let Some(segment) = module.segment(near.segment)
-    {
-        address(text, format, "length", segment.length)?;
-    }
+    put_length_in(text, format, source.module(one.module), near.segment)?;
     number(text, format, "differs", near.differences.len() as u64)?;
     source.put_origin(text, format, one.module)?;
     source.put_segment(text, format, one.module, near.segment)?;
@@ -283,15 +416,14 @@ fn put_one(
     format: Format,
     source: Source<'_>,
     one: &Nearly,
-) -> Result<(), AllocError> {
+) -> Result<(), AllocError>
+    ensures { OnOk result ((own : List ℕ) × IsNearText format (map string_bytes source.entry.files.now) source.entry.gathered.now one.now own × (text.new.items ≡ text.old.items ++ own)) }
+{
     put_segment(text, format, source, one)?;
     let module = source.module(one.module);
-    for difference in &one.near.differences {
-        put_difference(text, format, module, &one.near, difference)?;
-    }
-    for stray in &one.strays {
-        put_stray(text, format, module, &one.near, stray)?;
-    }
+    let near = &one.near;
+    put_differences(text, format, module, near, &near.differences)?;
+    put_strays(text, format, module, near, &one.strays)?;
     Ok(())
 }
 
@@ -305,7 +437,9 @@ pub fn put_nearly(
     format: Format,
     source: Source<'_>,
     nearly: &[Nearly],
-) -> Result<(), AllocError> {
+) -> Result<(), AllocError>
+    ensures { OnOk result ((lines : List ℕ) × AreTexts (IsNearText format (map string_bytes source.entry.files.now) source.entry.gathered.now) nearly.now lines × (text.new.items ≡ text.old.items ++ lines)) }
+{
     for one in nearly {
         put_one(text, format, source, one)?;
     }

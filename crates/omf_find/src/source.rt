@@ -77,8 +77,8 @@ fn put_module(
     }
 }
 
-/// Appends a name of a segment, if it has one.
-fn put_own(
+/// Appends a name under a key, if there is one.
+pub fn put_own(
     text: &mut Vec<u8>,
     format: Format,
     key: &str,
