@@ -3,9 +3,10 @@
 
 On programs that omf-link makes of the examples, whose addresses its map has: of given modules and of libraries, as .EXE, as .COM and as a raw
 image. Each segment that is found must be where the map has it; how many of those with code are found is counted. On files that are no programs, or
-are packed, and with parts of files that are refused. On programs in which bytes of a routine differ (--near). What `--link` writes is linked again, and compared with the program. With a seed instead on programs of tests/executed.py, which NASM assembles. OMF_FIND, OMF_LINK and OMF_LIB name the programs (omf-find, omf-link and omf-lib, if not
+are packed, and with parts of files that are refused. On programs in which bytes of a routine differ (--near). With the files in each order. What `--link` writes is linked again, and compared with the program. With a seed instead on programs of tests/executed.py, which NASM assembles. OMF_FIND, OMF_LINK and OMF_LIB name the programs (omf-find, omf-link and omf-lib, if not
 set). The last line has how much was tried."""
 import argparse
+import itertools
 import json
 import os
 import pathlib
@@ -438,6 +439,39 @@ def near(folder):
         fails("--near", "a reference", output, error)
 
 
+def found_in(lines):
+    """The segments that are found, each with its address."""
+    return {(it["file"], it["member"], it["index"], it["segment"]) for it in lines if "segment" in it}
+
+
+def orders(folder):
+    """The order of the files does not change what is found. A module to which two others refer at two places is at neither."""
+    for task, names in PROGRAMS:
+        files = [EXAMPLES / it for it in names]
+        run(LINK, task, "-o", f"prog.{task}", "--order", "dos", *files, folder=folder)
+        found = [found_in(lines_of(folder, "--least", "8", f"prog.{task}", *them)) for them in itertools.permutations(files)]
+        if any(it != found[0] for it in found):
+            fails(names, "the order of the files changes what is found", found)
+    # Two routines of 20 bytes, each with a call of h after them: at 100H of the h at 180H, and at 140H of the h at 1A0H.
+    routines = [ROUTINE + b"\xE8\0\0\x90", bytes(range(0x60, 0x74)) + b"\xE8\0\0\x90"]
+    for name, code in zip((b"a", b"b"), routines):
+        (folder / f"{name.decode()}.obj").write_bytes(module(name, code, [(name, 0)], [b"h"], bytes([0x84, 21, 0x56, 1])))
+    (folder / "h.obj").write_bytes(module(b"h", b"\x33\xC0\xC3", [(b"h", 0)]))
+    program = bytearray(b"\x90" * 0x100)
+    for at, code, distance in ((0, routines[0], 0x69), (0x40, routines[1], 0x49)):
+        program[at:at + len(code)] = replaced(code, (21, distance))
+    program[0x80:0x83] = program[0xA0:0xA3] = b"\x33\xC0\xC3"
+    (folder / "two.bin").write_bytes(program)
+    a, b, h = ("a.obj", 0, 1, 0x100), ("b.obj", 0, 1, 0x140), ("h.obj", 0, 1, 0x180)
+    for files, wanted in ((["a.obj", "h.obj"], {a, h}), (["h.obj", "b.obj"], {b, ("h.obj", 0, 1, 0x1A0)}), (["h.obj"], set())):
+        if found_in(lines_of(folder, "--base", "100", "two.bin", *files)) != wanted:
+            fails("orders", files)
+    for files in itertools.permutations(["a.obj", "b.obj", "h.obj"]):
+        lines = lines_of(folder, "--base", "100", "--possible", "two.bin", *files)
+        if found_in(lines) != {a, b} or [it["public"] for it in lines if it.get("name") == "h" and "asked" not in it and "public" in it]:
+            fails("orders", files, lines)
+
+
 def look_at_all_made(asked):
     seed, end = asked.first, time.monotonic() + (asked.seconds or 0)
     while failed < MOST_FAILED and (time.monotonic() < end if asked.seconds else seed < asked.first + asked.count):
@@ -459,6 +493,7 @@ def look_at_written():
         parts(folder)
         link_files(folder)
         near(folder)
+        orders(folder)
         absent_segments(folder)
         linked(folder)
 

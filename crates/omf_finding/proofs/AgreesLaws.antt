@@ -1,7 +1,7 @@
 -- A segment agrees with a program at an address exactly if each of its intervals does.
 use Rattle.std.proofs.Common.{◌≡◌, inl, inr, ℕ, zero, suc, ◌+◌, ◌-◌, ◌<◌, ◌≤◌, Bool, true, false, List, [], ◌∷◌, length, drop, Option, Some, None, refl, sym, ap, ap₂, subst, ◌∙◌, arith}
-use Rattle.std.specs.Prelude.{Contains, IsSome, IsNone, slice_get, nat_le, ◌==◌, ◌&&◌, ◌||◌, if◌then◌else◌}
-use Rattle.std.specs.List.{list_all, zip}
+use Rattle.std.specs.Prelude.{Contains, IsSome, IsNone, slice_get, nat_le, ◌==◌, ◌||◌, if◌then◌else◌}
+use Rattle.std.specs.List.{list_all}
 use Rattle.std.proofs.lemmas.Bool.{leb-true, le-leb, and_parts, and_from, eqb-true, eq-eqb}
 use Rattle.std.proofs.lemmas.Bool.Decides.{leb_tells}
 use Rattle.std.proofs.lemmas.Option.{slice_get_within}
@@ -11,7 +11,7 @@ use Rattle.omf_finding.specs.Found.{program_byte}
 use Rattle.omf_finding.specs.Run.{closed_byte}
 use Rattle.omf_finding.specs.declared.patterning.Interval.{Interval}
 use Rattle.omf_finding.specs.declared.patterning.PatternByte.{PatternByte}
-use Rattle.omf_finding.specs.Inner.Shaping.{AreIntervals, IsInterval, IsWithin, bytes_from, cell_agrees, cells_agree, run_agrees, interval_agrees, is_at}
+use Rattle.omf_finding.specs.Inner.Shaping.{AreIntervals, IsInterval, IsWithin, bytes_from, cell_agrees, cells_agree, interval_agrees, is_at}
 use Rattle.omf_finding.specs.Inner.Walking.{byte_with}
 use Rattle.omf_finding.proofs.FoundLaws.{below-base, from-drop}
 

@@ -10,7 +10,7 @@ use Rattle.omf_image.specs.Limits.{profile_limits}
 use Rattle.omf_image.proofs.RunLaws.{contains_first, contains_here, contains_more}
 use Rattle.omf_check.specs.Module.{Module, recs_of}
 use Rattle.omf_check.specs.Sound.{ModuleHolds}
-use Rattle.omf_check.specs.Tables.{segments, is_defined}
+use Rattle.omf_check.specs.Tables.{segments}
 use Rattle.omf_records.specs.Values.{Rec}
 use Rattle.omf_placement.specs.Placement.{Places}
 use Rattle.omf_reloc.specs.Image.{image}

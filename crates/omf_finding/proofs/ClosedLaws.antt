@@ -4,14 +4,14 @@ use Rattle.std.specs.Prelude.{Contains, IsSome, slice_get, filter_map, flat_map,
 use Rattle.std.specs.List.{cons_option, range_with_len}
 use Rattle.std.proofs.lemmas.List.{append-nil, append_assoc, take_more}
 use Rattle.std.proofs.lemmas.Grind.{flat_map-append}
-use Rattle.std.proofs.lemmas.List.Elements.{Contains-append_left, Contains-append_right, Contains-append_cases, Contains-get_or, filter_map-append}
+use Rattle.std.proofs.lemmas.List.Elements.{Contains-append_left, Contains-append_right, Contains-append_cases, filter_map-append}
 use Rattle.std.proofs.lemmas.List.FromFn.{get_or-range_with_len, length-range_with_len}
 use Rattle.std.proofs.lemmas.Option.{get_or_from_slice_get, slice_get_within}
 use Rattle.omf_image.proofs.RunLaws.{contains_first, contains_here, contains_more}
 use Rattle.omf_finding.specs.Near.{AreClosed}
 use Rattle.omf_finding.specs.Run.{closed_byte}
 use Rattle.omf_finding.specs.Inner.Nearing.{closed_at, closed_in, closed_with}
-use Rattle.omf_finding.specs.Inner.Shaping.{AreInOrder, AreIntervals, IsInterval, IsWithin}
+use Rattle.omf_finding.specs.Inner.Shaping.{AreInOrder, AreIntervals}
 use Rattle.omf_finding.specs.Inner.Walking.{byte_with}
 use Rattle.omf_finding.specs.declared.closed.ClosedByte.{ClosedByte}
 use Rattle.omf_finding.specs.declared.patterning.Interval.{Interval}

@@ -1,7 +1,6 @@
 -- Some byte of an image is compared.
-use Rattle.std.proofs.Common.{◌≡◌, ℕ, ◌+◌, ◌<◌, false, List, [], ◌∷◌, length, refl, sym, subst, ◌∙◌, arith}
-use Rattle.std.specs.Prelude.{Option, IsSome}
-use Rattle.omf_frame.specs.Bytes.{is_one_of}
+use Rattle.std.proofs.Common.{◌≡◌, ℕ, ◌+◌, ◌<◌, List, [], ◌∷◌, length, refl, sym, subst, arith}
+use Rattle.std.specs.Prelude.{IsSome}
 use Rattle.omf_records.specs.Values.{Rec}
 use Rattle.omf_image.specs.Limits.{profile_limits}
 use Rattle.omf_image.specs.Overlay.{Laid, byte_at, AreBytesOver, spanned}

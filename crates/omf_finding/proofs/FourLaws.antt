@@ -1,6 +1,6 @@
 -- Four bytes in a row, of a segment and of a program.
-use Rattle.std.proofs.Common.{◌≡◌, ℕ, zero, suc, ◌+◌, List, [], ◌∷◌, drop, Option, Some, None, refl, sym, ap, ap₂, ◌∙◌, arith}
-use Rattle.std.specs.Prelude.{slice_get, ◌==◌, if◌then◌else◌}
+use Rattle.std.proofs.Common.{◌≡◌, ℕ, ◌+◌, List, [], ◌∷◌, drop, Option, Some, None, refl, sym, ap, ap₂, ◌∙◌, arith}
+use Rattle.std.specs.Prelude.{slice_get, if◌then◌else◌}
 use Rattle.std.proofs.lemmas.Option.{slice_get_within}
 use Rattle.omf_finding.specs.Fours.{four, four_at, four_closed}
 use Rattle.omf_finding.specs.Run.{closed_byte}
@@ -9,7 +9,7 @@ use Rattle.omf_finding.specs.Inner.Walking.{byte_with}
 use Rattle.omf_finding.specs.declared.patterning.Interval.{Interval}
 use Rattle.omf_finding.specs.declared.patterning.PatternByte.{PatternByte}
 use Rattle.omf_finding.proofs.FoundLaws.{get-drop}
-use Rattle.omf_finding.proofs.RareLaws.{IsClosedAt, key-from, number}
+use Rattle.omf_finding.proofs.RareLaws.{IsClosedAt, key-from}
 
 -- ---- of a program
 

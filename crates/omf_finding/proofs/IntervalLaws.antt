@@ -7,7 +7,7 @@ use Rattle.std.proofs.lemmas.Option.{slice_get_within, get_or_from_slice_get}
 use Rattle.omf_image.specs.Inner.Joined.{run_end, runs_of}
 use Rattle.omf_image.specs.Overlay.{byte_at, IsRun, AreRuns, IsRunAt, IsRunShown, AreBytesAt, AreBytesOf, AreBytesOver, spanned}
 use Rattle.omf_image.specs.declared.run.Run.{Run}
-use Rattle.omf_image.proofs.RunLaws.{AreApart, IsIn, Covers, runs_cover, runs_unique, some_or_none}
+use Rattle.omf_image.proofs.RunLaws.{AreApart, Covers, runs_cover, runs_unique, some_or_none}
 use Rattle.omf_image.proofs.ShownLaws.{number_is, number_low, run_next, none_left}
 use Rattle.omf_finding.proofs.AgreesLaws.{not-both}
 use Rattle.omf_finding.specs.Inner.Shaping.{AreIntervals, IsInterval, IsMarked, IsWithin}

@@ -23,3 +23,4 @@ pub mod ClosedLaws
 pub mod ShownLaws
 pub mod NearLaws
 pub mod StrayLaws
+pub mod ChainLaws

@@ -1,5 +1,5 @@
 -- The segments that are nearly in a program.
-use Rattle.std.proofs.Common.{◌≡◌, ◌⊎◌, inl, inr, ℕ, zero, suc, ◌+◌, ◌<◌, ◌≤◌, ◌^◌, Bool, true, false, List, [], ◌∷◌, ◌++◌, length, take, drop, Option, Some, None, refl, sym, ap, subst, ◌∙◌, arith}
+use Rattle.std.proofs.Common.{◌≡◌, ◌⊎◌, inl, inr, ℕ, zero, suc, ◌+◌, ◌<◌, ◌≤◌, Bool, true, false, List, [], ◌∷◌, ◌++◌, length, take, drop, Option, Some, None, refl, sym, ap, subst, ◌∙◌, arith}
 use Rattle.std.specs.Prelude.{Contains, IsSome, get_or, is_some, option_to_list, filter_map, flat_map, nat_le, if◌then◌else◌}
 use Rattle.std.proofs.lemmas.Bool.Decides.{leb_tells}
 use Rattle.std.proofs.lemmas.Bool.{leb-true, le-leb}
@@ -12,9 +12,7 @@ use Rattle.omf_check.specs.Tables.{segments}
 use Rattle.omf_image.specs.Limits.{profile_limits}
 use Rattle.omf_finding.specs.Agrees.{HasFour}
 use Rattle.omf_finding.specs.Finding.{IsInside}
-use Rattle.omf_finding.specs.Fours.{four_closed}
 use Rattle.omf_finding.specs.Near.{AreClosed, AreNear, IsAmong, IsFar, IsNear, IsSame, IsTried, differences, differing}
-use Rattle.omf_finding.specs.Pattern.{pattern}
 use Rattle.omf_finding.specs.Run.{closed_byte}
 use Rattle.omf_finding.specs.Inner.Nearing.{AreNearOf, IsBest, IsNearOf, IsShownOf, better, better_by, closed_in, few_differences, one_more}
 use Rattle.omf_finding.specs.Inner.Shaping.{AreIntervals, bytes_of}

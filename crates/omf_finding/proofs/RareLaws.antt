@@ -1,6 +1,6 @@
 -- Four closed bytes in a row.
-use Rattle.std.proofs.Common.{◌≡◌, ◌⊎◌, inl, inr, ℕ, zero, suc, ◌+◌, ◌-◌, ◌<◌, ◌≤◌, ◌^◌, Bool, true, false, List, [], ◌∷◌, length, drop, take, Option, Some, None, refl, sym, ap, ap₂, subst, ◌∙◌, arith}
-use Rattle.std.specs.Prelude.{All, Contains, IsSome, IsNone, IfSome, slice_get, nat_le, not, ◌==◌, ◌&&◌, if◌then◌else◌, get_or}
+use Rattle.std.proofs.Common.{◌≡◌, inl, inr, ℕ, ◌+◌, ◌-◌, ◌<◌, ◌≤◌, Bool, true, false, List, [], ◌∷◌, length, drop, Option, Some, None, refl, sym, ap, ap₂, subst, ◌∙◌, arith}
+use Rattle.std.specs.Prelude.{All, IsSome, IsNone, slice_get, not, ◌==◌, ◌&&◌, if◌then◌else◌}
 use Rattle.std.specs.Int.{from_le_bytes, w32}
 use Rattle.std.proofs.lemmas.Bool.{and_parts, and_from}
 use Rattle.std.proofs.lemmas.Bool.Decides.{leb_tells}
@@ -12,10 +12,10 @@ use Rattle.omf_finding.specs.Run.{closed_byte}
 use Rattle.omf_finding.specs.declared.patterning.Interval.{Interval}
 use Rattle.omf_finding.specs.declared.patterning.PatternByte.{PatternByte}
 use Rattle.omf_finding.specs.declared.shapes.Rare.{Rare}
-use Rattle.omf_finding.specs.Inner.Shaping.{AreIntervals, HasNone, HasNoneBelow, IsInterval, IsRareAt, IsRareIn, IsRareOf, IsWithin, closed_front, front, key_at}
+use Rattle.omf_finding.specs.Inner.Shaping.{AreIntervals, HasNone, HasNoneBelow, IsInterval, IsRareAt, IsRareOf, IsWithin, closed_front, front, key_at}
 use Rattle.omf_finding.specs.Inner.Walking.{byte_with}
 use Rattle.omf_finding.proofs.FoundLaws.{get-drop, below-base, from-drop}
-use Rattle.omf_finding.proofs.AgreesLaws.{at-index, closed-some, not-both, some-is}
+use Rattle.omf_finding.proofs.AgreesLaws.{at-index, closed-some, not-both}
 
 -- ---- four bytes at the front
 

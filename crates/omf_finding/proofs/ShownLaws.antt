@@ -2,9 +2,9 @@
 use Rattle.std.proofs.Common.{◌≡◌, ◌⊎◌, inl, inr, ℕ, zero, suc, ◌+◌, ◌-◌, ◌*◌, ◌<◌, ◌≤◌, ◌^◌, Bool, true, false, List, [], ◌∷◌, ◌++◌, length, drop, take, Option, Some, None, refl, sym, ap, ap₂, subst, ◌∙◌, arith}
 use Rattle.std.specs.Prelude.{Contains, IsSome, get_or, is_some, option_to_list, slice_get, ◌==◌, if◌then◌else◌}
 use Rattle.std.proofs.lemmas.Bool.Decides.{leb_tells}
-use Rattle.std.proofs.lemmas.List.{append-nil, take_all}
+use Rattle.std.proofs.lemmas.List.{take_all}
 use Rattle.std.proofs.lemmas.List.Elements.{Contains-append_left, Contains-push}
-use Rattle.omf_finding.specs.Fours.{AreAt, four, four_at, four_closed}
+use Rattle.omf_finding.specs.Fours.{AreAt, four, four_closed}
 use Rattle.omf_finding.specs.Near.{IsTried}
 use Rattle.omf_finding.specs.Run.{closed_byte}
 use Rattle.omf_finding.specs.Inner.Nearing.{Adds, IsShownBy, IsShownIn, IsShownOf}
@@ -16,7 +16,7 @@ use Rattle.omf_finding.proofs.AgreesLaws.{at-index, closed-some}
 use Rattle.omf_finding.proofs.CandidateLaws.{take-cases}
 use Rattle.omf_finding.proofs.FoundLaws.{get-drop}
 use Rattle.omf_finding.proofs.FourLaws.{front-at}
-use Rattle.omf_finding.proofs.PlaceLaws.{offset-as, offset-from, window-again, windows-at}
+use Rattle.omf_finding.proofs.PlaceLaws.{offset-from, window-again, windows-at}
 use Rattle.omf_finding.proofs.RareLaws.{IsClosedAt, key-to, next-within, number}
 use Rattle.omf_finding.proofs.WindowLaws.{IsFirst, address-is, offset-found, offset-here, range-begins, range-ends}
 

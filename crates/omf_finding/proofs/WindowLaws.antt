@@ -1,5 +1,5 @@
 -- The windows of a program in order, and the places that they show.
-use Rattle.std.proofs.Common.{◌≡◌, ◌⊎◌, inl, inr, ℕ, zero, suc, ◌+◌, ◌-◌, ◌*◌, ◌<◌, ◌≤◌, ◌^◌, Bool, true, false, List, [], ◌∷◌, ◌++◌, length, drop, Option, Some, None, refl, sym, ap, ap₂, subst, ◌∙◌, arith}
+use Rattle.std.proofs.Common.{◌≡◌, inl, inr, ℕ, suc, ◌+◌, ◌-◌, ◌*◌, ◌<◌, ◌≤◌, ◌^◌, Bool, true, false, List, [], ◌∷◌, ◌++◌, length, drop, Option, Some, None, refl, sym, ap, subst, ◌∙◌, arith}
 use Rattle.std.specs.Prelude.{Contains, IsSome, slice_get, get_or, nat_le, nat_lt, ◌&&◌, ◌≢◌, option_map, if◌then◌else◌}
 use Rattle.std.specs.List.{AllPairs}
 use Rattle.std.specs.List.Sorted.{IsPermutation, IsNonDecreasing, IsStrictlyIncreasing}
@@ -14,15 +14,9 @@ use Rattle.std.proofs.lemmas.List.Sorted.{Contains-permutation, IsPermutation-sy
 use Rattle.std.proofs.lemmas.Map.Keys.{IsDistinct-IsPermutation, IsStrictlyIncreasing-from_distinct}
 use Rattle.std.proofs.lemmas.Map.Made.{IsDistinct-from_AllPairs}
 use Rattle.std.proofs.lemmas.Option.{cond_some, slice_get_within, slice_get-get_or, get_or_from_slice_get}
-use Rattle.omf_finding.specs.Agrees.{Agrees}
-use Rattle.omf_finding.specs.Inner.Shaping.{AreIntervals, ArePlaces, AreWindows, HasPlaces, HasWindows, IsRareOf, IsWindow, OnlyWindows, address_for, front, is_at, offset_in, offset_with, tried_at, tried_with, window_at}
-use Rattle.omf_finding.specs.declared.patterning.Interval.{Interval}
-use Rattle.omf_finding.specs.declared.patterning.PatternByte.{PatternByte}
-use Rattle.omf_finding.specs.declared.shapes.Rare.{Rare}
+use Rattle.omf_finding.specs.Inner.Shaping.{AreWindows, HasPlaces, HasWindows, IsWindow, OnlyWindows, address_for, front, offset_in, offset_with, tried_at, tried_with, window_at}
 use Rattle.omf_finding.specs.declared.shapes.Tried.{Tried}
 use Rattle.omf_finding.specs.declared.shapes.Tried.TheVariants as tried
-use Rattle.omf_finding.proofs.AgreesLaws.{agrees-from, agrees-to}
-use Rattle.omf_finding.proofs.RareLaws.{IsSeen, rare-seen}
 
 -- ---- the windows so far
 

@@ -3,3 +3,4 @@ pub mod Agreeing
 pub mod Shaping
 pub mod Nearing
 pub mod Straying
+pub mod Chaining

@@ -7,6 +7,7 @@ pub mod Found
 pub mod Agrees
 pub mod Finding
 pub mod Near
+pub mod Chain
 pub mod Stray
 pub mod Fours
 pub mod Rows

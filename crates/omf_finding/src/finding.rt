@@ -1,14 +1,17 @@
 //! The search for modules in a program.
 
-ghost use Rattle.std.specs.Prelude.{◌≡◌, ◌++◌, ◌==◌, ◌&&◌, length, not, true, false, IfOk, IfSome, OnOk, option_to_list};
+ghost use Rattle.std.specs.Prelude.{◌≡◌, ◌++◌, ◌==◌, ◌&&◌, ℕ, length, not, true, false, IfOk, IfSome, OnOk, option_to_list};
 ghost use Rattle.std.specs.List.{AllZip};
 ghost use Rattle.omf_check.specs.Module.{Module};
+ghost use Rattle.omf_finding.specs.Chain.{AreChained, found_at, found_in};
 ghost use Rattle.omf_finding.specs.Finding.{AreCandidates, IsHeld, IsTold};
+ghost use Rattle.omf_finding.specs.Inner.Chaining.{AreJoined, IsDraft, found_by, kept};
 ghost use Rattle.omf_finding.specs.Inner.Shaping.{AgreeAt, HasShapes, HaveShapes, IsMarked, IsOffered, IsPatternOf, IsShapeOf, bytes_of};
 ghost use Rattle.omf_finding.specs.Inner.Walking.{byte_in};
 
+use crate::chaining::{Joined, Tried, enough};
 use crate::findings::{Candidate, FindOptions, Findings, Found, Verdict, Why};
-use crate::following::{Part, Search};
+use crate::following::{Part, Search, group_name};
 use crate::found::{is_found_in_part, segment_count};
 use crate::names::Names;
 use crate::patterning::{Pattern, marked_pattern};
@@ -17,6 +20,7 @@ use crate::settling::Settled;
 use crate::shapes::{Shape, is_at, shapes_of};
 use crate::singles::Singles;
 use omf_check::Checked;
+use omf_names::NameKey;
 use omf_records::{Kind, Rec, Reference};
 use std::alloc::{AllocError, Global};
 use std::collections::BTreeMap;
@@ -41,6 +45,7 @@ pub(crate) fn begun<'a>(
         names: Names::new(alloc),
         fixes: Vec::with_capacity(alloc, modules.len())?,
         groups: BTreeMap::new(alloc),
+        frames: Vec::new(alloc),
         queue: Vec::new(alloc),
     };
     for module in modules {
@@ -85,9 +90,24 @@ impl<'a> Search<'a> {
                 segment,
                 place: None,
                 selector: None,
+                is_disputed: false,
             })?;
         }
+        self.add_groups(module)?;
         self.names.add_module(module, first)
+    }
+
+    /// Adds the groups of a module, by name.
+    fn add_groups(&mut self, module: &'a Checked) -> Result<(), AllocError> {
+        for group in 1..=module.groups() {
+            if let Some(name) = group_name(module, group)
+                && self.groups.get(&NameKey::of(name.0)).is_none()
+            {
+                self.groups.insert(NameKey::of(name.0), self.frames.len())?;
+                self.frames.push(None)?;
+            }
+        }
+        Ok(())
     }
 
     /// Puts the segment of a module's start at the program's start.
@@ -112,12 +132,23 @@ impl<'a> Search<'a> {
         for (number, module) in modules.iter().enumerate() {
             self.seed_start(number, module)?;
         }
-        for (address, number) in &singles.by_address {
-            if singles.other(*address, *number).is_none() {
+        for (address, number) in &singles.alone {
+            if self.is_whole(*number) {
                 self.place(*number, *address)?;
             }
         }
         Ok(())
+    }
+
+    /// Whether no segment of the module of this segment is nowhere in the program.
+    pub(crate) fn is_whole(&self, number: usize) -> bool {
+        let Some(part) = self.parts.get(number) else {
+            return false;
+        };
+        match self.shapes.get(part.module as usize) {
+            Some(shapes) => !shapes.iter().any(|shape| shape.is_nowhere()),
+            None => false,
+        }
     }
 
     /// The place of a segment of a module, if it is known.
@@ -126,7 +157,7 @@ impl<'a> Search<'a> {
     }
 
     /// Whether a segment with data of a module has a place.
-    fn has_place(&self, module: usize, shapes: &[Shape]) -> bool {
+    pub(crate) fn has_place(&self, module: usize, shapes: &[Shape]) -> bool {
         shapes.iter().any(|shape| shape.has_data()
             && self.known_place(module, shape.segment).is_some())
     }
@@ -149,11 +180,30 @@ impl<'a> Search<'a> {
         if let Some(other) = self.same_bytes(module, shape, singles) {
             return Why::SameBytes(other);
         }
+        if self.is_disputed(module, shape.segment) {
+            return Why::Disagrees;
+        }
         match self.known_place(module, shape.segment) {
             Some(place) if !shape.is_searched || shape.places.contains(&place) => Why::OpenBytes,
             Some(_) => Why::Disagrees,
-            None if shape.closed < self.least => Why::FewBytes,
+            None if shape.closed < self.enough(module, shape.segment) => Why::FewBytes,
             None => Why::SeveralPlaces,
+        }
+    }
+
+    /// The number of closed bytes from which on the only place of a segment of a module is sure.
+    fn enough(&self, module: usize, segment: u16) -> usize {
+        match self.modules.get(module) {
+            Some(checked) => enough(checked, segment, self.least),
+            None => self.least,
+        }
+    }
+
+    /// Whether references gave a segment of a module different places.
+    fn is_disputed(&self, module: usize, segment: u16) -> bool {
+        match self.part_of(module, segment) {
+            Some(part) => part.is_disputed,
+            None => false,
         }
     }
 
@@ -351,17 +401,20 @@ fn held(
     Ok(None)
 }
 
-/// What is known of a module in the end.
+/// What is known of a module in the end: it is found at this placement, or its candidates.
 fn verdict(
     ended: Ended<'_, '_>,
     number: usize,
     module: &Checked,
     shapes: &[Shape],
+    found: Option<Found>,
 ) -> Result<Verdict, AllocError>
-    requires { HaveShapes ended.program.now ended.most «module».now shapes.now }
-    ensures { IfOk result (IsTold ended.entry.program.now ended.entry.most «module».now) }
+    requires shapes { HaveShapes ended.program.now ended.most «module».now shapes.now }
+    requires found { IsDraft ended.program.now «module».now found }
+    ensures told { IfOk result (IsTold ended.entry.program.now ended.entry.most «module».now) }
+    ensures found { IfOk result (λ v. found_in v ≡ found) }
 {
-    if let Some(found) = held(ended, number, module, shapes)? {
+    if let Some(found) = found {
         return Ok(Verdict::Found(found));
     }
     let candidates = candidates(ended, number, module, shapes)?;
@@ -371,21 +424,80 @@ fn verdict(
     Ok(Verdict::Possible(candidates))
 }
 
-/// What is known of all modules in the end.
+/// The draft of a module that is joined.
+fn kept(draft: Option<Found>, is_joined: bool) -> Option<Found>
+    ensures { result ≡ kept draft is_joined }
+{
+    if is_joined { draft } else { None }
+}
+
+/// What is known of all modules in the end: those that are joined are found, where they were tried.
 fn verdicts(
     ended: Ended<'_, '_>,
     modules: &[Checked],
     shapes: &[Vec<Shape>],
+    drafts: Vec<Option<Found>>,
+    joined: &Joined,
 ) -> Result<Vec<Verdict>, AllocError>
-    requires { AllZip (HasShapes ended.program.now ended.most) modules.now shapes.now }
-    ensures { IfOk result (λ v. AllZip (IsTold ended.entry.program.now ended.entry.most) modules.now v.items) }
+    requires shapes { AllZip (HasShapes ended.program.now ended.most) modules.now shapes.now }
+    requires drafts { AllZip (IsDraft ended.program.now) modules.now drafts.items }
+    ensures told { IfOk result (λ v. AllZip (IsTold ended.entry.program.now ended.entry.most) modules.now v.items) }
+    ensures found { IfOk result (λ v. (i : ℕ) → found_at v.items i ≡ found_by drafts.items joined.now.marks.items i) }
 {
     let mut verdicts = Vec::with_capacity(ended.search.alloc, modules.len())?;
+    let mut left = drafts.into_iter();
     for (number, module) in modules.iter().enumerate() {
+        let Some(draft) = left.next() else {
+            unreachable!()
+        };
+        let found = kept(draft, joined.has(number));
         let own = shapes[number].as_slice();
-        verdicts.push(verdict(ended, number, module, own)?)?;
+        verdicts.push(verdict(ended, number, module, own, found)?)?;
     }
     Ok(verdicts)
+}
+
+/// The placement at which each module is in the program, if the one that is tried is such a one.
+fn drafts(
+    ended: Ended<'_, '_>,
+    modules: &[Checked],
+    shapes: &[Vec<Shape>],
+) -> Result<Vec<Option<Found>>, AllocError>
+    requires { AllZip (HasShapes ended.program.now ended.most) modules.now shapes.now }
+    ensures { IfOk result (λ v. AllZip (IsDraft ended.entry.program.now) modules.now v.items) }
+{
+    let mut drafts = Vec::with_capacity(ended.search.alloc, modules.len())?;
+    for (number, module) in modules.iter().enumerate() {
+        let own = shapes[number].as_slice();
+        drafts.push(held(ended, number, module, own)?)?;
+    }
+    Ok(drafts)
+}
+
+/// Which of the modules that are in the program where they were tried are found.
+fn joined_among<'a, 'b>(
+    ended: Ended<'a, 'b>,
+    modules: &[Checked],
+    shapes: &'b [Vec<Shape>],
+    drafts: &'b [Option<Found>],
+    least: usize,
+) -> Result<Joined, AllocError>
+    requires shapes { AllZip (HasShapes ended.program.now ended.most) modules.now shapes.now }
+    requires drafts { AllZip (IsDraft ended.program.now) modules.now drafts.now }
+    ensures { IfOk result (λ j. AreJoined ended.entry.program.now least modules.now drafts.entry.now j.marks.items) }
+{
+    let tried = Tried {
+        alloc: ended.search.alloc,
+        search: ended.search,
+        singles: ended.singles,
+        program: ended.program,
+        modules,
+        shapes,
+        drafts,
+        least,
+        most: ended.most,
+    };
+    tried.walk()
 }
 
 /// Searches a program for modules. A verdict Found is right: `is_found_in_part` answers true for its placement and its absent segments. So are
@@ -395,7 +507,8 @@ fn verdicts(
 ///
 /// A segment is searched for by its closed bytes if four of them are in a row. One that is at one place with at least `least` closed bytes,
 /// alone, is placed there; so is the segment of a module's start, at the program's. Others are placed by the fixups of segments that have a
-/// place: by what the program has at their locations.
+/// place: by what the program has at their locations. Of the modules that are in the program at these places, those are found to which a
+/// chain of references leads from one that is sure by itself: by its start, or by a segment that is at one place only.
 ///
 /// # Errors
 ///
@@ -406,10 +519,11 @@ pub fn find(
     program: &Program,
     options: &FindOptions,
 ) -> Result<Findings, AllocError>
-    ensures { IfOk result (λ f. AllZip (IsTold program.now options.now.most) modules.now f.verdicts.items) }
+    ensures told { IfOk result (λ f. AllZip (IsTold program.now options.now.most) modules.now f.verdicts.items) }
+    ensures chained { IfOk result (λ f. AreChained program.now options.now.least modules.now f.verdicts.items) }
 {
     let shapes = shapes_of(alloc, modules, program, options.most)?;
-    let singles = Singles::of(alloc, &shapes, options.least)?;
+    let singles = Singles::of(alloc, modules, &shapes, options.least)?;
     let mut search = begun(alloc, modules, &shapes, program, options.least)?;
     search.seed(&singles)?;
     search.close()?;
@@ -419,7 +533,9 @@ pub fn find(
         singles: &singles,
         most: options.most,
     };
-    let verdicts = verdicts(ended, modules, &shapes)?;
+    let drafts = drafts(ended, modules, &shapes)?;
+    let joined = joined_among(ended, modules, &shapes, drafts.as_slice(), options.least)?;
+    let verdicts = verdicts(ended, modules, &shapes, drafts, &joined)?;
     let asked = search.asked(&verdicts)?;
     Ok(Findings { verdicts, asked })
 }

@@ -33,7 +33,7 @@ pub enum Why {
     SameBytes(u32),
     /// A reference leads elsewhere, or two references disagree.
     Disagrees,
-    /// The fixups do not reach, or a byte at a location is not what they give.
+    /// The fixups do not reach, or a byte at a location is not what they give; or only modules that are not found refer to it.
     OpenBytes,
     /// Four of its closed bytes are at more places than are tried, and at those that were, others of its bytes disagree.
     ManyPlaces,

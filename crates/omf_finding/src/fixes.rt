@@ -91,14 +91,22 @@ impl Fix {
         }
     }
 
-    /// What it adds to the selector at its location, where its segment is at this address; `None` if the location has none.
+    /// The address of the selector at its location, where its segment is at this address; `None` if the location has none.
+    pub(crate) fn selector_address(&self, segment: u32) -> Option<u32> {
+        if has_selector(self.kind) {
+            Some(self.after(segment))
+        } else {
+            None
+        }
+    }
+
+    /// What it adds to the selector at its location, where its segment is at this address; `None` if the location has none, or one that the
+    /// loader does not change.
     pub(crate) fn selector(&self, program: &Program, segment: u32) -> Option<u16> {
-        if !has_selector(self.kind) {
+        let at = self.selector_address(segment)?;
+        if !program.may_change(at) {
             return None;
         }
-        let at = segment
-            .wrapping_add(self.location)
-            .wrapping_add(u32::from(offset_size(self.kind)));
         Some(program.word(at)?.wrapping_sub(self.own_selector))
     }
 

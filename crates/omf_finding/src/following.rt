@@ -1,8 +1,9 @@
 //! The search: from places that are sure by themselves along references to the end.
 
-use crate::fixes::{Fix, fixes_of};
+use crate::fixes::{Fix, entry_with, fixes_of};
 use crate::names::{Definer, Names};
 use crate::program::Program;
+use crate::sayings::{Sayings, outcomes};
 use crate::shapes::Shape;
 use omf_check::{Checked, TargetMethod};
 use omf_frame::Name;
@@ -17,6 +18,9 @@ const MOST_FRAMES: usize = 64;
 /// The number of times that all references are followed at most.
 const MOST_PASSES: usize = 8;
 
+/// The number of closed bytes from which on the only place of a segment is sure, where its module has another place.
+const LEAST_OF_ANOTHER: usize = 6;
+
 /// What is known of a segment of a module.
 #[derive(Drop)]
 pub(crate) struct Part {
@@ -28,6 +32,8 @@ pub(crate) struct Part {
     pub(crate) place: Option<u32>,
     /// The selector of its frame, once it is known.
     pub(crate) selector: Option<u16>,
+    /// Whether references of one step gave it different places, so that it has none.
+    pub(crate) is_disputed: bool,
 }
 
 /// The modules of a search, and what is known of their places.
@@ -49,8 +55,10 @@ pub(crate) struct Search<'a> {
     pub(crate) names: Names<'a>,
     /// The fixups of each module that has a place.
     pub(crate) fixes: Vec<Option<Vec<Fix>>>,
-    /// The selector of each group's frame, by name.
-    pub(crate) groups: BTreeMap<NameKey<'a>, u16>,
+    /// The number of each group, by name.
+    pub(crate) groups: BTreeMap<NameKey<'a>, usize>,
+    /// The selector of each group's frame, once it is known.
+    pub(crate) frames: Vec<Option<u16>>,
     /// The segments whose references are to be followed.
     pub(crate) queue: Vec<usize>,
 }
@@ -74,8 +82,17 @@ struct Hits {
     several: bool,
 }
 
+/// What is looked at of references.
+#[derive(Clone, Copy)]
+enum Look {
+    /// The selectors at their locations.
+    Selectors,
+    /// Where they lead.
+    Targets,
+}
+
 /// The name of a group; `None` if there is no such group.
-fn group_name(module: &Checked, index: u16) -> Option<Name<'_>> {
+pub(crate) fn group_name(module: &Checked, index: u16) -> Option<Name<'_>> {
     let Rec::Group { name, .. } = module.group(index)? else {
         return None;
     };
@@ -144,10 +161,11 @@ impl<'a> Search<'a> {
         self.parts.get(number)?.place
     }
 
-    /// The name of a group of a module, as a key.
-    fn group_key(&self, module: usize, group: u16) -> Option<NameKey<'a>> {
+    /// The number of a group of a module.
+    fn group_number(&self, module: usize, group: u16) -> Option<usize> {
         let checked = self.modules.get(module)?;
-        Some(NameKey::of(group_name(checked, group)?.0))
+        let key = NameKey::of(group_name(checked, group)?.0);
+        self.groups.get(&key).copied()
     }
 
     /// The greatest selector whose frame begins at or before an address.
@@ -191,16 +209,17 @@ impl<'a> Search<'a> {
                 part.selector
             }
             Kind::Group => {
-                let name = self.group_key(module, entry.index.0)?;
-                self.groups.get(&name).copied()
+                let number = self.group_number(module, entry.index.0)?;
+                *self.frames.get(number)?
             }
             Kind::External => None,
         }
     }
 
-    /// Notes the selector of the frame of an entry of a module, unless one is known.
-    fn learn(
-        &mut self,
+    /// Notes a selector of the frame of an entry of a module.
+    fn note(
+        &self,
+        sayings: &mut Sayings,
         module: usize,
         entry: &TargetMethod,
         selector: u16,
@@ -208,16 +227,12 @@ impl<'a> Search<'a> {
         match entry.kind {
             Kind::Segment => {
                 if let Some(number) = self.number_of(module, entry.index.0) {
-                    if let Some(part) = self.parts.get_mut(number) {
-                        part.selector = part.selector.or(Some(selector));
-                    }
+                    sayings.segments.push((number, u32::from(selector)))?;
                 }
             }
             Kind::Group => {
-                if let Some(name) = self.group_key(module, entry.index.0) {
-                    if self.groups.get(&name).is_none() {
-                        self.groups.insert(name, selector)?;
-                    }
+                if let Some(number) = self.group_number(module, entry.index.0) {
+                    sayings.groups.push((number, u32::from(selector)))?;
                 }
             }
             Kind::External => {}
@@ -225,15 +240,65 @@ impl<'a> Search<'a> {
         Ok(())
     }
 
-    /// Puts a segment at an address, unless it has a place.
+    /// Puts a segment at an address, unless it has a place, is disputed, or a selector would be where the loader changes nothing.
     pub(crate) fn place(&mut self, number: usize, address: u32) -> Result<(), AllocError> {
+        let module = match self.parts.get(number) {
+            Some(part) if part.place.is_none() && !part.is_disputed => part.module as usize,
+            _ => return Ok(()),
+        };
+        self.read_fixes(module)?;
+        if !self.may_be_loaded(number, address) {
+            return Ok(());
+        }
         if let Some(part) = self.parts.get_mut(number) {
-            if part.place.is_none() {
-                part.place = Some(address);
-                self.queue.push(number)?;
-            }
+            part.place = Some(address);
+            self.queue.push(number)?;
         }
         Ok(())
+    }
+
+    /// Whether the frame of a fixup does not move with the program: that of an absolute segment.
+    fn is_absolute(&self, module: usize, fix: &Fix) -> bool {
+        let entry = fix.frame_entry();
+        let Some(checked) = self.modules.get(module) else {
+            return false;
+        };
+        match entry.kind {
+            Kind::Segment => match checked.segment(entry.index.0) {
+                Some(info) => info.absolute.is_some(),
+                None => false,
+            },
+            Kind::Group | Kind::External => false,
+        }
+    }
+
+    /// Whether the loader changes each selector of a segment, where it is at this address.
+    fn may_be_loaded(&self, number: usize, address: u32) -> bool {
+        let Some(part) = self.parts.get(number) else {
+            return false;
+        };
+        let module = part.module as usize;
+        for k in self.first_fix(module, part.segment)..usize::MAX {
+            match self.fix(module, k) {
+                Some(fix) if fix.segment == part.segment => {
+                    if let Some(at) = fix.selector_address(address)
+                        && !self.program.may_change(at)
+                        && !self.is_absolute(module, &fix)
+                    {
+                        return false;
+                    }
+                }
+                _ => break,
+            }
+        }
+        true
+    }
+
+    /// A segment without a place is disputed.
+    fn dispute(&mut self, number: usize) {
+        if let Some(part) = self.parts.get_mut(number) {
+            part.is_disputed = part.place.is_none();
+        }
     }
 
     /// The addresses that a self-relative fixup may mean, where its segment is at this address.
@@ -352,11 +417,28 @@ impl<'a> Search<'a> {
         hits
     }
 
-    /// Follows a reference of a module's segment at this address.
-    fn follow(&mut self, module: usize, segment: u32, fix: &Fix) -> Result<(), AllocError> {
-        if let Some(selector) = fix.selector(self.program, segment) {
-            self.learn(module, &fix.frame_entry(), selector)?;
+    /// Notes the selector that a fixup of a module's segment at this address shows.
+    fn note_selector(
+        &self,
+        sayings: &mut Sayings,
+        module: usize,
+        segment: u32,
+        fix: &Fix,
+    ) -> Result<(), AllocError> {
+        match fix.selector(self.program, segment) {
+            Some(selector) => self.note(sayings, module, &fix.frame_entry(), selector),
+            None => Ok(()),
         }
+    }
+
+    /// Notes where a reference of a module's segment at this address leads.
+    fn follow(
+        &self,
+        sayings: &mut Sayings,
+        module: usize,
+        segment: u32,
+        fix: &Fix,
+    ) -> Result<(), AllocError> {
         let targets = self.targets(module, segment, fix)?;
         let definers = self.definers_of(module, &fix.target)?;
         let mut hits = Hits {
@@ -368,34 +450,24 @@ impl<'a> Search<'a> {
         }
         match hits.first {
             Some(hit) if !hits.several => {
-                self.place(hit.number, hit.address)?;
-                self.learn_from(module, segment, fix, hit)
+                sayings.places.push((hit.number, hit.address))?;
+                match self.frame_from(segment, fix, hit) {
+                    Some(selector) => self.note(sayings, module, &fix.frame_entry(), selector),
+                    None => Ok(()),
+                }
             }
             _ => Ok(()),
         }
     }
 
-    /// Notes the frame that follows from a fixup's offset to a place, if the place is sure enough.
-    fn learn_from(
-        &mut self,
-        module: usize,
-        segment: u32,
-        fix: &Fix,
-        hit: Hit,
-    ) -> Result<(), AllocError> {
-        let Some(shape) = self.shape(hit.number) else {
-            return Ok(());
-        };
-        let Some(offset) = fix.offset(self.program, segment) else {
-            return Ok(());
-        };
+    /// The frame that follows from a fixup's offset to a place, if the place is sure enough.
+    fn frame_from(&self, segment: u32, fix: &Fix, hit: Hit) -> Option<u16> {
+        let shape = self.shape(hit.number)?;
+        let offset = fix.offset(self.program, segment)?;
         if shape.closed < 16 || !fix.is_segment_relative {
-            return Ok(());
+            return None;
         }
-        match self.frame_for(hit.target, fix.displacement, offset) {
-            Some(selector) => self.learn(module, &fix.frame_entry(), selector),
-            None => Ok(()),
-        }
+        self.frame_for(hit.target, fix.displacement, offset)
     }
 
     /// Reads the fixups of a module, unless they were.
@@ -427,8 +499,13 @@ impl<'a> Search<'a> {
         }
     }
 
-    /// Follows the references of a segment that has a place.
-    fn explore(&mut self, number: usize) -> Result<(), AllocError> {
+    /// Looks at the references of a segment that has a place: at selectors, or at where they lead.
+    fn explore(
+        &self,
+        sayings: &mut Sayings,
+        number: usize,
+        look: Look,
+    ) -> Result<(), AllocError> {
         let Some(part) = self.parts.get(number) else {
             return Ok(());
         };
@@ -436,30 +513,99 @@ impl<'a> Search<'a> {
         let Some(place) = part.place else {
             return Ok(());
         };
-        self.read_fixes(module)?;
         for k in self.first_fix(module, segment)..usize::MAX {
-            match self.fix(module, k) {
-                Some(fix) if fix.segment == segment => self.follow(module, place, &fix)?,
+            match (self.fix(module, k), look) {
+                (Some(fix), Look::Selectors) if fix.segment == segment => {
+                    self.note_selector(sayings, module, place, &fix)?;
+                }
+                (Some(fix), Look::Targets) if fix.segment == segment => {
+                    self.follow(sayings, module, place, &fix)?;
+                }
                 _ => break,
             }
         }
         Ok(())
     }
 
-    /// Follows the references of all segments in the queue, and of those that are placed meanwhile.
+    /// Takes the frames that were shown: of a segment or group without one, the one that is shown most often.
+    fn take_frames(&mut self, sayings: &mut Sayings) -> Result<(), AllocError> {
+        for one in &outcomes(self.alloc, &mut sayings.segments)? {
+            if let Some(part) = self.parts.get_mut(one.subject) {
+                part.selector = part.selector.or(u16::try_from(one.value).ok());
+            }
+        }
+        for one in &outcomes(self.alloc, &mut sayings.groups)? {
+            if let Some(frame) = self.frames.get_mut(one.subject) {
+                *frame = frame.or(u16::try_from(one.value).ok());
+            }
+        }
+        Ok(())
+    }
+
+    /// Takes the places that were shown: of a segment without one the place, if all that is shown of it is this one.
+    fn take_places(&mut self, sayings: &mut Sayings) -> Result<(), AllocError> {
+        for one in &outcomes(self.alloc, &mut sayings.places)? {
+            if one.is_disputed {
+                self.dispute(one.subject);
+            } else {
+                self.place(one.subject, one.value)?;
+            }
+        }
+        Ok(())
+    }
+
+    /// Reads the fixups of the modules of segments.
+    fn read_all(&mut self, level: &[usize]) -> Result<(), AllocError> {
+        for number in level {
+            if let Some(part) = self.parts.get(*number) {
+                let module = part.module as usize;
+                self.read_fixes(module)?;
+            }
+        }
+        Ok(())
+    }
+
+    /// Looks at the references of these segments.
+    fn explore_all(&self, level: &[usize], look: Look) -> Result<Sayings, AllocError> {
+        let mut sayings = Sayings::new(self.alloc);
+        for number in level {
+            self.explore(&mut sayings, *number, look)?;
+        }
+        Ok(sayings)
+    }
+
+    /// Follows the references of all segments in the queue at once: first their selectors count, and then where they lead. So the order in which
+    /// the segments are in the queue does not matter.
+    fn step(&mut self) -> Result<(), AllocError> {
+        let level = self.queue.clone()?;
+        self.queue.clear();
+        self.read_all(&level)?;
+        let mut selectors = self.explore_all(&level, Look::Selectors)?;
+        self.take_frames(&mut selectors)?;
+        let mut sayings = self.explore_all(&level, Look::Targets)?;
+        self.take_frames(&mut sayings)?;
+        self.take_places(&mut sayings)
+    }
+
+    /// Follows the references of all segments in the queue, then of those that are placed by these, and so on.
     fn drain(&mut self) -> Result<(), AllocError> {
         for _ in 0..usize::MAX {
-            match self.queue.pop() {
-                Some(number) => self.explore(number)?,
-                None => break,
+            if self.queue.is_empty() {
+                break;
             }
+            self.step()?;
         }
         Ok(())
     }
 
     /// The number of frames that are known.
     fn frames_known(&self) -> usize {
-        let mut count = self.groups.len();
+        let mut count: usize = 0;
+        for frame in &self.frames {
+            if frame.is_some() {
+                count = count.saturating_add(1);
+            }
+        }
         for part in &self.parts {
             if part.selector.is_some() {
                 count = count.saturating_add(1);
@@ -478,15 +624,98 @@ impl<'a> Search<'a> {
         Ok(())
     }
 
-    /// Follows all references, and again as long as more frames are known.
+    /// Places the segments of modules that have a place by what only a whole module shows: of a segment that may be at one place this one, and the
+    /// places that the externals show.
+    fn complete(&mut self) -> Result<(), AllocError> {
+        let mut sayings = Sayings::new(self.alloc);
+        let shapes = self.shapes;
+        for (module, own) in shapes.iter().enumerate() {
+            if self.has_place(module, own) {
+                self.note_singles(&mut sayings, module, own)?;
+                self.note_externals(&mut sayings, module)?;
+            }
+        }
+        self.take_places(&mut sayings)
+    }
+
+    /// Notes the only places of a module's segments.
+    fn note_singles(
+        &self,
+        sayings: &mut Sayings,
+        module: usize,
+        shapes: &[Shape],
+    ) -> Result<(), AllocError> {
+        for shape in shapes {
+            if let (Some(address), Some(number)) = (
+                shape.single_place(),
+                self.number_of(module, shape.segment),
+            ) {
+                if shape.closed >= LEAST_OF_ANOTHER && self.place_of(number).is_none() {
+                    sayings.places.push((number, address))?;
+                }
+            }
+        }
+        Ok(())
+    }
+
+    /// Notes where the externals of a module are, by all its references together.
+    fn note_externals(&self, sayings: &mut Sayings, module: usize) -> Result<(), AllocError> {
+        let Some(checked) = self.modules.get(module) else {
+            return Ok(());
+        };
+        let settled = self.settle(module, checked)?;
+        for before in 0..checked.externals() {
+            let external = before.saturating_add(1);
+            if settled.unknown.binary_search(&external).is_ok() {
+                continue;
+            }
+            if let Some(place) = settled.placement.external(usize::from(external)) {
+                self.note_definer(sayings, module, external, place.address)?;
+            }
+        }
+        Ok(())
+    }
+
+    /// Notes the place of the segment that defines an external at an address, if it is one alone.
+    fn note_definer(
+        &self,
+        sayings: &mut Sayings,
+        module: usize,
+        external: u16,
+        address: u32,
+    ) -> Result<(), AllocError> {
+        let definers = self.definers_of(module, &entry_with(Kind::External, external))?;
+        let hits = self.weigh(
+            Hits {
+                first: None,
+                several: false,
+            },
+            &definers,
+            address,
+        );
+        match hits.first {
+            Some(hit) if !hits.several && self.place_of(hit.number).is_none() => {
+                sayings.places.push((hit.number, hit.address))?;
+            }
+            _ => {}
+        }
+        Ok(())
+    }
+
+    /// Follows all references, and again as long as more frames or places are known.
     pub(crate) fn close(&mut self) -> Result<(), AllocError> {
         for _ in 0..MOST_PASSES {
             let before = self.frames_known();
             self.drain()?;
-            if self.frames_known() == before {
+            self.complete()?;
+            let is_known = self.frames_known() == before;
+            if is_known && self.queue.is_empty() {
                 break;
             }
-            self.requeue()?;
+            if !is_known {
+                self.queue.clear();
+                self.requeue()?;
+            }
         }
         self.queue.clear();
         Ok(())

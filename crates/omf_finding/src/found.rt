@@ -43,7 +43,7 @@ fn segment_agrees(image: &Image, segment: u16, address: u32, program: &[u8], bas
 }
 
 /// Whether a segment is one of those that are absent.
-fn is_absent(absent: &[u16], segment: u16) -> bool
+pub(crate) fn is_absent(absent: &[u16], segment: u16) -> bool
     ensures { result ≡ is_one_of absent.now segment }
 {
     absent.iter().any(|other| *other == segment)

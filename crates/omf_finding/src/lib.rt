@@ -2,6 +2,7 @@
 #![tactic(auto)]
 
 mod asking;
+mod chaining;
 mod closed;
 mod finding;
 mod findings;
@@ -15,6 +16,7 @@ mod nearing;
 mod patterning;
 mod program;
 pub mod rows;
+mod sayings;
 mod settling;
 mod shapes;
 mod singles;

@@ -64,6 +64,14 @@ impl Program {
         little_number(self.bytes_at(address), size)
     }
 
+    /// Whether the loader changes the word at an address, as far as that is known.
+    pub(crate) fn may_change(&self, address: u32) -> bool {
+        match &self.relocated {
+            Some(relocated) => relocated.binary_search(&address).is_ok(),
+            None => true,
+        }
+    }
+
     /// The selectors that it uses, in ascending order: of the words that the loader changes, of CS, and the others.
     pub(crate) fn frames(&self) -> Result<Vec<u16>, AllocError> {
         let mut frames = self.selectors.clone()?;

@@ -30,6 +30,8 @@ pub(crate) struct Shape {
     pub(crate) segment: u16,
     /// The number of its closed bytes.
     pub(crate) closed: usize,
+    /// How many of these differ from the one before, if it is at one place of the program.
+    pub(crate) varied: usize,
     /// The offset of its first byte of data.
     first: u32,
     /// The offset after its last byte of data; 0 if it has none.
@@ -249,6 +251,38 @@ fn closed_in(interval: Interval<'_>) -> usize {
     closed
 }
 
+/// How many closed bytes of an interval differ from the one before.
+fn varied_in(interval: Interval<'_>) -> usize {
+    let mut varied: usize = 0;
+    let mut last = None;
+    for (value, mark) in interval.values.iter().zip(interval.marks) {
+        if !is_closed(*mark) {
+            last = None;
+        } else if last != Some(*value) {
+            varied = varied.saturating_add(1);
+            last = Some(*value);
+        }
+    }
+    varied
+}
+
+/// How many closed bytes differ from the one before.
+fn count_varied(intervals: &[Interval<'_>]) -> usize {
+    let mut varied: usize = 0;
+    for interval in intervals {
+        varied = varied.saturating_add(varied_in(*interval));
+    }
+    varied
+}
+
+/// The same of a segment with one place; 0 of others, where it is not needed.
+fn varied_at(places: &[u32], intervals: &[Interval<'_>]) -> usize {
+    match places {
+        [_] => count_varied(intervals),
+        _ => 0,
+    }
+}
+
 /// The number of closed bytes.
 pub(crate) fn count_closed(intervals: &[Interval<'_>]) -> usize {
     let mut closed: usize = 0;
@@ -358,9 +392,11 @@ impl<'a> Indexed<'a> {
         match rarest_of(&self.windows, intervals) {
             Some(rare) => {
                 let (places, more) = self.places_of(alloc, intervals, rare)?;
+                let varied = varied_at(&places, intervals);
                 Ok(Shape {
                     segment,
                     closed,
+                    varied,
                     first,
                     end,
                     is_searched: true,
@@ -374,6 +410,7 @@ impl<'a> Indexed<'a> {
                 Ok(Shape {
                     segment,
                     closed,
+                    varied: 0,
                     first,
                     end,
                     is_searched: false,
@@ -440,6 +477,28 @@ impl Shape {
     /// Whether it has data.
     pub(crate) fn has_data(&self) -> bool {
         self.end > 0
+    }
+
+    /// Whether it is searched for, and is nowhere in the program.
+    pub(crate) fn is_nowhere(&self) -> bool {
+        self.is_searched && self.places.is_empty() && !self.more
+    }
+
+    /// Its only place; `None` if it has none, or may have more.
+    pub(crate) fn single_place(&self) -> Option<u32> {
+        match (self.places.as_slice(), self.more) {
+            ([address], false) => Some(*address),
+            _ => None,
+        }
+    }
+
+    /// The addresses of its data, where it is at this address: of the first byte, and the one after the last.
+    pub(crate) fn extent(&self, address: u32) -> (u64, u64) {
+        let address = u64::from(address);
+        (
+            address.saturating_add(u64::from(self.first)),
+            address.saturating_add(self.end),
+        )
     }
 
     /// Whether all its data would be inside the program.

@@ -1,5 +1,5 @@
 -- How the segments that are nearly in a program are computed. Only private functions use these definitions.
-use Rattle.std.specs.Prelude.{◌≡◌, ◌⊎◌, ◌<◌, ◌≤◌, ◌+◌, ◌^◌, ◌==◌, ℕ, List, [], ◌∷◌, Contains, drop, filter_map, flat_map, length, nat_le, Bool, true, false, Option, Some, None, slice_get, if◌then◌else◌}
+use Rattle.std.specs.Prelude.{◌≡◌, ◌⊎◌, ◌<◌, ◌≤◌, ◌+◌, ◌^◌, ◌==◌, ℕ, List, Contains, drop, filter_map, length, nat_le, Bool, Option, Some, None, slice_get, if◌then◌else◌}
 use Rattle.std.specs.List.{range_with_len}
 use Rattle.omf_finding.specs.Finding.{IsInside}
 use Rattle.omf_finding.specs.Fours.{AreAt}

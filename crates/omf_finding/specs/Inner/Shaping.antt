@@ -1,5 +1,5 @@
 -- How the places of a segment are computed. Only private functions use these definitions.
-use Rattle.std.specs.Prelude.{◌≡◌, ◌⊎◌, ◌<◌, ◌≤◌, ℕ, ◌+◌, ◌-◌, ◌*◌, ◌^◌, ◌==◌, ◌&&◌, ◌||◌, not, List, [], ◌∷◌, length, drop, Bool, true, false, nat_le, nat_lt, Option, Some, None, IsSome, IsNone, IfSome, option_map, slice_get, Contains, get_or, ◌≢◌, if◌then◌else◌}
+use Rattle.std.specs.Prelude.{◌≡◌, ◌<◌, ◌≤◌, ℕ, ◌+◌, ◌-◌, ◌*◌, ◌^◌, ◌==◌, ◌&&◌, ◌||◌, not, List, [], ◌∷◌, length, drop, Bool, true, false, nat_le, nat_lt, Option, Some, None, IsSome, IsNone, option_map, slice_get, Contains, ◌≢◌, if◌then◌else◌}
 use Rattle.std.specs.List.{AllPairs, list_all, zip}
 use Rattle.std.specs.List.Sorted.{IsNonDecreasing, IsStrictlyIncreasing}
 use Rattle.std.specs.Global.{Vec}

@@ -12,7 +12,7 @@ link_of-requires g c =
     let p = c.args.loaded.now.program in
     let ms = c.args.source.gathered.now.modules.items in
     let vs = c.in_ok-findings.findings.verdicts.items in
-    all_held p 16 ms vs (subst (λ (xs : List Module). AllZip (IsTold p 16) xs vs) c.modules.ensures c.in_ok-findings.ensures)
+    all_held p 16 ms vs (subst (λ (xs : List Module). AllZip (IsTold p 16) xs vs) c.modules.ensures c.in_ok-findings.ensures.told)
 
 pub returns : goal.returns
 returns g c = (

@@ -1,5 +1,4 @@
 use Rattle.std.proofs.Common.{◌≡◌, ◌∙◌, None, sym, rules}
-use Rattle.omf_finding.specs.Near.{differences}
 use Rattle.omf_finding.proofs.NearLaws.{few-count, few-low, few-past}
 use Rattle.omf_finding.proofs.nearing.few_differences.Goals as goal
 

@@ -1,4 +1,4 @@
-use Rattle.std.proofs.Common.{rules, arith, ◌≡◌, ◌++◌, ◌∷◌, [], ◌+◌, ◌<◌, ◌^◌, Some, sym, subst, ◌∙◌}
+use Rattle.std.proofs.Common.{rules, ◌≡◌, ◌++◌, ◌∷◌, [], ◌+◌, ◌<◌, ◌^◌, Some, sym, subst}
 use Rattle.omf_finding.specs.Inner.Shaping.{HasWindows, OnlyWindows, window_at}
 use Rattle.omf_finding.proofs.WindowLaws.{only-more, only-same}
 use Rattle.omf_finding.proofs.windows.all_windows.Goals.{in-Ok+in-Some+in_ok-push, in-Ok+in_default-window_at, in_default}

@@ -3,7 +3,6 @@ use Rattle.std.specs.Prelude.{All}
 use Rattle.omf_finding.specs.Inner.Nearing.{AreNearOf}
 use Rattle.omf_finding.specs.Inner.Shaping.{AreIntervals, IsWhole}
 use Rattle.omf_finding.specs.Inner.Walking.{byte_in}
-use Rattle.omf_finding.specs.declared.patterning.Interval.{Interval}
 use Rattle.omf_finding.proofs.NearLaws.{nears-first, nears-last, nears-next}
 use Rattle.omf_finding.proofs.ShapeLaws.{intervals-whole}
 use Rattle.omf_finding.proofs.nearing.Indexed.near_segments.Goals as goal

@@ -1,8 +1,7 @@
-use Rattle.std.proofs.Common.{◌+◌, List, sym, subst}
+use Rattle.std.proofs.Common.{◌+◌, sym, subst}
 use Rattle.std.specs.Prelude.{All}
 use Rattle.omf_finding.specs.Inner.Shaping.{AreIntervals, AreShapes, IsShape, IsWhole}
 use Rattle.omf_finding.specs.Inner.Walking.{byte_in}
-use Rattle.omf_finding.specs.declared.patterning.Interval.{Interval}
 use Rattle.omf_finding.proofs.ShapeLaws.{intervals-whole, shapes-first, shapes-last, shapes-next}
 use Rattle.omf_finding.proofs.shapes.Indexed.pattern_shapes.Goals as goal
 

@@ -1,6 +1,5 @@
-use Rattle.std.proofs.Common.{rules, arith, ◌≡◌, ◌≤◌, ◌+◌, ◌++◌, ◌∷◌, [], length, sym, ap, subst, ◌∙◌}
+use Rattle.std.proofs.Common.{rules, arith, ◌≡◌, ◌≤◌, ◌+◌, ◌++◌, ◌∷◌, [], length, sym, ap, subst}
 use Rattle.omf_finding.specs.Inner.Shaping.{is_at}
-use Rattle.omf_finding.specs.declared.shapes.Tried.TheVariants as tried
 use Rattle.omf_finding.proofs.PlaceLaws.{cut-common, cut-full, places-all, places-some}
 use Rattle.omf_finding.proofs.WindowLaws.{AreSoFar, places-more, places-same, tries-rise, trying}
 use Rattle.omf_finding.proofs.shapes.Indexed.places_of.Goals.{in-Other, in-Place+else-len-self+in_ok-push_place-in-Place}

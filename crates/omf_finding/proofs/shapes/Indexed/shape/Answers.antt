@@ -10,6 +10,7 @@ returns-in_ok-few-in-None-clause-shape c =
     (record {
       segment = c.args.segment;
       closed = c.count_closed-closed.result;
+      varied = 0;
       first = c.extent-first.result.0;
       end = c.extent-first.result.1;
       is_searched = false;

@@ -1,0 +1,25 @@
+use Rattle.std.proofs.Common.{◌+◌, List, take, sym, subst, arith}
+use Rattle.std.specs.Prelude.{Option}
+use Rattle.std.specs.List.{AllZip}
+use Rattle.omf_finding.specs.declared.findings.Found.{Found}
+use Rattle.omf_finding.specs.Inner.Chaining.{IsDraft}
+use Rattle.omf_finding.specs.Inner.Shaping.{HasShapes}
+use Rattle.omf_finding.proofs.CandidateLaws.{zip-long}
+use Rattle.omf_finding.proofs.TellingLaws.{zip-more, zip-end}
+use Rattle.omf_finding.proofs.finding.drafts.Goals as goal
+
+pub bounds-shapes-number : goal.bounds-shapes-number
+bounds-shapes-number c =
+    let long = zip-long (HasShapes c.args.ended.program.now c.args.ended.most) c.args.modules.now c.args.shapes.now c.requires in
+    omega (arith, c.loop-number-test.true, long)
+
+pub loop-number-preserved : goal.loop-number-preserved
+loop-number-preserved c =
+    let draft = IsDraft c.args.ended.program.now in
+    let ms = c.args.modules.now in
+    let n = c.loop-number.number in
+    subst (λ (vs : List (Option Found)). AllZip draft (take (n + 1) ms) vs) (sym c.in_ok-push.ensures.items)
+    (zip-more draft ms c.loop-number.drafts.items n c.index-modules-number.result c.in_ok-held.field-0 c.index-modules-number.is c.loop-number-test.true c.loop-number.invariant c.in_ok-held.ensures)
+
+pub returns : goal.returns
+returns c = zip-end (IsDraft c.args.ended.program.now) c.args.modules.now c.loop-number.drafts.items c.loop-number.number c.loop-number-test.false c.loop-number.invariant

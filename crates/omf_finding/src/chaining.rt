@@ -1,0 +1,512 @@
+//! Which modules that are in the program are found: those that a chain of references joins to one that is sure by itself.
+
+ghost use Rattle.std.specs.Prelude.{◌≡◌, ◌==◌, ◌&&◌, ◌∷◌, [], ◌<◌, bytes_eq, length, set, true, false, IfOk, IfSome, OnOk, Some, replicate, slice_get};
+ghost use Rattle.std.specs.List.{AllZip, list_any};
+ghost use Rattle.omf_check.specs.Module.{Module, recs_of};
+ghost use Rattle.omf_reloc.specs.Reach.{Reaches};
+ghost use Rattle.omf_finding.specs.Chain.{IsAlone, IsStart, IsSure, Refers, address_of, defines, enough, is_code, is_code_name, is_public, present_at, record_defines};
+ghost use Rattle.omf_finding.specs.Inner.Chaining.{HasClosed, HaveJoined, IsDraft, IsKnown, RefersAt, draft_at, has_joined};
+ghost use Rattle.omf_finding.specs.Inner.Shaping.{HasShapes, HaveShapes, IsMarked, IsPatternOf, IsShapeOf};
+ghost use Rattle.omf_finding.specs.Inner.Walking.{byte_in};
+
+use crate::closed::closed_bytes;
+use crate::findings::Found;
+use crate::fixes::entry_with;
+use crate::following::Search;
+use crate::found::is_absent;
+use crate::names::Definer;
+use crate::patterning::{Pattern, marked_pattern};
+use crate::program::Program;
+use crate::shapes::{Shape, count_closed};
+use crate::singles::Singles;
+use omf_check::{Checked, Undecoded};
+use omf_frame::Name;
+use omf_records::{Items, Kind, Public};
+use omf_reloc::{Placed, start};
+use std::alloc::{AllocError, Global};
+
+/// The modules of a search, each with the placement that is tried, if it is in the program there.
+#[derive(Clone, Copy)]
+pub(crate) struct Tried<'a, 'b, 'c> {
+    pub(crate) alloc: Global,
+    pub(crate) search: &'b Search<'a>,
+    pub(crate) singles: &'b Singles,
+    pub(crate) program: &'b Program,
+    pub(crate) modules: &'c [Checked],
+    pub(crate) shapes: &'b [Vec<Shape>],
+    pub(crate) drafts: &'b [Option<Found>],
+    /// The number of closed bytes from which on a segment with one place is sure by itself.
+    pub(crate) least: usize,
+    /// The number of places that are listed of a segment at most.
+    pub(crate) most: usize,
+}
+
+/// The place of a segment that is not absent.
+fn present_at(found: &Found, segment: u16) -> Option<Placed>
+    ensures { result ≡ present_at found.now segment }
+{
+    if is_absent(&found.absent, segment) {
+        return None;
+    }
+    found.placement.segment(usize::from(segment))
+}
+
+/// Whether a segment has at least this many closed bytes.
+fn has_closed(
+    alloc: Global,
+    pattern: &Pattern,
+    segment: u16,
+    least: usize,
+) -> Result<bool, AllocError>
+    requires { IsMarked pattern.now }
+    ensures { IfOk result (λ r. r ≡ true → HasClosed (byte_in pattern.now segment) least) }
+{
+    let intervals = pattern.intervals(alloc, segment)?;
+    let count = count_closed(&intervals);
+    let closed = closed_bytes(alloc, &intervals, count)?;
+    Ok(least <= closed.len())
+}
+
+/// Whether a class is one of code, if it has a name.
+fn is_code_name(class: Option<Name<'_>>) -> bool
+    ensures { result ≡ is_code_name class.entry }
+{
+    match class {
+        Some(class) => class.0.ends_with(b"CODE"),
+        None => false,
+    }
+}
+
+/// Whether a segment is of code: the name of its class ends with `CODE`.
+fn is_code(module: &Checked, segment: u16) -> bool
+    ensures { result ≡ is_code (recs_of «module».now.bytes) segment }
+{
+    match module.segment(segment) {
+        Some(info) => is_code_name(module.name(info.class)),
+        None => false,
+    }
+}
+
+/// The number of closed bytes from which on the only place of a segment is sure: of one of code half as many as of others.
+pub(crate) fn enough(module: &Checked, segment: u16, least: usize) -> usize
+    ensures { result ≡ enough least (recs_of «module».now.bytes) segment }
+{
+    if is_code(module, segment) {
+        least / 2
+    } else {
+        least
+    }
+}
+
+/// The only place of a segment that is searched for.
+fn only_place(shape: &Shape) -> Option<u32>
+    ensures { IfSome result (λ a. (shape.now.places.items ≡ a ∷ []) × (shape.now.more ≡ false)) }
+{
+    if shape.more {
+        return None;
+    }
+    match shape.places.as_slice() {
+        [address] => Some(*address),
+        _ => None,
+    }
+}
+
+/// Whether a module is placed at its start, which is the program's.
+fn is_start(program: &Program, module: &Checked, found: &Found) -> bool
+    requires { Reaches found.now.placement (recs_of «module».now.bytes) }
+    ensures { result ≡ true → IsStart program.now «module».now found.now }
+{
+    let Some(own) = start(module, &found.placement) else {
+        return false;
+    };
+    let Some(given) = program.start else {
+        return false;
+    };
+    address_of(own.0, own.1) == address_of(given.0, u32::from(given.1))
+}
+
+/// The address of a selector and an offset.
+fn address_of(selector: u16, offset: u32) -> u64
+    ensures { result ≡ address_of (selector, offset) }
+{
+    16 * u64::from(selector) + u64::from(offset)
+}
+
+/// Whether a public has a name and an offset.
+fn is_public(public: &Public<'_>, name: &[u8], offset: u32) -> bool
+    ensures { result ≡ (bytes_eq public.now.name name.now && (public.now.offset == offset)) }
+{
+    public.name.0 == name && public.offset == offset
+}
+
+/// Whether one of these publics has a name and an offset.
+fn has_public(publics: Items<Public<'_>>, name: &[u8], offset: u32) -> bool
+    ensures { result ≡ list_any (is_public name.now offset) publics.entry }
+{
+    let mut found = false;
+    for public in publics {
+        found = found || is_public(&public.item, name, offset);
+    }
+    found
+}
+
+/// Whether a record defines a name at an offset of a segment.
+fn record_defines(rec: &Undecoded<'_>, name: &[u8], segment: u16, offset: u32) -> bool
+    ensures { result ≡ record_defines name.now segment offset rec.now }
+{
+    let Some(publics) = rec.as_publics(false) else {
+        return false;
+    };
+    if publics.segment.item.0 == segment {
+        has_public(publics.items, name, offset)
+    } else {
+        false
+    }
+}
+
+/// Whether a module defines a name at an offset of a segment.
+fn defines(module: &Checked, name: &[u8], segment: u16, offset: u32) -> bool
+    ensures { result ≡ defines name.now segment offset (recs_of «module».now.bytes) }
+{
+    let mut found = false;
+    for (_, rec) in module.undecoded() {
+        found = found || record_defines(&rec, name, segment, offset);
+    }
+    found
+}
+
+/// The name of an external that is not local, if something shows where it is.
+fn known_name<'a>(module: &'a Checked, found: &Found, external: u16) -> Option<&'a [u8]>
+    ensures { IfSome result (λ name. IsKnown (recs_of «module».entry.now.bytes) found.now external name.now) }
+{
+    let is_local = module.local(external)?;
+    if is_local {
+        return None;
+    }
+    if is_absent(&found.unknown, external) {
+        return None;
+    }
+    let name = module.external(external)?;
+    Some(name.0)
+}
+
+/// An external of a module at its placement.
+#[derive(Clone, Copy)]
+struct Reference<'b, 'c> {
+    module: &'c Checked,
+    found: &'b Found,
+    external: u16,
+}
+
+/// A module at its placement, and an offset of one of its segments.
+#[derive(Clone, Copy)]
+struct Target<'b, 'c> {
+    module: &'c Checked,
+    found: &'b Found,
+    segment: u16,
+    offset: u32,
+}
+
+/// Whether a reference is to a public at a target.
+fn refers(reference: Reference<'_, '_>, target: Target<'_, '_>) -> bool
+    ensures { result ≡ true → Refers (recs_of reference.entry.«module».now.bytes) reference.entry.found.now (recs_of target.entry.«module».now.bytes) target.entry.found.now }
+{
+    let Some(there) = reference
+        .found
+        .placement
+        .external(usize::from(reference.external))
+    else {
+        return false;
+    };
+    let Some(place) = present_at(target.found, target.segment) else {
+        return false;
+    };
+    if u64::from(place.address) + u64::from(target.offset) != u64::from(there.address) {
+        return false;
+    }
+    match known_name(reference.module, reference.found, reference.external) {
+        Some(name) => defines(target.module, name, target.segment, target.offset),
+        None => false,
+    }
+}
+
+/// The modules that are found so far, and of which of them references are to be followed.
+#[derive(Drop)]
+pub(crate) struct Joined {
+    /// Whether each module is found.
+    marks: Vec<bool>,
+    queue: Vec<usize>,
+}
+
+impl Joined {
+    /// None of n modules.
+    fn new(alloc: Global, count: usize) -> Result<Joined, AllocError>
+        ensures { IfOk result (λ j. j.marks.items ≡ replicate count false) }
+    {
+        Ok(Joined {
+            marks: vec![in alloc; false; count]?,
+            queue: Vec::new(alloc),
+        })
+    }
+
+    /// Whether a module is found.
+    pub(crate) fn has(&self, number: usize) -> bool
+        ensures { result ≡ has_joined self.now.marks.items number }
+    {
+        match self.marks.get(number) {
+            Some(mark) => *mark,
+            None => false,
+        }
+    }
+
+    /// A module is found.
+    fn join(&mut self, number: usize) -> Result<(), AllocError>
+        requires { number < length self.old.marks.items }
+        ensures { OnOk result (self.new.marks.items ≡ set self.old.marks.items number true) }
+    {
+        self.marks[number] = true;
+        self.queue.push(number)?;
+        Ok(())
+    }
+}
+
+impl<'a, 'b, 'c> Tried<'a, 'b, 'c> {
+    /// Whether one of the segments of a module is sure by its bytes.
+    fn is_alone_at(
+        self,
+        module: &Checked,
+        found: &Found,
+        pattern: &Pattern,
+        shape: &Shape,
+    ) -> Result<bool, AllocError>
+        requires { IsMarked pattern.now }
+        ensures { IfOk result (λ r. r ≡ true → IsPatternOf «module».now pattern.now → IsShapeOf self.entry.program.now self.entry.most «module».now shape.now → IsAlone self.entry.program.now self.entry.least «module».now found.now) }
+    {
+        let Some(address) = only_place(shape) else {
+            return Ok(false);
+        };
+        let Some(place) = present_at(found, shape.segment) else {
+            return Ok(false);
+        };
+        if place.address != address {
+            return Ok(false);
+        }
+        let enough = enough(module, shape.segment, self.least);
+        has_closed(self.alloc, pattern, shape.segment, enough)
+    }
+
+    /// Whether a segment of a module is sure by its bytes.
+    fn is_alone(
+        self,
+        module: &Checked,
+        found: &Found,
+        shapes: &[Shape],
+    ) -> Result<bool, AllocError>
+        requires { HaveShapes self.program.now self.most «module».now shapes.now }
+        ensures { IfOk result (λ r. r ≡ true → IsAlone self.entry.program.now self.entry.least «module».now found.now) }
+    {
+        let pattern = marked_pattern(self.alloc, module)?;
+        for shape in shapes {
+            if self.is_alone_at(module, found, &pattern, shape)? {
+                return Ok(true);
+            }
+        }
+        Ok(false)
+    }
+
+    /// Whether a segment of a module seems to be sure by its bytes: at its place are no closed bytes of another one.
+    fn seems_alone(self, number: usize, found: &Found, shapes: &[Shape]) -> bool {
+        shapes.iter().any(|shape| match only_place(shape) {
+            Some(address) => self.is_single(number, shape.segment, address)
+                && found.absent.binary_search(&shape.segment).is_err(),
+            None => false,
+        })
+    }
+
+    /// Whether no other segment is only at this address.
+    fn is_single(self, number: usize, segment: u16, address: u32) -> bool {
+        match self.search.number_of(number, segment) {
+            Some(part) => self.singles.is_alone(address, part) && self.search.is_whole(part),
+            None => false,
+        }
+    }
+
+    /// Whether a module at its placement is sure by itself.
+    fn is_sure(
+        self,
+        number: usize,
+        module: &Checked,
+        found: &Found,
+        shapes: &[Shape],
+    ) -> Result<bool, AllocError>
+        requires shapes { HaveShapes self.program.now self.most «module».now shapes.now }
+        requires held { Reaches found.now.placement (recs_of «module».now.bytes) }
+        ensures { IfOk result (λ r. r ≡ true → IsSure self.entry.program.now self.entry.least «module».now found.now) }
+    {
+        if is_start(self.program, module, found) {
+            return Ok(true);
+        }
+        if !self.seems_alone(number, found, shapes) {
+            return Ok(false);
+        }
+        self.is_alone(module, found, shapes)
+    }
+
+    /// Joins a module, if it is sure by itself.
+    fn join_sure(self, joined: &mut Joined, number: usize) -> Result<(), AllocError>
+        requires shapes { AllZip (HasShapes self.program.now self.most) self.modules.now self.shapes.now }
+        requires drafts { AllZip (IsDraft self.program.now) self.modules.now self.drafts.now }
+        requires joined { HaveJoined self joined.old.marks.items }
+        ensures { OnOk result (HaveJoined self.entry joined.new.marks.items) }
+    {
+        let Some((module, found)) = self.draft(number) else {
+            return Ok(());
+        };
+        let shapes = self.shapes;
+        if number >= shapes.len() {
+            return Ok(());
+        }
+        if number >= joined.marks.len() {
+            return Ok(());
+        }
+        let own = shapes[number].as_slice();
+        let is_sure = self.is_sure(number, module, found, own)?;
+        if is_sure {
+            joined.join(number)?;
+        }
+        Ok(())
+    }
+
+    /// Joins the modules that are sure by themselves.
+    fn join_all_sure(self, joined: &mut Joined) -> Result<(), AllocError>
+        requires shapes { AllZip (HasShapes self.program.now self.most) self.modules.now self.shapes.now }
+        requires drafts { AllZip (IsDraft self.program.now) self.modules.now self.drafts.now }
+        requires joined { HaveJoined self joined.old.marks.items }
+        ensures { OnOk result (HaveJoined self.entry joined.new.marks.items) }
+    {
+        for number in 0..self.modules.len() {
+            self.join_sure(joined, number)?;
+        }
+        Ok(())
+    }
+
+    /// The draft of a module, with the module.
+    fn draft(self, number: usize) -> Option<(&'c Checked, &'b Found)>
+        ensures { IfSome result (λ d. (slice_get self.entry.modules.now number ≡ Some d.0.now) × (draft_at self.entry.drafts.now number ≡ Some d.1.now)) }
+    {
+        let module = self.modules.get(number)?;
+        match self.drafts.get(number)? {
+            Some(found) => Some((module, found)),
+            None => None,
+        }
+    }
+
+    /// Whether an external of a module refers to an offset of a segment of another one.
+    fn refers(self, number: usize, external: u16, other: usize, place: (u16, u32)) -> bool
+        ensures { result ≡ true → RefersAt self.entry.modules.now self.entry.drafts.now number other }
+    {
+        let Some((module, found)) = self.draft(number) else {
+            return false;
+        };
+        let Some((target, there)) = self.draft(other) else {
+            return false;
+        };
+        let reference = Reference {
+            module,
+            found,
+            external,
+        };
+        let target = Target {
+            module: target,
+            found: there,
+            segment: place.0,
+            offset: place.1,
+        };
+        refers(reference, target)
+    }
+
+    /// Joins the module of a public, if an external of a module that is found refers to it.
+    fn join_definer(
+        self,
+        joined: &mut Joined,
+        number: usize,
+        external: u16,
+        definer: &Definer,
+    ) -> Result<(), AllocError>
+        requires { HaveJoined self joined.old.marks.items }
+        ensures { OnOk result (HaveJoined self.entry joined.new.marks.items) }
+    {
+        let Some(part) = self.search.parts.get(definer.part) else {
+            return Ok(());
+        };
+        let other = part.module as usize;
+        if other >= joined.marks.len() {
+            return Ok(());
+        }
+        if !joined.has(number) {
+            return Ok(());
+        }
+        if joined.has(other) {
+            return Ok(());
+        }
+        if self.refers(number, external, other, (part.segment, definer.offset)) {
+            joined.join(other)?;
+        }
+        Ok(())
+    }
+
+    /// Joins the modules of the publics to which an external of a module that is found refers.
+    fn follow(self, joined: &mut Joined, number: usize, external: u16) -> Result<(), AllocError>
+        requires { HaveJoined self joined.old.marks.items }
+        ensures { OnOk result (HaveJoined self.entry joined.new.marks.items) }
+    {
+        let definers = self.search.definers_of(number, &entry_with(Kind::External, external))?;
+        for definer in &definers {
+            self.join_definer(joined, number, external, definer)?;
+        }
+        Ok(())
+    }
+
+    /// Joins the modules to which a module that is found refers.
+    fn explore(self, joined: &mut Joined, number: usize) -> Result<(), AllocError>
+        requires { HaveJoined self joined.old.marks.items }
+        ensures { OnOk result (HaveJoined self.entry joined.new.marks.items) }
+    {
+        let Some((module, found)) = self.draft(number) else {
+            return Ok(());
+        };
+        for before in 0..module.externals() {
+            let external = before + 1;
+            if found.unknown.binary_search(&external).is_err() {
+                self.follow(joined, number, external)?;
+            }
+        }
+        Ok(())
+    }
+
+    /// Joins the modules to which the joined ones refer, and so on.
+    fn go_on(self, joined: &mut Joined) -> Result<(), AllocError>
+        requires { HaveJoined self joined.old.marks.items }
+        ensures { OnOk result (HaveJoined self.entry joined.new.marks.items) }
+    {
+        for step in 0..usize::MAX {
+            match joined.queue.pop() {
+                Some(number) => self.explore(joined, number)?,
+                None => break,
+            }
+        }
+        Ok(())
+    }
+
+    /// The modules that a chain of references joins to one that is sure by itself.
+    pub(crate) fn walk(self) -> Result<Joined, AllocError>
+        requires shapes { AllZip (HasShapes self.program.now self.most) self.modules.now self.shapes.now }
+        requires drafts { AllZip (IsDraft self.program.now) self.modules.now self.drafts.now }
+        ensures { IfOk result (λ j. HaveJoined self.entry j.marks.items) }
+    {
+        let mut joined = Joined::new(self.alloc, self.modules.len())?;
+        self.join_all_sure(&mut joined)?;
+        self.go_on(&mut joined)?;
+        Ok(joined)
+    }
+}
