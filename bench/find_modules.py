@@ -393,7 +393,7 @@ class World:
         names, pick = self.chosen(code), self.pick
         pick.shuffle(names)
         count = max(1, own // 1500)
-        modules = [self.start_up()]
+        modules = [start_up(self.model)]
         for number in range(count):
             module = empty(f"game{number}", "tc", self.model)
             for _ in range(4):
@@ -408,24 +408,34 @@ class World:
             modules.append(module)
         return modules
 
-    def start_up(self):
-        """The start-up module: it loads DGROUP's selector, and calls _main."""
-        module = empty("c0", "asm", self.model)
-        segment = module.segments[module.code]
-        call = [b"\x9A", Ref("pointer", "_main")] if self.model.far_code else [b"\xE8", Ref("call", "_main")]
-        segment.put([b"\xB8", Ref("selector", None), b"\x8E\xD8\x2E\x8C\x1E\x40\x00\xB4\x30\xCD\x21\x33\xED", *call, b"\x50\xB4\x4C\xCD\x21"])
-        module.segments["_DATA"].put([bytes(4) + b"Turbo-C - Copyright (c)\0"])
-        module.segments["STACK"] = Segment("STACK", "STACK", 3)
-        module.segments["STACK"].reserved = 1024
-        module.start = (module.code, 0)
-        return module
-
 
 def empty(name, style, model):
     """A module of a style with its segments, which are empty."""
     code = f"{name.upper()}_TEXT" if model.far_code else "_TEXT"
     segments = [Segment(code, "CODE", 1 if style != "msc" else 2), Segment("_DATA", "DATA", 2, True), *([Segment("CONST", "CONST", 2, True)] if style == "msc" else []), Segment("_BSS", "BSS", 2, True)]
     return Module(name, style, segments)
+
+
+def start_up(model):
+    """The start-up module: it loads DGROUP's selector, and calls _main."""
+    module = empty("c0", "asm", model)
+    segment = module.segments[module.code]
+    call = [b"\x9A", Ref("pointer", "_main")] if model.far_code else [b"\xE8", Ref("call", "_main")]
+    segment.put([b"\xB8", Ref("selector", None), b"\x8E\xD8\x2E\x8C\x1E\x40\x00\xB4\x30\xCD\x21\x33\xED", *call, b"\x50\xB4\x4C\xCD\x21"])
+    module.segments["_DATA"].put([bytes(4) + b"Turbo-C - Copyright (c)\0"])
+    module.segments["STACK"] = Segment("STACK", "STACK", 3)
+    module.segments["STACK"].reserved = 1024
+    module.start = (module.code, 0)
+    return module
+
+
+def stubs(names):
+    """A module that defines these names, in a segment of code."""
+    module = empty("stubs", "asm", MODELS["small"])
+    for name in names:
+        module.publics[name] = (module.code, module.segments[module.code].size)
+        module.segments[module.code].put([b"\x90\xC3"])
+    return module
 
 
 def named(text):

@@ -11,8 +11,8 @@ quiet                            small, where nothing but the start-up module us
 twins                            large, where members have the code of others: half of these differ in one call
 copies                           small, where the last library has members of the others once more
 
-With --nasm NASM assembles the modules of a small and a large program. With --corpus the modules and libraries of a folder are linked, those that
-link with a start-up module that defines what they ask for; twice as many are searched for as are linked.
+With --nasm NASM assembles the modules of a small and a large program. With --corpus half of the modules and members of a folder's files
+are linked, without those that do not link with a module that defines what they ask for, and all are searched for.
 
 Each line has how many code segments of the libraries' members that the map has are found, how many of their other segments with data, and how many of both;
 how many lines of segments, publics and asked names are wrong; processor time and its ratio to `sha256sum` of the same files, the least of RUNS (5) runs;
@@ -53,10 +53,10 @@ def run(folder, *words):
     return done.returncode, done.stdout.decode("latin-1"), done.stderr.decode("latin-1")
 
 
-def done(folder, *words):
-    """The standard output of a run that must end with the status 0."""
+def done(folder, *words, most=0):
+    """The standard output of a run that must end with the status 0, or one up to `most`."""
     status, output, error = run(folder, *words)
-    if status:
+    if status > most:
         sys.exit(f"{' '.join(map(str, words[:4]))} ..: status {status}\n{error[:2000]}")
     return output
 
@@ -131,7 +131,8 @@ class Case:
         return found
 
     def lines(self, *options):
-        return [json.loads(it) for it in done(self.folder, FIND, "--json", *options, "prog.exe", *self.files).splitlines()]
+        """The lines of omf-find; a module that is refused is left out."""
+        return [json.loads(it) for it in done(self.folder, FIND, "--json", *options, "prog.exe", *self.files, most=1).splitlines()]
 
     def wrong(self, lines):
         """The lines that the map denies."""
@@ -240,15 +241,10 @@ def modules_of(folder):
 
 
 def with_stubs(facts):
-    """A start-up module that defines the names that these modules ask for and do not define."""
-    start = find_modules.World(0, "small", [4]).start_up()
-    code = start.segments[start.code]
-    start.publics["_main"] = (start.code, code.size)
+    """A start-up module, and one that defines the names that these modules ask for and do not define."""
     asked = {name for one in facts for name in one.externals} - {name for one in facts for name in one.publics}
-    for name in sorted(asked):
-        start.publics[name.decode("latin-1")] = (start.code, code.size)
-        code.put([b"\x90\xC3"])
-    return omf(start)
+    names_ = sorted({"_main"} | {it.decode("latin-1") for it in asked})
+    return omf(find_modules.start_up(find_modules.MODELS["small"])) + omf(find_modules.stubs(names_))
 
 
 def links(folder, facts):
@@ -260,18 +256,27 @@ def links(folder, facts):
     return run(folder, LINK, "exe", "--no-default-libraries", "--allow", "near", "--allow", "group", "-o", "prog.exe", "--map", "prog.map", "own.obj", *files)[0] == 0
 
 
+def linked(folder, taken, others):
+    """Those of the others that link with these."""
+    if not others or links(folder, [*taken, *others]):
+        return others
+    half = len(others) // 2
+    if not half:
+        return []
+    first = linked(folder, taken, others[:half])
+    return [*first, *linked(folder, [*taken, *first], others[half:])]
+
+
 def corpus(asked, seed, folder):
-    """The case of a program of some of a folder's modules: each one that still links is taken, until half are. All are searched for."""
+    """The case of a program of half of a folder's modules, without those that do not link. All are searched for."""
     modules = [Facts(it) for it in dict.fromkeys(modules_of(asked.corpus))]
-    pick, taken = random.Random(seed), []
-    for one in pick.sample(modules, len(modules)):
-        if len(taken) < len(modules) // 2 and not {*one.publics} & {name for it in taken for name in it.publics} and links(folder, [*taken, one]):
-            taken.append(one)
+    random.Random(seed).shuffle(modules)
+    taken = linked(folder, [], modules[:len(modules) // 2])
     links(folder, taken)
     others = [it for it in modules if all(it is not one for one in taken)]
-    files = [f"m{number}.obj" for number in range(len(taken) + len(others))]
+    files = [f"m{number}.obj" for number in range(len(modules))]
     for number, one in enumerate(others, len(taken)):
-        (folder / f"m{number}.obj").write_bytes(one.bytes)
+        (folder / files[number]).write_bytes(one.bytes)
     yield Case(f"corpus, seed {seed}, {len(taken)} linked", folder, files, {(file, 0): one for file, one in zip(files, [*taken, *others])})
 
 
