@@ -37,7 +37,10 @@ options=$(sed -n '1s/^; omf-link image \(.*\) -t .*/\1/p' prog.link)
 
 # The image of the program follows its header, whose paragraphs are the word at offset 8.
 header=$(( 16 * $(od -An -tu2 -j8 -N2 prog.exe) ))
+# Segments without data may be after the program.
+size=$((16#$(sed -n "s/^program .* length \([0-9A-F]*\) .*/\1/p" said)))
 while read -r address length; do
+    [ $((16#$address + 16#$length)) -le "$size" ] || continue
     cmp -n $((16#$length)) -i $((header + 16#$address)):$((16#$address)) prog.exe again.bin
 done < <(sed -n 's/^segment \([0-9A-F]*\)  length \([0-9A-F]*\) .*/\1 \2/p' said)
 echo "linked again, each segment has the program's bytes"
