@@ -257,7 +257,7 @@ def links(folder, facts):
 
 
 def linked(folder, taken, others):
-    """Those of the others that link with these."""
+    """The other modules, without some that do not link with these."""
     if not others or links(folder, [*taken, *others]):
         return others
     half = len(others) // 2
