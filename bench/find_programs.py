@@ -170,7 +170,8 @@ def look(case, launch, why):
     print(f"{case.name}: {len(case.facts):,} modules, {size:,} bytes; program {(case.folder / 'prog.exe').stat().st_size:,} bytes; code {share(found, code)}, "
           f"data {share(found, set(wanted) - code)}, all {share(found, set(wanted))}, wrong {len(wrong)}; {time:.0f} ms, {time / sums:.1f} times sha256sum, {peak:.0f} MB", flush=True)
     for line in wrong[:10]:
-        print("  wrong:", json.dumps(line))
+        is_linked = any(key[:2] == (line["file"], line["member"]) for key in case.segments)
+        print("  wrong, of a member that is", "linked:" if is_linked else "not linked:", json.dumps(line))
     if why:
         show_reasons(case, set(wanted) - found, {(it["file"], it["member"]) for it in lines if "segment" in it})
     return not wrong and bool(found or not wanted)
