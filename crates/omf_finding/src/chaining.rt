@@ -296,12 +296,7 @@ impl<'a, 'b, 'c> Tried<'a, 'b, 'c> {
     }
 
     /// Whether a segment of a module is sure by its bytes.
-    fn is_alone(
-        self,
-        module: &Checked,
-        found: &Found,
-        shapes: &[Shape],
-    ) -> Result<bool, AllocError>
+    fn is_alone(self, module: &Checked, found: &Found, shapes: &[Shape]) -> Result<bool, AllocError>
         requires { HaveShapes self.program.now self.most «module».now shapes.now }
         ensures { IfOk result (λ r. r ≡ true → IsAlone self.entry.program.now self.entry.least «module».now found.now) }
     {
@@ -460,7 +455,9 @@ impl<'a, 'b, 'c> Tried<'a, 'b, 'c> {
         requires { HaveJoined self joined.old.marks.items }
         ensures { OnOk result (HaveJoined self.entry joined.new.marks.items) }
     {
-        let definers = self.search.definers_of(number, &entry_with(Kind::External, external))?;
+        let definers = self
+            .search
+            .definers_of(number, &entry_with(Kind::External, external))?;
         for definer in &definers {
             self.join_definer(joined, number, external, definer)?;
         }

@@ -500,12 +500,7 @@ impl<'a> Search<'a> {
     }
 
     /// Looks at the references of a segment that has a place: at selectors, or at where they lead.
-    fn explore(
-        &self,
-        sayings: &mut Sayings,
-        number: usize,
-        look: Look,
-    ) -> Result<(), AllocError> {
+    fn explore(&self, sayings: &mut Sayings, number: usize, look: Look) -> Result<(), AllocError> {
         let Some(part) = self.parts.get(number) else {
             return Ok(());
         };
