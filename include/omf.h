@@ -78,8 +78,9 @@ enum omf_not_linked {
     OMF_REPEATED = 18      /* omf_exe: more than one public has a name that no external asks for */
 };
 
-/* `kind` at OMF_MISSING and OMF_EXTRA. */
-enum omf_kind { OMF_SEGMENT = 1, OMF_GROUP = 2, OMF_EXTERNAL = 3 };
+/* A kind: `kind` at OMF_MISSING and OMF_EXTRA, and a frame or target method of a fixup and of a start. The last two are frame methods alone: the frame of
+ * the location's segment, and of the target. */
+enum omf_kind { OMF_SEGMENT = 0, OMF_GROUP = 1, OMF_EXTERNAL = 2, OMF_OF_LOCATION = 4, OMF_OF_TARGET = 5 };
 
 /* `kind` at OMF_TOO_FAR: the target, or the location of a self-relative fixup, is outside the offsets of the frame; or a short jump is
  * too long. */
@@ -144,6 +145,45 @@ struct omf_name {
     uint64_t size;
 };
 
+/* Where bytes are: `size` bytes at bytes + `offset`. */
+struct omf_span {
+    uint64_t offset;
+    uint64_t size;
+};
+
+/* A record, in file order: the one with number n is in row n. */
+struct omf_record {
+    struct omf_span bytes; /* its type, length, contents and checksum */
+    uint32_t type_byte;    /* 80H is a THEADR, 8AH and 8BH a MODEND */
+    uint32_t number;       /* from 0 */
+};
+
+/* A header. The first is the module's, with its name; a module may have others. */
+struct omf_header {
+    struct omf_name name;
+    uint32_t type_byte;    /* 80H is a THEADR, 82H an LHEADR */
+    uint32_t number;       /* of its record, from 0 */
+};
+
+/* A comment (COMENT), in file order. */
+struct omf_comment {
+    struct omf_span text;  /* the bytes after the class */
+    uint32_t class_byte;   /* the comment class: 9FH is a library to search, A0H an OMF extension */
+    uint32_t flags;        /* the comment type: 80H is no purge, 40H is no list */
+    uint32_t number;       /* of its record, from 0 */
+    uint32_t unused;       /* 0 */
+};
+
+/* A data record (LEDATA, LIDATA), in file order, before relocation. */
+struct omf_data {
+    struct omf_span stored; /* the data of an LEDATA; the repeated blocks of an LIDATA, which omf_data_bytes expands */
+    uint64_t size;         /* of its data in bytes; those that the blocks of an LIDATA expand to */
+    uint32_t offset;       /* of its first byte in `segment`, in bytes */
+    uint32_t segment;      /* an index */
+    uint32_t type_byte;    /* A0H and A1H are an LEDATA, A2H and A3H an LIDATA; the odd ones have fields of 32 bits */
+    uint32_t number;       /* of its record, from 0 */
+};
+
 /* A segment (SEGDEF). */
 struct omf_segment {
     struct omf_name name;
@@ -197,9 +237,9 @@ struct omf_fixup {
                               offset of 16 bits, 9 offset of 32 bits, 11 pointer of 16:32 bits, 13 loader offset of 32 bits */
     uint32_t size;         /* of the location in bytes: 1, 2, 4 or 6 */
     uint32_t is_self_relative;
-    uint32_t frame_method; /* 0 segment, 1 group, 2 external, 4 segment of the location, 5 frame of the target */
-    uint32_t frame_index;  /* of the segment, group or external; 0 with the methods 4 and 5 */
-    uint32_t target_method; /* 0 segment, 1 group, 2 external */
+    uint32_t frame_method; /* an enum omf_kind */
+    uint32_t frame_index;  /* of the segment, group or external; 0 with OMF_OF_LOCATION and OMF_OF_TARGET */
+    uint32_t target_method; /* an enum omf_kind */
     uint32_t target_index;
     uint32_t displacement; /* in bytes; 0 if the FIXUP has none */
     uint32_t bits;         /* of the displacement's field: 16 or 32 */
@@ -207,12 +247,35 @@ struct omf_fixup {
     uint32_t within;       /* the offset of its first byte in the record, whose type byte is at 0 */
 };
 
+/* The end of a module (MODEND), with its start before relocation: its threads are resolved. There is one row. */
+struct omf_start_reference {
+    uint32_t is_main;      /* 1: a main module */
+    uint32_t has_start;    /* 1: it names a start; else each field up to `bits` is 0 */
+    uint32_t frame_method; /* an enum omf_kind, but never OMF_OF_LOCATION */
+    uint32_t frame_index;
+    uint32_t target_method; /* an enum omf_kind */
+    uint32_t target_index;
+    uint32_t displacement; /* in bytes; 0 if the record has none */
+    uint32_t bits;         /* of the displacement's field: 16 or 32 */
+    uint32_t number;       /* of its record, from 0 */
+    uint32_t within;       /* the offset of the start's first byte in the record, or 0 */
+};
+
+struct omf_answer omf_records(const uint8_t *bytes, size_t length, bool refuse_vendor_comments, struct omf_record *out, size_t room);
+struct omf_answer omf_headers(const uint8_t *bytes, size_t length, bool refuse_vendor_comments, struct omf_header *out, size_t room);
+struct omf_answer omf_comments(const uint8_t *bytes, size_t length, bool refuse_vendor_comments, struct omf_comment *out, size_t room);
+struct omf_answer omf_data(const uint8_t *bytes, size_t length, bool refuse_vendor_comments, struct omf_data *out, size_t room);
+struct omf_answer omf_start_reference(const uint8_t *bytes, size_t length, bool refuse_vendor_comments, struct omf_start_reference *out, size_t room);
 struct omf_answer omf_segments(const uint8_t *bytes, size_t length, bool refuse_vendor_comments, struct omf_segment *out, size_t room);
 struct omf_answer omf_groups(const uint8_t *bytes, size_t length, bool refuse_vendor_comments, struct omf_group *out, size_t room);
 struct omf_answer omf_group_members(const uint8_t *bytes, size_t length, bool refuse_vendor_comments, struct omf_member *out, size_t room);
 struct omf_answer omf_externals(const uint8_t *bytes, size_t length, bool refuse_vendor_comments, struct omf_external *out, size_t room);
 struct omf_answer omf_publics(const uint8_t *bytes, size_t length, bool refuse_vendor_comments, struct omf_public *out, size_t room);
 struct omf_answer omf_fixups(const uint8_t *bytes, size_t length, bool refuse_vendor_comments, struct omf_fixup *out, size_t room);
+
+/* The bytes of the data record with this number, before relocation: the data of an LEDATA, or what the blocks of an LIDATA expand to. Nothing if that
+ * record is no data record, or if there is none. Returns OMF_DONE, OMF_REFUSED, OMF_ROOM or OMF_MEMORY. */
+struct omf_answer omf_data_bytes(const uint8_t *bytes, size_t length, bool refuse_vendor_comments, uint32_t number, uint8_t *out, size_t room);
 
 /* A run of bytes of a relocated segment. No byte next to it is covered. */
 struct omf_run {
@@ -235,6 +298,38 @@ struct omf_start {
 };
 struct omf_answer omf_start(const uint8_t *bytes, size_t length, const uint8_t *placement, size_t placement_length,
                             bool refuse_vendor_comments, struct omf_start *out, size_t room);
+
+/* A placement as arrays: the entry for index i is in row i - 1. With no rows, a pointer may be NULL. */
+
+/* The place of a segment or an external: its address, and the frame that it is addressed by. */
+struct omf_place {
+    uint32_t address;
+    uint32_t base;         /* the address of the frame's first byte: 16 times the selector in real mode */
+    uint16_t selector;
+    uint16_t unused;       /* not read */
+};
+
+/* The frame of a group. */
+struct omf_frame {
+    uint32_t base;
+    uint16_t selector;
+    uint16_t unused;       /* not read */
+};
+
+struct omf_placement {
+    const struct omf_place *segments;
+    size_t segment_count;
+    const struct omf_frame *groups;
+    size_t group_count;
+    const struct omf_place *externals;
+    size_t external_count;
+};
+
+/* omf_image and omf_start at such a placement, with the same results. They return OMF_DONE, OMF_REFUSED, OMF_REACH, OMF_ROOM or OMF_MEMORY. */
+struct omf_answer omf_image_at(const uint8_t *bytes, size_t length, const struct omf_placement *placement, bool refuse_vendor_comments,
+                               struct omf_run *runs, size_t run_room, uint8_t *out, size_t room);
+struct omf_answer omf_start_at(const uint8_t *bytes, size_t length, const struct omf_placement *placement, bool refuse_vendor_comments,
+                               struct omf_start *out, size_t room);
 
 /* A library of modules (TIS OMF 1.1, appendix 2), as omf-lib and LIB make them. The calls read all of `bytes`. */
 

@@ -41,7 +41,7 @@ int main(int argc, char **argv) {
         printf("segment %zu %.*s: %llu bytes\n", i + 1, (int)segments[i].name.size, bytes[0] + segments[i].name.offset, (unsigned long long)segments[i].size);
     for (size_t i = 0; i < fixup_count; i++) {
         const size_t at = fixups[i].target_index - 1;
-        const struct omf_name name = fixups[i].target_method == 0 ? segments[at].name : fixups[i].target_method == 1 ? groups[at].name : externals[at].name;
+        const struct omf_name name = fixups[i].target_method == OMF_SEGMENT ? segments[at].name : fixups[i].target_method == OMF_GROUP ? groups[at].name : externals[at].name;
         printf("fixup %u:%04llX type %u of %.*s\n", fixups[i].segment, (unsigned long long)fixups[i].offset, fixups[i].location, (int)name.size, bytes[0] + name.offset);
     }
     struct omf_answer is = omf_image(bytes[0], length[0], bytes[1], length[1], false, NULL, 0, NULL, 0);

@@ -48,6 +48,27 @@ static const uint8_t others[] = {
     0x8A, 0x02, 0x00, 0x00, 0x00,                                                                   /* 99 MODEND */
 };
 
+/* A main module B with a comment of the class 9FH that is not purged, the segment T of 16 bytes, an LIDATA of three repeats of AA BB at 8, an LEDATA
+ * with 32-bit fields, and a start 7 bytes after the external X, in the frame of the segment. */
+static const uint8_t parts[] = {
+    0x80, 0x03, 0x00, 0x01, 0x42, 0x00,                                                             /* 0 THEADR */
+    0x88, 0x07, 0x00, 0x80, 0x9F, 0x63, 0x6C, 0x69, 0x62, 0x00,                                     /* 6 COMENT */
+    0x96, 0x04, 0x00, 0x00, 0x01, 0x54, 0x00,                                                       /* 16 LNAMES */
+    0x98, 0x07, 0x00, 0x28, 0x10, 0x00, 0x02, 0x01, 0x01, 0x00,                                     /* 23 SEGDEF */
+    0x8C, 0x04, 0x00, 0x01, 0x58, 0x00, 0x00,                                                       /* 33 EXTDEF */
+    0xA2, 0x0B, 0x00, 0x01, 0x08, 0x00, 0x03, 0x00, 0x00, 0x00, 0x02, 0xAA, 0xBB, 0x00,             /* 40 LIDATA */
+    0xA1, 0x09, 0x00, 0x01, 0x04, 0x00, 0x00, 0x00, 0x11, 0x22, 0x33, 0x00,                         /* 54 LEDATA */
+    0x8A, 0x07, 0x00, 0xC1, 0x02, 0x01, 0x01, 0x07, 0x00, 0x00,                                     /* 66 MODEND */
+};
+
+static const struct omf_record parts_records[] = {{{0, 6}, 0x80, 0}, {{6, 10}, 0x88, 1}, {{16, 7}, 0x96, 2}, {{23, 10}, 0x98, 3},
+                                                  {{33, 7}, 0x8C, 4}, {{40, 14}, 0xA2, 5}, {{54, 12}, 0xA1, 6}, {{66, 10}, 0x8A, 7}};
+static const struct omf_header parts_headers[] = {{{4, 1}, 0x80, 0}};
+static const struct omf_comment parts_comments[] = {{{11, 4}, 0x9F, 0x80, 1, 0}};
+static const struct omf_data parts_data[] = {{{46, 7}, 6, 8, 1, 0xA2, 5}, {{62, 3}, 3, 4, 1, 0xA1, 6}};
+static const struct omf_start_reference parts_start[] = {{1, 1, 0, 1, 2, 1, 7, 16, 7, 4}};
+static const struct omf_start_reference tables_start[] = {{0, 0, 0, 0, 0, 0, 0, 0, 11, 0}};
+
 static const struct omf_segment tables_segments[] = {{{11, 1}, {13, 4}, {10, 0}, 4, 3, 2, 16, 0, 0, 0}};
 static const struct omf_group tables_groups[] = {{{18, 1}, 1}};
 static const struct omf_member tables_members[] = {{1}};
@@ -124,6 +145,15 @@ static bool has(struct omf_answer is, uint32_t status, size_t size) {
 
 #define COUNT(rows) (sizeof(rows) / sizeof((rows)[0]))
 #define omf_members omf_group_members
+#define omf_datas omf_data
+#define omf_start_references omf_start_reference
+
+WITH_ROWS(records, omf_record, parts, parts_records, COUNT(parts_records))
+WITH_ROWS(headers, omf_header, parts, parts_headers, COUNT(parts_headers))
+WITH_ROWS(comments, omf_comment, parts, parts_comments, COUNT(parts_comments))
+WITH_ROWS(data_records, omf_data, parts, parts_data, COUNT(parts_data))
+WITH_ROWS(start_reference, omf_start_reference, parts, parts_start, COUNT(parts_start))
+WITH_ROWS(no_start_reference, omf_start_reference, tables, tables_start, COUNT(tables_start))
 
 WITH_ROWS(segments, omf_segment, tables, tables_segments, COUNT(tables_segments))
 WITH_ROWS(groups, omf_group, tables, tables_groups, COUNT(tables_groups))
@@ -134,6 +164,39 @@ WITH_ROWS(fixups, omf_fixup, tables, tables_fixups, COUNT(tables_fixups))
 WITH_ROWS(other_segments, omf_segment, others, others_segments, COUNT(others_segments))
 WITH_ROWS(other_publics, omf_public, others, others_publics, COUNT(others_publics))
 WITH_ROWS(other_fixups, omf_fixup, others, others_fixups, COUNT(others_fixups))
+
+/* The bytes of a data record, with each room and each allocation refused. */
+static void bytes_of(uint32_t number, const uint8_t *wanted, size_t size) {
+    struct omf_answer is;
+    uint8_t out[8], before[8];
+    long n = 0;
+    for (size_t room = 0; room <= size + 1; room++) {
+        memset(out, 7, sizeof out);
+        memset(before, 7, sizeof before);
+        if (!has(omf_data_bytes(parts, sizeof parts, false, number, out, room), room < size ? OMF_ROOM : OMF_DONE, size)) fail("data bytes", "another answer");
+        if (room >= size && size) memcpy(before, wanted, size);
+        if (memcmp(out, before, sizeof out) != 0) fail("data bytes", "other bytes");
+    }
+    memset(before, 7, sizeof before);
+    do {
+        memset(out, 7, sizeof out);
+        refused_from = n++;
+        allocations = 0;
+        is = omf_data_bytes(parts, sizeof parts, false, number, out, 8);
+        refused_from = -1;
+        if (is.status == OMF_MEMORY && !(has(is, OMF_MEMORY, 0) && memcmp(out, before, sizeof out) == 0)) fail("data bytes", "memory");
+    } while (is.status == OMF_MEMORY);
+    if (n < 2 || !has(is, OMF_DONE, size)) fail("data bytes", "refused allocations");
+}
+
+static void data_bytes(void) {
+    static const uint8_t repeated[] = {0xAA, 0xBB, 0xAA, 0xBB, 0xAA, 0xBB};
+    bytes_of(5, repeated, sizeof repeated);
+    bytes_of(6, parts + 62, 3);
+    bytes_of(4, NULL, 0);
+    bytes_of(8, NULL, 0);
+    if (omf_data_bytes(parts, 70, false, 5, NULL, 0).status != OMF_REFUSED) fail("data bytes", "cut");
+}
 
 /* Segments of 4 and 2 bytes, with data at 0 and 3 of the first, and at 0 of the second; a fixup of the word at 1 by the first segment; and a
  * start at offset 2 of the first. At the addresses 10020H and 10030H in the frame 1000H the word is 20H, and the start 1000H:0022H. */
@@ -150,7 +213,13 @@ static const char placement[] = "S 10020 10000 1000\nS 10030 10000 1000\n";
 static const struct omf_run placed_runs[] = {{3, 1, 0}, {1, 1, 4}, {2, 2, 0}};
 static const uint8_t placed_bytes[] = {0xB8, 0x20, 0x00, 0x90, 0xCD, 0x20};
 
+/* The same placement as arrays. What is not used of a row is not read. */
+static const struct omf_place places[] = {{0x10020, 0x10000, 0x1000, 7}, {0x10030, 0x10000, 0x1000, 0}};
+static const struct omf_placement arrays = {places, 2, NULL, 0, NULL, 0};
+
+/* The image by a text; or by the arrays, if there is none. */
 static struct omf_answer image(const char *text, struct omf_run *runs, size_t run_room, uint8_t *out, size_t room) {
+    if (!text) return omf_image_at(placed, sizeof placed, &arrays, false, runs, run_room, out, room);
     return omf_image(placed, sizeof placed, (const uint8_t *)text, strlen(text), false, runs, run_room, out, room);
 }
 
@@ -159,7 +228,7 @@ static bool has_sizes(struct omf_answer is, uint32_t status) {
 }
 
 /* The image, with each number of runs and of bytes that is too small or enough. */
-static void images(void) {
+static void images(const char *text) {
     for (size_t run_room = 0; run_room <= 4; run_room++) {
         for (size_t room = 0; room <= 7; room++) {
             const size_t size = run_room * sizeof(struct omf_run);
@@ -171,7 +240,7 @@ static void images(void) {
             memset(out, 7, room ? room : 1);
             memset(before, 7, sizeof before);
             const bool fits = run_room >= 3 && room >= 6;
-            if (!has_sizes(image(placement, runs, run_room, out, room), fits ? OMF_DONE : OMF_ROOM)) fail("image", "another answer");
+            if (!has_sizes(image(text, runs, run_room, out, room), fits ? OMF_DONE : OMF_ROOM)) fail("image", "another answer");
             if (fits) {
                 memcpy(run_before, placed_runs, sizeof placed_runs);
                 memcpy(before, placed_bytes, sizeof placed_bytes);
@@ -183,8 +252,8 @@ static void images(void) {
     }
 }
 
-/* The image with each allocation refused, and each fault of the text and the placement. */
-static void image_faults(void) {
+/* The image with each allocation refused. */
+static void image_memory(const char *text) {
     struct omf_answer is;
     struct omf_run runs[4], run_before[4];
     uint8_t out[8], before[8];
@@ -196,17 +265,65 @@ static void image_faults(void) {
         memset(out, 7, sizeof out);
         refused_from = n++;
         allocations = 0;
-        is = image(placement, runs, 4, out, 8);
+        is = image(text, runs, 4, out, 8);
         refused_from = -1;
         if (is.status == OMF_MEMORY && (memcmp(runs, run_before, sizeof runs) != 0 || memcmp(out, before, sizeof out) != 0)) fail("image", "memory");
     } while (is.status == OMF_MEMORY);
     if (n < 3 || !has_sizes(is, OMF_DONE)) fail("image", "refused allocations");
+}
+
+/* Each fault of the text and the placement. */
+static void image_faults(void) {
+    struct omf_answer is;
+    struct omf_run runs[4];
+    uint8_t out[8];
     is = image("S 10020 10000 1000\nX\n", runs, 4, out, 8);
     if (is.status != OMF_LINE || is.line != 2) fail("image", "line");
     is = image("S 10020 10000 1000\n", runs, 4, out, 8);
     if (is.status != OMF_REACH || is.reason != OMF_MISSING || is.kind != OMF_SEGMENT || is.index != 2) fail("image", "missing segment");
     is = image("S 20000 10000 1000\nS 10030 10000 1000\n", runs, 4, out, 8);
     if (is.status != OMF_REACH || is.reason != OMF_TOO_FAR || is.kind != OMF_TARGET || is.number != 5) fail("image", "target");
+}
+
+/* The answer of both calls for a placement as arrays, which leave their buffers as they are. */
+static struct omf_answer fault_at(const struct omf_placement *given, size_t length) {
+    struct omf_run runs[4], run_before[4];
+    uint8_t out[8], before[8];
+    struct omf_start start[1], start_before[1];
+    memset(runs, 7, sizeof runs);
+    memset(run_before, 7, sizeof run_before);
+    memset(out, 7, sizeof out);
+    memset(before, 7, sizeof before);
+    memset(start, 7, sizeof start);
+    memset(start_before, 7, sizeof start_before);
+    const struct omf_answer is = omf_image_at(placed, length, given, false, runs, 4, out, 8);
+    const struct omf_answer as_is = omf_start_at(placed, length, given, false, start, 1);
+    if (memcmp(runs, run_before, sizeof runs) != 0 || memcmp(out, before, sizeof out) != 0 || memcmp(start, start_before, sizeof start) != 0) fail("arrays", "a buffer");
+    if (memcmp(&is, &as_is, sizeof is) != 0) fail("arrays", "two answers");
+    return is;
+}
+
+static void array_faults(void) {
+    static const struct omf_place far_places[] = {{0x20000, 0x10000, 0x1000, 0}, {0x10030, 0x10000, 0x1000, 0}};
+    static const struct omf_frame frames[] = {{0x10000, 0x1000, 0}};
+    struct omf_placement given = {places, 1, NULL, 0, NULL, 0};
+    struct omf_answer is = fault_at(&given, sizeof placed);
+    if (is.status != OMF_REACH || is.reason != OMF_MISSING || is.kind != OMF_SEGMENT || is.index != 2) fail("arrays", "missing segment");
+    given.segment_count = 2;
+    given.groups = frames;
+    given.group_count = 1;
+    is = fault_at(&given, sizeof placed);
+    if (is.status != OMF_REACH || is.reason != OMF_EXTRA || is.kind != OMF_GROUP || is.index != 1) fail("arrays", "extra group");
+    given.group_count = 0;
+    given.externals = places;
+    given.external_count = 2;
+    is = fault_at(&given, sizeof placed);
+    if (is.status != OMF_REACH || is.reason != OMF_EXTRA || is.kind != OMF_EXTERNAL || is.index != 1) fail("arrays", "extra external");
+    given.external_count = 0;
+    given.segments = far_places;
+    is = fault_at(&given, sizeof placed);
+    if (is.status != OMF_REACH || is.reason != OMF_TOO_FAR || is.kind != OMF_TARGET || is.number != 5) fail("arrays", "target");
+    if (fault_at(&given, 40).reason != OMF_CUT) fail("arrays", "cut");
 }
 
 static void starts(void) {
@@ -221,6 +338,18 @@ static void starts(void) {
     if (!has(omf_start(placed, 11, NULL, 0, false, out, 2), OMF_REFUSED, 0) && memcmp(out, before, sizeof out) != 0) fail("start", "cut");
     static const uint8_t none[] = {0x80, 0x03, 0x00, 0x01, 0x41, 0x00, 0x8A, 0x02, 0x00, 0x00, 0x00};
     if (!has(omf_start(none, sizeof none, NULL, 0, false, out, 2), OMF_DONE, 0)) fail("start", "none");
+    memset(out, 7, sizeof out);
+    if (!has(omf_start_at(placed, sizeof placed, &arrays, false, out, 0), OMF_ROOM, 1)) fail("start", "no room, by arrays");
+    if (!has(omf_start_at(placed, sizeof placed, &arrays, false, out, 2), OMF_DONE, 1) || memcmp(out, before, sizeof out) != 0) fail("start", "another one, by arrays");
+    struct omf_answer is;
+    long n = 0;
+    do {
+        refused_from = n++;
+        allocations = 0;
+        is = omf_start_at(placed, sizeof placed, &arrays, false, out, 2);
+        refused_from = -1;
+    } while (has(is, OMF_MEMORY, 0));
+    if (n < 3 || !has(is, OMF_DONE, 1)) fail("start", "refused allocations, by arrays");
 }
 
 /* A library with pages of 16 bytes and a dictionary of one block: hello.c with the public _hello from 16 on, gets.asm with _gets and _getc from
@@ -425,8 +554,19 @@ static void programs(void) {
 }
 
 int main(void) {
-    images();
+    images(placement);
+    images(NULL);
+    image_memory(placement);
+    image_memory(NULL);
     image_faults();
+    array_faults();
+    data_bytes();
+    records();
+    headers();
+    comments();
+    data_records();
+    start_reference();
+    no_start_reference();
     starts();
     segments();
     groups();

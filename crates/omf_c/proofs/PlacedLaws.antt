@@ -21,6 +21,7 @@ use Rattle.omf_cmd.specs.declared.fault.RunFault.{RunFault}
 use Rattle.omf_cmd.specs.declared.fault.RunFault.TheVariants as fault
 use Rattle.omf_c.specs.Images.{IsMadeAt, IsMadeOf, relocated}
 use Rattle.omf_c.specs.Making.{IsModule}
+use Rattle.omf_c.specs.Placed.{IsMadeFor, IsMadeWith}
 use Rattle.omf_c.specs.Runs.{Shown, shown_of}
 use Rattle.omf_c.proofs.ImageLaws.{overlay_shown}
 
@@ -33,13 +34,16 @@ relocated_is records pl image count begin is counted =
     (overlay_shown pieces_laid image count is.bytes ∙ ap (λ (n : ℕ). shown_of n (byte_at pieces_laid) (runs_of pieces_laid)) counted)
     is.begins
 
--- what is made at a placement that a text gives, and that reaches
-pub made_at : {A : Type 0} (make : Places → List Rec → A) (m : List Rec) (given : List ℕ) (pl : Places) (made : A) → IsPlaced m given (Ok pl) → reach_fault pl m ≡ None → made ≡ make pl m → IsMadeAt make m given (Ok made)
-made_at make m given pl made placed reaches is = (pl, record { short = placed.0; placement = placed.1; reach = reaches }, is)
-
--- one that does not reach
-pub not_reached : {A : Type 0} (make : Places → List Rec → A) (m : List Rec) (given : List ℕ) (pl : Places) (f : ReachFault) → IsPlaced m given (Ok pl) → reach_fault pl m ≡ Some f → IsMadeAt make m given (Err (fault.Reach f))
-not_reached make m given pl f placed far = (pl, record { short = placed.0; placement = placed.1; reach = far })
+-- what is made at a placement that a text gives
+pub by_text : {A : Type 0} (make : Places → List Rec → A) (m : List Rec) (given : List ℕ) (pl : Places) (r : Result A RunFault) → IsPlaced m given (Ok pl) → IsMadeFor make pl m r → IsMadeAt make m given r
+by_text make m given pl (Ok made) placed h = (pl, record { short = placed.0; placement = placed.1; reach = h.0 }, h.1)
+by_text make m given pl (Err fault.Memory) placed h = tt
+by_text make m given pl (Err fault.Read) placed h = h
+by_text make m given pl (Err fault.Write) placed h = h
+by_text make m given pl (Err (fault.Refused why at)) placed h = h
+by_text make m given pl (Err (fault.Line n)) placed h = absurd h
+by_text make m given pl (Err fault.TooLong) placed h = absurd h
+by_text make m given pl (Err (fault.Reach f)) placed h = (pl, record { short = placed.0; placement = placed.1; reach = h })
 
 -- a fault of the text
 pub not_placed : {A : Type 0} (make : Places → List Rec → A) (m : List Rec) (given : List ℕ) (e : RunFault) → IsPlaced m given (Err e) → IsMadeAt make m given (Err e)
@@ -76,3 +80,27 @@ not_made make other profile bytes given (fault.Refused why at) h = h
 not_made make other profile bytes given (fault.Line n) h = h
 not_made make other profile bytes given fault.TooLong h = h
 not_made make other profile bytes given (fault.Reach f) h = h
+
+-- the same at a placement that rows give
+pub made_with : {A : Type 0} (make : Places → List Rec → A) (profile : Profile) (bytes : List ℕ) (pl : Places) (m : Module) (r : Result A RunFault) → IsModule profile bytes (Ok m) → IsMadeFor make pl (recs (records_in m.bytes)) r → IsMadeWith make profile bytes pl r
+made_with make profile bytes pl m (Ok made) is h = (records_in m.bytes, is.0, h)
+made_with make profile bytes pl m (Err fault.Memory) is h = tt
+made_with make profile bytes pl m (Err fault.Read) is h = absurd h
+made_with make profile bytes pl m (Err fault.Write) is h = absurd h
+made_with make profile bytes pl m (Err (fault.Refused why at)) is h = absurd h
+made_with make profile bytes pl m (Err (fault.Line n)) is h = absurd h
+made_with make profile bytes pl m (Err fault.TooLong) is h = absurd h
+made_with make profile bytes pl m (Err (fault.Reach f)) is h = (records_in m.bytes, is.0, h)
+
+pub made_with_from : {A B : Type 0} (make : Places → List Rec → A) (f : A → B) (profile : Profile) (bytes : List ℕ) (pl : Places) (a : A) (b : B) → IsMadeWith make profile bytes pl (Ok a) → b ≡ f a
+    → IsMadeWith (λ pl m. f (make pl m)) profile bytes pl (Ok b)
+made_with_from make f profile bytes pl a b h e = (h.0, h.1, (h.2.0, e ∙ ap f h.2.1))
+
+pub not_made_with : {A B : Type 0} (make : Places → List Rec → A) (other : Places → List Rec → B) (profile : Profile) (bytes : List ℕ) (pl : Places) (e : RunFault) → IsMadeWith make profile bytes pl (Err e) → IsMadeWith other profile bytes pl (Err e)
+not_made_with make other profile bytes pl fault.Memory h = h
+not_made_with make other profile bytes pl fault.Read h = h
+not_made_with make other profile bytes pl fault.Write h = h
+not_made_with make other profile bytes pl (fault.Refused why at) h = h
+not_made_with make other profile bytes pl (fault.Line n) h = h
+not_made_with make other profile bytes pl fault.TooLong h = h
+not_made_with make other profile bytes pl (fault.Reach f) h = h

@@ -15,11 +15,11 @@ use Rattle.omf_c.specs.declared.answer.Answer.{Answer}
 abbrev pub done : Answer
 done = record { status = 0; reason = 0; kind = 0; index = 0; number = 0; within = 0; start = 0; line = 0; size = 0; record_count = 0 }
 
--- The numbers of kinds and causes.
+-- The numbers of kinds are those of the target methods T0 to T2 (TIS OMF 1.1, "FIXUPP"). Causes count from 1.
 abbrev pub kind_number : Kind → ℕ
-kind_number kinds.Segment = 1
-kind_number kinds.Group = 2
-kind_number kinds.External = 3
+kind_number kinds.Segment = 0
+kind_number kinds.Group = 1
+kind_number kinds.External = 2
 
 abbrev pub cause_number : Cause → ℕ
 cause_number cause.Target = 1

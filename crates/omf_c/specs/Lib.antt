@@ -1,8 +1,12 @@
 pub mod Answers
+pub mod Data
 pub mod Fixups
 pub mod Images
 pub mod Making
+pub mod Records
 pub mod Runs
+pub mod Starts
+pub mod Placed
 pub mod Tables
 pub mod Texts
 pub mod Libraries

@@ -4,10 +4,12 @@ use Rattle.std.specs.Prelude.{ℕ, ◌+◌, List, [], ◌∷◌, length, map, fl
 use Rattle.omf_frame.specs.Types.{is_local}
 use Rattle.omf_frame.specs.declared.fault.Place.{Place}
 use Rattle.omf_frame.specs.Framing.{Raw}
-use Rattle.omf_records.specs.Values.{At, Rec, Contents, Names, Segment, Group, Externs, Publics, Communals, SegmentItem, GroupItem, ExternalItem, PublicItem, PublicItems, CommunalItem, CommunalSize, Near, Far, alignment, combination, is_use32}
+use Rattle.omf_records.specs.Values.{At, Rec, Contents, Header, Comment, Names, Segment, Group, Externs, Publics, Communals, SegmentItem, GroupItem, ExternalItem, PublicItem, PublicItems, CommunalItem, CommunalSize, Near, Far, alignment, combination, is_use32}
 use Rattle.omf_check.specs.Listed.{placed_from}
 use Rattle.omf_check.specs.Tables.{entry, segment_length}
 use Rattle.omf_c.specs.declared.rows.NamePlace.{NamePlace}
+use Rattle.omf_c.specs.declared.rows.HeaderRow.{HeaderRow}
+use Rattle.omf_c.specs.declared.rows.CommentRow.{CommentRow}
 use Rattle.omf_c.specs.declared.rows.SegmentRow.{SegmentRow}
 use Rattle.omf_c.specs.declared.rows.GroupRow.{GroupRow}
 use Rattle.omf_c.specs.declared.rows.MemberRow.{MemberRow}
@@ -45,6 +47,22 @@ places_of p items = map (λ n. name_at p n.within n.item) items
 abbrev pub name_rows : RowsOf NamePlace
 name_rows names p kind (Names items) = places_of p items
 name_rows names p kind _ = []
+
+-- THEADR and LHEADR: the length byte of the name is at offset 3.
+abbrev pub header_row : Place → ℕ → List ℕ → HeaderRow
+header_row p kind name = record { name = name_at p 3 name; type_byte = kind; number = p.number }
+
+abbrev pub header_rows : RowsOf HeaderRow
+header_rows names p kind (Header name) = header_row p kind name ∷ []
+header_rows names p kind _ = []
+
+-- COMENT: the comment type is at offset 3, the comment class at 4, and the text follows.
+abbrev pub comment_row : Place → ℕ → ℕ → List ℕ → CommentRow
+comment_row p flags class text = record { text = record { offset = p.start + 5; size = length text }; class_byte = class; flags = flags; number = p.number; unused = 0 }
+
+abbrev pub comment_rows : RowsOf CommentRow
+comment_rows names p kind (Comment flags class text) = comment_row p flags class text ∷ []
+comment_rows names p kind _ = []
 
 -- SEGDEF. An absolute segment has a frame number and an offset.
 abbrev pub frame_of : Option (ℕ × ℕ) → ℕ

@@ -18,7 +18,7 @@ pub struct Answer {
     /// the members, 5 the dictionary is not in the bytes. At status 10 the fault, an `enum omf_not_linked` of `include/omf.h`, which describes
     /// the other fields of each.
     pub reason: u32,
-    /// At status 7 with reason 1 or 2: 1 a segment, 2 a group, 3 an external. With reason 4: 1 its target, 2 its location, 3 its distance.
+    /// At status 7 with reason 1 or 2: 0 a segment, 1 a group, 2 an external, as the methods of fixups. With reason 4: 1 its target, 2 its location, 3 its distance.
     pub kind: u32,
     /// At status 7 with reason 1 to 3: the index, from 1.
     pub index: u32,
@@ -52,14 +52,14 @@ pub(crate) const NOTHING: Answer = Answer {
     record_count: 0,
 };
 
-/// The number of a kind of entry.
+/// The number of a kind of entry: that of its method in fixups.
 fn kind_number(kind: Kind) -> u32
     ensures { result ≡ kind_number kind }
 {
     match kind {
-        Kind::Segment => 1,
-        Kind::Group => 2,
-        Kind::External => 3,
+        Kind::Segment => 0,
+        Kind::Group => 1,
+        Kind::External => 2,
     }
 }
 

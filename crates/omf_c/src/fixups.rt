@@ -59,7 +59,7 @@ fn place_after(before: DataPlace, rec: &Undecoded<'_>) -> DataPlace
 }
 
 /// The number of a target method.
-fn kind_number(kind: Kind) -> u32
+pub(crate) fn kind_number(kind: Kind) -> u32
     ensures { result ≡ kind_number kind }
 {
     match kind {
@@ -70,7 +70,7 @@ fn kind_number(kind: Kind) -> u32
 }
 
 /// The number of a frame method, and its index.
-fn frame_of(frame: FrameMethod) -> (u32, u32)
+pub(crate) fn frame_of(frame: FrameMethod) -> (u32, u32)
     ensures number { result.0 ≡ frame_number frame }
     ensures index { result.1 ≡ frame_index frame }
 {

@@ -4,15 +4,17 @@ ghost use Rattle.std.specs.Prelude.{◌≡◌, IfOk};
 ghost use Rattle.omf_check.specs.Module.{recs_of};
 ghost use Rattle.omf_records.specs.Inner.Seen.{map_ok};
 ghost use Rattle.omf_c.specs.Images.{HandsBoth, IsMadeAt, IsMadeOf, image_shown, relocated, rows_if, start_rows};
+ghost use Rattle.omf_c.specs.Placed.{IsMadeFor, IsMadeWith, places_of};
 
 use crate::answer::{Answer, NOTHING, hand_out};
 use crate::making::module_of;
-use crate::rows::{RunRow, StartRow};
+use crate::placing::placement_of;
+use crate::rows::{PlacementRows, RunRow, StartRow};
 use crate::runs::{Shown, shown_of};
 use omf_check::{Checked, Profile};
 use omf_cmd::{RunFault, placement_by};
 use omf_image::Image;
-use omf_reloc::{AnswerAt, relocate_at};
+use omf_reloc::{AnswerAt, Placement, relocate_at};
 use std::alloc::{AllocError, Global};
 use std::marker::Model;
 
@@ -36,13 +38,15 @@ impl Model for Relocated {
     ghost view = { λ r. (shown_of r.segments (byte_at r.image) (runs_of r.image), r.start) };
 }
 
-/// A module at the placement that a text gives, or the first fault.
-#[tactic(auto, using(crate::proofs::PlacedLaws::not_reached, crate::proofs::PlacedLaws::not_placed))]
-fn relocated_by(alloc: Global, checked: &Checked, text: &[u8]) -> Result<Relocated, RunFault>
-    ensures { IsMadeAt relocated (recs_of checked.now.bytes) text.now result }
+/// A module at a placement, or the first reason why the placement does not reach.
+fn relocated_at(
+    alloc: Global,
+    checked: &Checked,
+    placement: &Placement,
+) -> Result<Relocated, RunFault>
+    ensures { IsMadeFor relocated placement.now (recs_of checked.now.bytes) result }
 {
-    let placement = placement_by(alloc, checked, text)?;
-    match relocate_at(alloc, checked, &placement) {
+    match relocate_at(alloc, checked, placement) {
         Ok(AnswerAt::Relocated { image, start }) => Ok(Relocated {
             image,
             segments: checked.segments(),
@@ -51,6 +55,15 @@ fn relocated_by(alloc: Global, checked: &Checked, text: &[u8]) -> Result<Relocat
         Ok(AnswerAt::DoesNotReach(fault)) => Err(RunFault::Reach(fault)),
         Err(AllocError) => Err(RunFault::Memory),
     }
+}
+
+/// A module at the placement that a text gives, or the first fault.
+#[tactic(auto, using(crate::proofs::PlacedLaws::by_text, crate::proofs::PlacedLaws::not_placed))]
+fn relocated_by(alloc: Global, checked: &Checked, text: &[u8]) -> Result<Relocated, RunFault>
+    ensures { IsMadeAt relocated (recs_of checked.now.bytes) text.now result }
+{
+    let placement = placement_by(alloc, checked, text)?;
+    relocated_at(alloc, checked, &placement)
 }
 
 /// The module at the start of the bytes, at the placement that a text gives.
@@ -106,6 +119,49 @@ pub(crate) fn start_rows(
     ensures { IsMadeOf start_rows profile bytes.now text.now (map_ok (λ v. v.items) result) }
 {
     let relocated = relocated_of(alloc, profile, bytes, text)?;
+    Ok(rows_if(alloc, relocated.start)?)
+}
+
+/// The module at the start of the bytes, at the placement that rows give.
+#[tactic(auto, using(crate::proofs::PlacedLaws::made_with))]
+fn relocated_with(
+    alloc: Global,
+    profile: Profile,
+    bytes: &[u8],
+    rows: &PlacementRows<'_>,
+) -> Result<Relocated, RunFault>
+    ensures { IsMadeWith relocated profile bytes.now (places_of rows.now) result }
+{
+    let checked = module_of(alloc, profile, bytes)?;
+    let placement = placement_of(alloc, rows)?;
+    relocated_at(alloc, &checked, &placement)
+}
+
+/// The image of the module at the start of the bytes, at the placement that rows give.
+#[tactic(auto, using(crate::proofs::PlacedLaws::not_made_with))]
+pub(crate) fn image_with(
+    alloc: Global,
+    profile: Profile,
+    bytes: &[u8],
+    rows: &PlacementRows<'_>,
+) -> Result<Shown, RunFault>
+    ensures { IsMadeWith image_shown profile bytes.now (places_of rows.now) result }
+{
+    let relocated = relocated_with(alloc, profile, bytes, rows)?;
+    Ok(shown_of(alloc, &relocated.image, relocated.segments)?)
+}
+
+/// The start of the module at the start of the bytes, at the placement that rows give.
+#[tactic(auto, using(crate::proofs::PlacedLaws::not_made_with))]
+pub(crate) fn start_rows_with(
+    alloc: Global,
+    profile: Profile,
+    bytes: &[u8],
+    rows: &PlacementRows<'_>,
+) -> Result<Vec<StartRow>, RunFault>
+    ensures { IsMadeWith start_rows profile bytes.now (places_of rows.now) (map_ok (λ v. v.items) result) }
+{
+    let relocated = relocated_with(alloc, profile, bytes, rows)?;
     Ok(rows_if(alloc, relocated.start)?)
 }
 

@@ -6,17 +6,21 @@
 
 mod answer;
 mod calls;
+mod data;
 mod fixups;
 mod images;
 mod libraries;
 mod linking;
 mod making;
+mod placing;
 mod reasons;
+mod records;
 mod row_calls;
 #[cfg(test)]
 mod row_tests;
 mod rows;
 mod runs;
+mod starts;
 mod table;
 mod tables;
 #[cfg(test)]
@@ -24,14 +28,18 @@ mod tests;
 mod texts;
 
 pub use answer::Answer;
-pub use calls::{omf_canon, omf_check, omf_image, omf_list, omf_reloc, omf_start};
+pub use calls::{
+    omf_canon, omf_check, omf_image, omf_image_at, omf_list, omf_reloc, omf_start, omf_start_at,
+};
 pub use libraries::{omf_library_find, omf_library_members};
 pub use linking::{omf_exe, omf_link_image};
 pub use row_calls::{
-    omf_externals, omf_fixups, omf_group_members, omf_groups, omf_publics, omf_segments,
+    omf_comments, omf_data, omf_data_bytes, omf_externals, omf_fixups, omf_group_members,
+    omf_groups, omf_headers, omf_publics, omf_records, omf_segments, omf_start_reference,
 };
 pub use rows::{
-    ExternalRow, FixupRow, GroupRow, LibraryMemberRow, MemberRow, NamePlace, PublicRow, RunRow,
-    SegmentRow, StartRow,
+    CommentRow, DataRow, ExternalRow, FixupRow, FrameRow, GroupRow, HeaderRow, LibraryMemberRow,
+    MemberRow, NamePlace, PlaceRow, PlacementRows, PublicRow, RecordRow, RunRow, SegmentRow, Span,
+    StartReferenceRow, StartRow,
 };
 pub use texts::{omf_fault_line, omf_reason_name, omf_reason_sentence, omf_version};

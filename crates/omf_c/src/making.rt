@@ -7,12 +7,18 @@ ghost use Rattle.omf_check.specs.WellFormed.{recs};
 ghost use Rattle.omf_cmd.specs.Listing.{list_text};
 ghost use Rattle.omf_records.specs.Inner.Seen.{map_ok};
 ghost use Rattle.omf_cmd.specs.declared.fault.RunFault.TheVariants.{Memory};
+ghost use Rattle.omf_c.specs.Data.{data_bytes, data_rows};
 ghost use Rattle.omf_c.specs.Fixups.{fixup_rows};
+ghost use Rattle.omf_c.specs.Records.{record_rows};
+ghost use Rattle.omf_c.specs.Starts.{start_references};
 ghost use Rattle.omf_c.specs.Tables.{table_of};
 ghost use Rattle.omf_c.specs.Making.{IsMade, IsModule, IsTextOf, IsPlacedText};
 
+use crate::data::{bytes_of, data_of};
 use crate::fixups::fixups_of;
-use crate::rows::FixupRow;
+use crate::records::records_of;
+use crate::rows::{DataRow, FixupRow, RecordRow, StartReferenceRow};
+use crate::starts::start_of;
 use crate::table::{Row, table_of};
 use omf_canon::canon;
 use omf_check::{CheckFault, Checked, Profile, check};
@@ -91,6 +97,51 @@ pub(crate) fn fixups(
 {
     let checked = module_of(alloc, profile, bytes)?;
     Ok(fixups_of(alloc, &checked)?)
+}
+
+/// The records of the module at the start of the bytes.
+pub(crate) fn records(
+    alloc: Global,
+    profile: Profile,
+    bytes: &[u8],
+) -> Result<Vec<RecordRow>, RunFault>
+    ensures { IsTextOf record_rows profile bytes.now (map_ok (λ v. v.items) result) }
+{
+    let checked = module_of(alloc, profile, bytes)?;
+    Ok(records_of(alloc, &checked)?)
+}
+
+/// The data records of the module at the start of the bytes.
+pub(crate) fn data(alloc: Global, profile: Profile, bytes: &[u8]) -> Result<Vec<DataRow>, RunFault>
+    ensures { IsTextOf data_rows profile bytes.now (map_ok (λ v. v.items) result) }
+{
+    let checked = module_of(alloc, profile, bytes)?;
+    Ok(data_of(alloc, &checked)?)
+}
+
+/// The bytes of the record with a number, of the module at the start of the bytes; none if it is no data record.
+pub(crate) fn record_data(
+    alloc: Global,
+    profile: Profile,
+    bytes: &[u8],
+    number: u32,
+) -> Result<Vec<u8>, RunFault>
+    ensures { IsTextOf (data_bytes number) profile bytes.now (map_ok (λ v. v.items) result) }
+{
+    let checked = module_of(alloc, profile, bytes)?;
+    Ok(bytes_of(alloc, &checked, number)?)
+}
+
+/// The start, before relocation, of the module at the start of the bytes.
+pub(crate) fn start_reference(
+    alloc: Global,
+    profile: Profile,
+    bytes: &[u8],
+) -> Result<Vec<StartReferenceRow>, RunFault>
+    ensures { IsTextOf start_references profile bytes.now (map_ok (λ v. v.items) result) }
+{
+    let checked = module_of(alloc, profile, bytes)?;
+    Ok(start_of(alloc, &checked)?)
 }
 
 /// The listing of a module's image at the placement that a text gives.

@@ -80,10 +80,10 @@ fn kind_of(number: u32) -> Option<Kind>
     ensures { Finds result (λ kind. kind_number kind ≡ number) }
 {
     match number {
-        1 => Some(Kind::Segment),
-        2 => Some(Kind::Group),
-        3 => Some(Kind::External),
-        0 | 4.. => None,
+        0 => Some(Kind::Segment),
+        1 => Some(Kind::Group),
+        2 => Some(Kind::External),
+        3.. => None,
     }
 }
 

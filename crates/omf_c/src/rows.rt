@@ -10,6 +10,56 @@ pub struct NamePlace {
     pub size: u64,
 }
 
+/// Where bytes are in the module: the first of them, and their number.
+#[repr(C)]
+#[derive(Clone, Copy, Drop)]
+pub struct Span {
+    /// In bytes from the start of the module.
+    pub offset: u64,
+    /// In bytes.
+    pub size: u64,
+}
+
+/// A record (TIS OMF 1.1, "Object record format").
+#[repr(C)]
+#[derive(Clone, Copy, Drop)]
+pub struct RecordRow {
+    /// Its bytes: type, length, contents and checksum.
+    pub bytes: Span,
+    /// Its type byte.
+    pub type_byte: u32,
+    /// Its number, from 0.
+    pub number: u32,
+}
+
+/// A header (TIS OMF 1.1, "THEADR", "LHEADR").
+#[repr(C)]
+#[derive(Clone, Copy, Drop)]
+pub struct HeaderRow {
+    /// The name of the module.
+    pub name: NamePlace,
+    /// The type byte of the record: 80H is a THEADR, 82H an LHEADR.
+    pub type_byte: u32,
+    /// The number of the record, from 0.
+    pub number: u32,
+}
+
+/// A comment (TIS OMF 1.1, "COMENT").
+#[repr(C)]
+#[derive(Clone, Copy, Drop)]
+pub struct CommentRow {
+    /// The bytes after the class.
+    pub text: Span,
+    /// The comment class.
+    pub class_byte: u32,
+    /// The comment type byte: 80H is no purge, 40H is no list.
+    pub flags: u32,
+    /// The number of the record, from 0.
+    pub number: u32,
+    /// Always 0.
+    pub unused: u32,
+}
+
 /// A segment (TIS OMF 1.1, "SEGDEF").
 #[repr(C)]
 #[derive(Clone, Copy, Drop)]
@@ -81,6 +131,81 @@ pub struct PublicRow {
     pub type_index: u32,
     /// 1 if it is local to the module.
     pub is_local: u32,
+}
+
+/// A data record (TIS OMF 1.1, "LEDATA", "LIDATA").
+#[repr(C)]
+#[derive(Clone, Copy, Drop)]
+pub struct DataRow {
+    /// The data of an LEDATA, the repeated blocks of an LIDATA.
+    pub stored: Span,
+    /// The number of its data bytes; of an LIDATA, of those that its blocks expand to.
+    pub size: u64,
+    /// The first of them, in bytes from the start of its segment.
+    pub offset: u32,
+    /// The index of its segment, from 1.
+    pub segment: u32,
+    /// The type byte of the record: A0H and A1H are an LEDATA, A2H and A3H an LIDATA.
+    pub type_byte: u32,
+    /// The number of the record, from 0.
+    pub number: u32,
+}
+
+/// The end of a module, with its start before relocation (TIS OMF 1.1, "MODEND").
+#[repr(C)]
+#[derive(Clone, Copy, Drop)]
+pub struct StartReferenceRow {
+    /// 1 if the module is a main one.
+    pub is_main: u32,
+    /// 1 if it names a start. Each field up to `bits` is 0 if it names none.
+    pub has_start: u32,
+    /// The frame method, 0 to 2 or 5, and the index of its segment, group or external; 0 for F5.
+    pub frame_method: u32,
+    pub frame_index: u32,
+    /// The target method, 0 to 2, and the index of its segment, group or external.
+    pub target_method: u32,
+    pub target_index: u32,
+    /// In bytes, as a number without a sign; 0 if the record has none.
+    pub displacement: u32,
+    /// The bits of its displacement's field: 16 or 32.
+    pub bits: u32,
+    /// Where it is: the number of the MODEND, from 0, and the offset in it of the start's fix data byte, or 0.
+    pub number: u32,
+    pub within: u32,
+}
+
+/// A place of a segment or an external: its address, and the frame that it is addressed by.
+#[repr(C)]
+#[derive(Clone, Copy, Drop)]
+pub struct PlaceRow {
+    pub address: u32,
+    /// The address of the frame's first byte.
+    pub base: u32,
+    /// The selector of the frame.
+    pub selector: u16,
+    /// It is not read.
+    pub unused: u16,
+}
+
+/// The frame of a group.
+#[repr(C)]
+#[derive(Clone, Copy, Drop)]
+pub struct FrameRow {
+    /// The address of its first byte.
+    pub base: u32,
+    /// Its selector.
+    pub selector: u16,
+    /// It is not read.
+    pub unused: u16,
+}
+
+/// A placement: the places of the segments, the frames of the groups and the places of the externals, in index order.
+#[repr(C)]
+#[derive(Clone, Copy, Drop)]
+pub struct PlacementRows<'a> {
+    pub segments: &'a [PlaceRow],
+    pub groups: &'a [FrameRow],
+    pub externals: &'a [PlaceRow],
 }
 
 /// A fixup with its threads resolved (TIS OMF 1.1, "FIXUPP").

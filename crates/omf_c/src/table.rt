@@ -33,7 +33,7 @@ pub trait Row: Copy + Drop {
 }
 
 /// The number of some bytes. It is small enough that sums of it and of offsets in a record have 64 bits.
-fn size_of(bytes: &[u8]) -> u64
+pub(crate) fn size_of(bytes: &[u8]) -> u64
     ensures size { result ≡ length bytes.now }
     ensures small { result ≤ 2 ^ 63 }
 {

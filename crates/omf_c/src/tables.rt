@@ -4,9 +4,11 @@ ghost use Rattle.std.specs.Prelude.{◌≡◌, ◌≤◌, ◌^◌, ◌++◌, IfO
 ghost use Rattle.omf_records.specs.Inner.Sizes.{size_seen};
 ghost use Rattle.omf_records.specs.Inner.Seen.{odd_if};
 ghost use Rattle.omf_check.specs.Tables.{segment_length};
-ghost use Rattle.omf_c.specs.Tables.{communal_row, external_row, flag, frame_of, frame_offset_of, member_row, name_at, name_of, named_external, no_name, places_of, public_base, public_row, segment_row, sized};
+ghost use Rattle.omf_c.specs.Tables.{comment_row, communal_row, external_row, flag, frame_of, frame_offset_of, header_row, member_row, name_at, name_of, named_external, no_name, places_of, public_base, public_row, segment_row, sized};
 
-use crate::rows::{ExternalRow, GroupRow, MemberRow, NamePlace, PublicRow, SegmentRow};
+use crate::rows::{
+    CommentRow, ExternalRow, GroupRow, HeaderRow, MemberRow, NamePlace, PublicRow, SegmentRow, Span,
+};
 use crate::table::Row;
 use omf_check::entry_of;
 use omf_frame::{Index, Name, Place, Width, is_local};
@@ -87,6 +89,78 @@ impl Row for NamePlace {
             | Rec::LocalCommunals(_)
             | Rec::Carried { .. } => Ok(()),
         }
+    }
+}
+
+/// The row of a THEADR or an LHEADR.
+fn header_row(place: Place, kind: u8, name: &Name<'_>) -> HeaderRow
+    requires { place.start ≤ 2 ^ 63 }
+    ensures { result ≡ header_row place kind name.now }
+{
+    HeaderRow {
+        name: name_at(place, 3, name),
+        type_byte: u32::from(kind),
+        number: place.number,
+    }
+}
+
+impl Row for HeaderRow {
+    ghost use Rattle.omf_c.specs.Tables.{header_rows};
+
+    ghost given = { header_rows };
+
+    fn add(
+        _alloc: Global,
+        rows: &mut Vec<HeaderRow>,
+        _names: &[NamePlace],
+        place: Place,
+        rec: &Rec<'_>,
+    ) -> Result<(), AllocError> {
+        if let Rec::Header { kind, name } = rec {
+            rows.push(header_row(place, *kind, name))?;
+        }
+        Ok(())
+    }
+}
+
+/// The row of a COMENT.
+fn comment_row(place: Place, flags: u8, class: u8, text: &[u8]) -> CommentRow
+    requires { place.start ≤ 2 ^ 63 }
+    ensures { result ≡ comment_row place flags class text.now }
+{
+    CommentRow {
+        text: Span {
+            offset: place.start + 5,
+            size: text.len() as u64,
+        },
+        class_byte: u32::from(class),
+        flags: u32::from(flags),
+        number: place.number,
+        unused: 0,
+    }
+}
+
+impl Row for CommentRow {
+    ghost use Rattle.omf_c.specs.Tables.{comment_rows};
+
+    ghost given = { comment_rows };
+
+    fn add(
+        _alloc: Global,
+        rows: &mut Vec<CommentRow>,
+        _names: &[NamePlace],
+        place: Place,
+        rec: &Rec<'_>,
+    ) -> Result<(), AllocError> {
+        if let Rec::Comment {
+            type_byte,
+            class,
+            text,
+        } = rec
+        {
+            rows.push(comment_row(place, *type_byte, *class, text))?;
+        }
+        Ok(())
     }
 }
 

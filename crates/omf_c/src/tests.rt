@@ -103,7 +103,7 @@ static UNCHANGED: [Case; 4] = [
         answer: Answer {
             status: 7,
             reason: 1,
-            kind: 1,
+            kind: 0,
             index: 1,
             ..NOTHING
         },
@@ -234,7 +234,7 @@ static LINES: [Line; 13] = [
     Line {
         answer: Answer {
             reason: 1,
-            kind: 1,
+            kind: 0,
             index: 1,
             ..UNREACHED
         },
@@ -243,7 +243,7 @@ static LINES: [Line; 13] = [
     Line {
         answer: Answer {
             reason: 2,
-            kind: 2,
+            kind: 1,
             index: 3,
             ..UNREACHED
         },
