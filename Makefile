@@ -18,6 +18,7 @@
 #                       include/omf.h, lib/pkgconfig/omf.pc; the Python package is installed by `pip install ./python`, which needs no network
 # make dist             packs the proved programs, their man pages, the library, the page, and the last line of the log GATE of `.ci/run`
 #                       into build/omf-VERSION-x86_64-linux.tar.xz, the same bytes for the same files (dist/pack.sh)
+# make wheel            packs the Python package with the library (UNPROVED=1: without its proofs) into build/omf-VERSION-py3-none-linux_x86_64.whl
 # make vendor DEST=DIR  copies the crates CRATES (omf_check) and those below them, with their lines of crates.txt, into the repository DIR
 # make shown            runs the commands that the pages show with the installed programs, and compares what they print; OMF, OMF_PLACE,
 #                       OMF_LINK, OMF_DUMP, OMF_LIB, OMF_FIND and LIBOMF name others (tests/shown.sh)
@@ -41,9 +42,9 @@ STAGES ?=
 export FILE PLACE UNPROVED MODULES
 
 # Programs of `tests/unproved.sh` for a test of what was built without proofs.
-unproved_programs = OMF=$$(tests/unproved.sh omf) OMF_DUMP=$$(tests/unproved.sh omf_dump) OMF_PLACE=$$(tests/unproved.sh omf_place) OMF_LIB=$$(tests/unproved.sh omf_lib)
+unproved_programs = OMF=$$(tests/unproved.sh omf) OMF_DUMP=$$(tests/unproved.sh omf_dump) OMF_LINK=$$(tests/unproved.sh omf_link) OMF_PLACE=$$(tests/unproved.sh omf_place) OMF_LIB=$$(tests/unproved.sh omf_lib)
 
-.PHONY: first look try try-all draft build library try-c page try-page proved install dist vendor shown release docs ci
+.PHONY: first look try try-all draft build library try-c page try-page wheel proved install dist vendor shown release docs ci
 
 first:
 	@cd crates/omf && cat ../../examples/first.omf ../../examples/first.place | rt run -- reloc
@@ -90,7 +91,7 @@ library:
 	CC="$(CC)" dist/library.sh
 
 try-c: build library
-	LIBRARY=build/libomf.a OMF=crates/omf/out/omf OMF_DUMP=crates/omf_dump/out/omf_dump tests/c/run.sh $(MODULES)
+	LIBRARY=build/libomf.a OMF=crates/omf/out/omf OMF_DUMP=crates/omf_dump/out/omf_dump OMF_LINK=crates/omf_link/out/omf_link tests/c/run.sh $(MODULES)
 endif
 
 ifeq ($(UNPROVED),1)
@@ -106,6 +107,9 @@ page: build
 try-page: page
 	tests/page.sh $(MODULES)
 endif
+
+wheel: library
+	dist/wheel.sh $(if $(filter 1,$(UNPROVED)),build/unproved/libomf.so,build/libomf.so)
 
 # What is installed or packed is proved.
 proved:

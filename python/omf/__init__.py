@@ -21,13 +21,13 @@ import os
 from enum import IntEnum
 from functools import cached_property
 from itertools import accumulate
-from typing import Any, Iterable, List, NamedTuple, Optional, Tuple, Type, Union
+from typing import Any, Iterable, List, NamedTuple, Optional, Sequence, Tuple, Type, Union
 
 __version__ = "1.0.0"
 __all__ = [
-    "Module", "Segment", "Group", "External", "Communal", "Public", "Fixup", "Method", "LOCATIONS", "Run", "Image", "Library", "Member",
-    "link", "link_exe", "Error", "Refused", "NoLibrary", "NotLinked", "PlacementLine", "PlacementTooLong", "Unreachable", "reason_name",
-    "reason_sentence", "find_library",
+    "Module", "Record", "Comment", "DataRecord", "Segment", "Group", "External", "Communal", "Public", "Fixup", "StartReference", "Method", "LOCATIONS",
+    "Placement", "Place", "Frame", "Run", "Image", "Library", "Member", "link", "link_exe", "Error", "Refused", "NoLibrary", "NotLinked", "PlacementLine",
+    "PlacementTooLong", "Unreachable", "reason_name", "reason_sentence", "find_library",
 ]
 
 Data = Union[bytes, bytearray, memoryview]
@@ -42,6 +42,14 @@ def _struct(name: str, *fields: Tuple[Any, str]) -> Type[ctypes.Structure]:
 _U32, _U64 = ctypes.c_uint32, ctypes.c_uint64
 _Answer = _struct("_Answer", (_U32, "status reason kind index number within"), (_U64, "start line size record_count"))
 _Name = _struct("_Name", (_U64, "offset size"))
+_Span = _struct("_Span", (_U64, "offset size"))
+_Record = _struct("_Record", (_Span, "bytes"), (_U32, "type_byte number"))
+_Header = _struct("_Header", (_Name, "name"), (_U32, "type_byte number"))
+_Comment = _struct("_Comment", (_Span, "text"), (_U32, "class_byte flags number unused"))
+_Data = _struct("_Data", (_Span, "stored"), (_U64, "size"), (_U32, "offset segment type_byte number"))
+_StartReference = _struct("_StartReference", (_U32, "is_main has_start frame_method frame_index target_method target_index displacement bits number within"))
+_Place = _struct("_Place", (_U32, "address base"), (ctypes.c_uint16, "selector unused"))
+_Frame = _struct("_Frame", (_U32, "base"), (ctypes.c_uint16, "selector unused"))
 _Segment = _struct("_Segment", (_Name, "name class_name overlay_name"), (_U64, "size"),
                    (_U32, "align combine bits is_absolute frame frame_offset"))
 _Group = _struct("_Group", (_Name, "name"), (_U64, "members"))
@@ -54,8 +62,16 @@ _Start = _struct("_Start", (_U32, "selector offset"))
 _Fixup = _struct("_Fixup", (_U64, "offset"), (_U32, "segment location size is_self_relative frame_method frame_index target_method"),
                  (_U32, "target_index displacement bits number within"))
 
-_TABLES = {"segments": _Segment, "groups": _Group, "group_members": _Member, "externals": _External, "publics": _Public, "fixups": _Fixup}
+_Placement = type("_Placement", (ctypes.Structure,), {"_fields_": [
+    ("segments", ctypes.POINTER(_Place)), ("segment_count", ctypes.c_size_t), ("groups", ctypes.POINTER(_Frame)), ("group_count", ctypes.c_size_t),
+    ("externals", ctypes.POINTER(_Place)), ("external_count", ctypes.c_size_t)]})
+
+_TABLES = {"records": _Record, "headers": _Header, "comments": _Comment, "data": _Data, "start_reference": _StartReference, "segments": _Segment, "groups": _Group, "group_members": _Member, "externals": _External, "publics": _Public,
+           "fixups": _Fixup}
 _DONE, _MEMORY, _REFUSED, _LINE, _TOO_LONG, _REACH, _ROOM, _NO_LIBRARY, _NOT_LINKED = 0, 1, 4, 5, 6, 7, 8, 9, 10
+
+
+_HOW = "build it (`make library`, or `make library UNPROVED=1` without proofs), and install it or name it in LIBOMF"
 
 
 def find_library() -> Optional[str]:
@@ -67,13 +83,18 @@ def find_library() -> Optional[str]:
 def _load() -> ctypes.CDLL:
     path = find_library()
     if not path:
-        raise ImportError("there is no libomf: install it (make install), or name it in LIBOMF")
-    library = ctypes.CDLL(path)
+        raise ImportError(f"there is no libomf: {_HOW}")
+    try:
+        library = ctypes.CDLL(path)
+    except OSError as error:
+        raise ImportError(f"{path} is not loaded ({error}): {_HOW}") from error
     module = [ctypes.c_char_p, ctypes.c_size_t]
     flag, out = [ctypes.c_bool], [ctypes.c_void_p, ctypes.c_size_t]
     calls = {"omf_check": module + flag, "omf_list": module + flag + out, "omf_canon": module + flag + out}
     calls.update(omf_image=module + module + flag + out + out, omf_start=module + module + flag + out, omf_reason_name=[_U32] + out, omf_reason_sentence=[_U32] + out,
                  omf_fault_line=[ctypes.POINTER(_Answer)] + out)
+    placed = module + [ctypes.POINTER(_Placement)] + flag
+    calls.update(omf_image_at=placed + out + out, omf_start_at=placed + out, omf_data_bytes=module + flag + [_U32] + out)
     calls.update(omf_link_image=module + [_U32, _U32, ctypes.c_uint8] + out, omf_exe=module + out)
     calls.update({f"omf_{name}": module + flag + out for name in [*_TABLES, "library_members"]}, omf_library_find=module + module)
     for name, arguments in calls.items():
@@ -182,14 +203,14 @@ class Unreachable(Error):
     """The placement does not reach.
 
     reason is 1 if an entry is missing, 2 if there is an extra one, 3 if an absolute segment is not placed where its SEGDEF says, 4 if the
-    fixup or the start at offset within of record does not reach. kind is at reasons 1 and 2: 1 a segment, 2 a group, 3 an external; at
+    fixup or the start at offset within of record does not reach. kind is at reasons 1 and 2 a Method: SEGMENT, GROUP or EXTERNAL; at
     reason 4: 1 its target, 2 its location, 3 its distance. index counts from 1.
     """
 
     def __init__(self, line: str, answer: Any) -> None:
         super().__init__(line)
         self.reason: int = answer.reason
-        self.kind: int = answer.kind
+        self.kind: int = Method(answer.kind) if answer.reason in (1, 2) else answer.kind
         self.index: int = answer.index
         self.record: int = answer.number
         self.within: int = answer.within
@@ -233,6 +254,39 @@ LOCATIONS = {
     11: "pointer16:32",
     13: "loader-offset32",
 }
+
+
+class Record(NamedTuple):
+    """A record: its type byte, its offset in the module, and its size in bytes, with its type, length and checksum."""
+
+    type: int
+    offset: int
+    size: int
+
+
+class Comment(NamedTuple):
+    """A comment (COMENT): its class, the bytes after it, its flags, and the number of its record, from 0."""
+
+    class_byte: int
+    text: bytes
+    no_purge: bool
+    no_list: bool
+    record: int
+
+
+class DataRecord(NamedTuple):
+    """A data record before relocation: an LEDATA; an LIDATA, if is_iterated is true.
+
+    Its data are size bytes from offset on, in bytes, of the segment with index segment; Module.data_of gives them. stored has the data of an LEDATA, and
+    the repeated blocks of an LIDATA. record is its number, from 0.
+    """
+
+    segment: int
+    offset: int
+    size: int
+    is_iterated: bool
+    stored: bytes
+    record: int
 
 
 class Segment(NamedTuple):
@@ -316,6 +370,49 @@ class Fixup(NamedTuple):
     within: int
 
 
+class StartReference(NamedTuple):
+    """The start of a module before relocation, with its threads resolved; the fields are those of a Fixup."""
+
+    frame: Method
+    frame_index: int
+    target: Method
+    target_index: int
+    displacement: int
+    bits: int
+    record: int
+    within: int
+
+
+class Frame(NamedTuple):
+    """A frame: the address of its first byte, and its selector; in real mode the base is 16 times the selector."""
+
+    base: int
+    selector: int
+
+
+class Place(NamedTuple):
+    """The place of a segment or an external: its address, and the frame that it is addressed by."""
+
+    address: int
+    frame: Frame
+
+
+class Placement(NamedTuple):
+    """A placement: the places of the segments, the frames of the groups and the places of the externals, in the order of their indices."""
+
+    segments: Sequence[Place]
+    groups: Sequence[Frame] = ()
+    externals: Sequence[Place] = ()
+
+
+def _placement(given: Placement) -> Any:
+    """A placement for C. ctypes keeps the arrays alive with it."""
+    segments, externals = ([(place.address, *place.frame, 0) for place in places] for places in (given.segments, given.externals))
+    groups = [(*frame, 0) for frame in given.groups]
+    return _Placement((_Place * len(segments))(*segments), len(segments), (_Frame * len(groups))(*groups), len(groups),
+                      (_Place * len(externals))(*externals), len(externals))
+
+
 class Run(NamedTuple):
     """Bytes at an offset, in bytes, of the segment with index segment. Nothing is next to them."""
 
@@ -364,6 +461,51 @@ class Module:
     def _name_if(self, place: Any) -> Optional[str]:
         return self._name(place) if place.offset else None
 
+    def _span(self, span: Any) -> bytes:
+        return self._data[span.offset:span.offset + span.size]
+
+    @cached_property
+    def name(self) -> str:
+        """The name in the module's header, a THEADR or an LHEADR."""
+        return self._name(self._rows("headers")[0].name)
+
+    @cached_property
+    def records(self) -> Tuple[Record, ...]:
+        """The records; the one with number n is at n."""
+        return tuple(Record(row.type_byte, row.bytes.offset, row.bytes.size) for row in self._rows("records"))
+
+    @cached_property
+    def comments(self) -> Tuple[Comment, ...]:
+        """The comments, in file order."""
+        return tuple(
+            Comment(row.class_byte, self._span(row.text), bool(row.flags & 0x80), bool(row.flags & 0x40), row.number) for row in self._rows("comments"))
+
+    @cached_property
+    def data(self) -> Tuple[DataRecord, ...]:
+        """The data records before relocation, in file order."""
+        return tuple(
+            DataRecord(row.segment, row.offset, row.size, row.type_byte >= 0xA2, self._span(row.stored), row.number) for row in self._rows("data"))
+
+    def data_of(self, record: DataRecord) -> bytes:
+        """The bytes of a data record before relocation; the blocks of an LIDATA are expanded."""
+        if not record.is_iterated:
+            return record.stored
+        return bytes(_made(_library.omf_data_bytes, ctypes.c_uint8, *self._bytes(), self._flag, record.record))
+
+    @cached_property
+    def is_main(self) -> bool:
+        """Whether it is a main module."""
+        return bool(self._rows("start_reference")[0].is_main)
+
+    @cached_property
+    def start_reference(self) -> Optional[StartReference]:
+        """The start before relocation; None if the module names none."""
+        row = self._rows("start_reference")[0]
+        if not row.has_start:
+            return None
+        return StartReference(Method(row.frame_method), row.frame_index, Method(row.target_method), row.target_index, row.displacement, row.bits,
+                              row.number, row.within)
+
     @cached_property
     def segments(self) -> Tuple[Segment, ...]:
         """The segments; the one with index i is at i - 1."""
@@ -402,28 +544,33 @@ class Module:
         tables: List[Any] = [self.segments, self.groups, self.externals]
         return tables[method][index - 1].name if method < len(tables) else None
 
-    def target_name(self, fixup: Fixup) -> Optional[str]:
-        """The name of the segment, group or external that a fixup refers to; None if it has none."""
+    def target_name(self, fixup: Union[Fixup, StartReference]) -> Optional[str]:
+        """The name of the segment, group or external that a fixup or the start refers to; None if it has none."""
         return self._entry_name(fixup.target, fixup.target_index)
 
-    def frame_name(self, fixup: Fixup) -> Optional[str]:
-        """The name of the segment, group or external whose frame a fixup takes; None if it has none, and at the methods LOCATION and TARGET."""
+    def frame_name(self, fixup: Union[Fixup, StartReference]) -> Optional[str]:
+        """The name of the segment, group or external whose frame it takes; None if it has none, and at the methods LOCATION and TARGET."""
         return self._entry_name(fixup.frame, fixup.frame_index)
 
-    def relocate(self, placement: Union[str, bytes]) -> Image:
-        """The module's image at the placement that a text gives (README.md describes it).
+    def relocate(self, placement: Union[str, bytes, Placement]) -> Image:
+        """The module's image at a Placement, or at the placement that a text gives (README.md describes it).
 
         Raises PlacementLine, PlacementTooLong or Unreachable.
         """
-        text = placement.encode("utf-8") if isinstance(placement, str) else bytes(placement)
-        arguments = (*self._bytes(), text, len(text), self._flag)
-        answer = _library.omf_image(*arguments, None, 0, None, 0)
+        if isinstance(placement, Placement):
+            arguments = (*self._bytes(), ctypes.byref(_placement(placement)), self._flag)
+            image_of, start_of = _library.omf_image_at, _library.omf_start_at
+        else:
+            text = placement.encode("utf-8") if isinstance(placement, str) else bytes(placement)
+            arguments = (*self._bytes(), text, len(text), self._flag)
+            image_of, start_of = _library.omf_image, _library.omf_start
+        answer = image_of(*arguments, None, 0, None, 0)
         runs, image = (_Run * answer.record_count)(), (ctypes.c_uint8 * answer.size)()
         if answer.status == _ROOM:
-            answer = _library.omf_image(*arguments, runs, len(runs), image, len(image))
+            answer = image_of(*arguments, runs, len(runs), image, len(image))
         if answer.status != _DONE:
             raise _fault(answer)
-        starts = _made(_library.omf_start, _Start, *arguments)
+        starts = _made(start_of, _Start, *arguments)
         return Image(_cut(runs, bytes(image)), (starts[0].selector, starts[0].offset) if len(starts) else None)
 
     def listing(self) -> str:

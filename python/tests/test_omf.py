@@ -42,6 +42,18 @@ TABLES = b"".join([
     record(0x8A, "00"),
 ])
 
+# Two names; a main module B with a comment that is not purged, the segment T of 16 bytes, an LIDATA of three repeats of AA BB at 8, an LEDATA with
+# 32-bit fields, and a start 7 bytes after the external X, whose frame is that of the segment.
+PARTS = b"".join([
+    record(0x80, "01 42"),
+    record(0x88, "80 9F 63 6C 69 62"),
+    record(0x96, "00 01 54"),
+    record(0x98, "28 10 00 02 01 01"),
+    record(0x8C, "01 58 00"),
+    record(0xA2, "01 08 00 03 00 00 00 02 AA BB"),
+    record(0xA1, "01 04 00 00 00 11 22 33"),
+    record(0x8A, "C1 02 01 01 07 00"),
+])
 
 
 class Loading(unittest.TestCase):
@@ -52,7 +64,8 @@ class Loading(unittest.TestCase):
         words = {**os.environ, "LIBOMF": "/nowhere/libomf.so", "PYTHONPATH": os.path.join(os.path.dirname(__file__), "..")}
         made = subprocess.run([sys.executable, "-c", code], env=words, capture_output=True, text=True, check=False)
         self.assertEqual(made.stdout, "/nowhere/libomf.so\n")
-        self.assertIn("OSError: /nowhere/libomf.so", made.stderr)
+        self.assertIn("ImportError: /nowhere/libomf.so is not loaded", made.stderr)
+        self.assertIn("make library", made.stderr)
 
 
 class Tables(unittest.TestCase):
@@ -99,6 +112,44 @@ class Tables(unittest.TestCase):
 
     def test_an_empty_table_is_empty(self):
         self.assertEqual((omf.Module(FIRST).groups, omf.Module(FIRST).publics, omf.Module(FIRST).externals), ((), (), ()))
+
+
+class Parts(unittest.TestCase):
+    def setUp(self):
+        self.module = omf.Module(PARTS)
+
+    def test_a_module_has_its_name(self):
+        self.assertEqual(self.module.name, "B")
+
+    def test_records_follow_one_another(self):
+        ends = [each.offset + each.size for each in self.module.records]
+        self.assertEqual([each.offset for each in self.module.records], [0, *ends[:-1]])
+        self.assertEqual((ends[-1], [each.type for each in self.module.records]), (len(PARTS), [0x80, 0x88, 0x96, 0x98, 0x8C, 0xA2, 0xA1, 0x8A]))
+
+    def test_comments_have_their_text(self):
+        self.assertEqual(self.module.comments, (omf.Comment(0x9F, b"clib", True, False, 1),))
+
+    def test_data_are_as_in_the_records(self):
+        iterated, plain = self.module.data
+        self.assertEqual(iterated, omf.DataRecord(1, 8, 6, True, bytes.fromhex("03 00 00 00 02 AA BB"), 5))
+        self.assertEqual(plain, omf.DataRecord(1, 4, 3, False, bytes.fromhex("11 22 33"), 6))
+        self.assertEqual([self.module.data_of(each) for each in self.module.data], [bytes.fromhex("AABBAABBAABB"), bytes.fromhex("112233")])
+
+    def test_a_start_has_its_reference(self):
+        is_ = self.module.start_reference
+        self.assertEqual(is_, omf.StartReference(omf.Method.SEGMENT, 1, omf.Method.EXTERNAL, 1, 7, 16, 7, 4))
+        self.assertEqual((self.module.is_main, self.module.frame_name(is_), self.module.target_name(is_)), (True, "T", "X"))
+        self.assertEqual((omf.Module(FIRST).is_main, omf.Module(FIRST).start_reference), (False, None))
+
+    def test_a_placement_may_be_arrays(self):
+        frame = omf.Frame(0x10000, 0x1000)
+        placement = omf.Placement([omf.Place(0x10020, frame)])
+        self.assertEqual(omf.Module(FIRST).relocate(placement), omf.Module(FIRST).relocate(PLACED))
+        placement = omf.Placement([omf.Place(0x10020, frame)], [], [omf.Place(0x10100, frame)])
+        self.assertEqual(self.module.relocate(placement), self.module.relocate(PLACED + "\nE 10100 10000 1000"))
+        with self.assertRaises(omf.Unreachable) as caught:
+            self.module.relocate(omf.Placement([omf.Place(0x10020, frame)]))
+        self.assertEqual((caught.exception.reason, caught.exception.index), (1, 1))
 
 
 class Texts(unittest.TestCase):
@@ -152,7 +203,7 @@ class Faults(unittest.TestCase):
         with self.assertRaises(omf.Unreachable) as caught:
             omf.Module(FIRST).relocate("")
         is_ = caught.exception
-        self.assertEqual((is_.reason, is_.kind, is_.index, str(is_)), (1, 1, 1, "reach 1 Missing segment 1"))
+        self.assertEqual((is_.reason, is_.kind, is_.index, str(is_)), (1, omf.Method.SEGMENT, 1, "reach 1 Missing segment 1"))
 
     def test_a_target_too_far_has_its_place(self):
         with self.assertRaises(omf.Unreachable) as caught:
