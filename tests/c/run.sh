@@ -4,7 +4,8 @@
 # calls.sh builds tables.c and calls.c by each compiler and runs them. Then calls.c of gcc and of clang checks, lists, makes canonical and
 # relocates every module of examples/ and of the folders, and what it prints is compared with what the program prints. The
 # same is done once under valgrind, and by the Python package over a shared library. The examples show.c and show.py are compared with
-# `omf-dump --json` and `omf reloc`, on each module whose placement reaches. A tool that is missing is named and passed over.
+# `omf-dump --json` and `omf reloc`, on each module whose placement reaches; link.c and link.py with `omf-link bin` (OMF_LINK). A tool that is missing is
+# named and passed over.
 set -uo pipefail
 here=$(cd "$(dirname "$0")" && pwd)
 library=${LIBRARY:-libomf.a}
@@ -109,6 +110,12 @@ else
         "$here/agree.py" "$work/show" "$omf" "${OMF_DUMP:-omf-dump}" "${reached[@]}" || fail "the examples differ from the programs"
     else
         echo "there is no omf-dump: the examples are passed over"
+    fi
+    if command -v "${OMF_LINK:-omf-link}" > /dev/null; then
+        gcc -std=c11 -Wall -Wextra -Werror -I"$here/../../include" "$here/../../examples/c/link.c" "$library" -o "$work/link" || fail "link.c is not built"
+        "$here/linked.py" "$work/link" "${OMF_LINK:-omf-link}" || fail "the linkers differ from omf-link"
+    else
+        echo "there is no omf-link: the linkers are passed over"
     fi
 fi
 exit $((failures > 0))
