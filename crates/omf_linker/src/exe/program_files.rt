@@ -130,4 +130,24 @@ impl ProgramFiles {
         forget(all);
         Ok(made)
     }
+
+    /// The same, but the memory of the modules is freed: for a caller that goes on.
+    ///
+    /// # Errors
+    ///
+    /// Those of `make`.
+    pub fn make_and_free(
+        self,
+        alloc: Global,
+        options: &ExeOptions<'_>,
+    ) -> Result<MadeProgram, Refusal>
+        ensures made { IfOk result (IsMade options.now self) }
+        ensures refused { IfErr result (IsRefusalFor (IsNotMade options.now self)) }
+    {
+        let ProgramFiles { files, modules, .. } = self;
+        let all = modules.with_added(alloc, options)?;
+        let linked = all.linked(alloc)?;
+        let made = made_of(alloc, &linked, &files, options)?;
+        Ok(made)
+    }
 }
