@@ -10,7 +10,7 @@ import re
 import sys
 
 ROOT = pathlib.Path(__file__).resolve().parent.parent
-VALUES = (("Global", "alloc"), ("&[", "&[]"), ("&mut [", "&mut []"), ("bool", "false"), ("&Answer", "&answer"), ("&PlacementRows", "&placement"), ("u", "0"))
+VALUES = (("Global", "alloc"), ("&[", "&[]"), ("&mut [", "&mut []"), ("bool", "false"), ("&Answer", "&answer"), ("&PlacementRows", "&placement"), ("&ProgramRow", "&asked"), ("u", "0"))
 
 
 def calls():
@@ -27,6 +27,7 @@ def value(kind):
 def program():
     yield "use std::process::ExitCode;\n\nfn main(rt: HostRuntime) -> ExitCode {\n    let alloc = rt.alloc();"
     yield "    let answer = omf_c::omf_check(alloc, &[], false);\n    let mut sum = answer.status;"
+    yield "    let asked = omf_c::ProgramRow { stack: 0, order: 0, is_com: false, ignore_case: false, allow_twice: false, allow_group: false, allow_near: false };"
     yield "    let placement = omf_c::PlacementRows { segments: &[], groups: &[], externals: &[] };"
     for _, name, kinds in calls():
         call = f"omf_c::{name}({', '.join(map(value, kinds))})"

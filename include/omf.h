@@ -58,7 +58,7 @@ enum omf_no_library {
 
 /* `reason` at OMF_NOT_LINKED. Modules count from 0; `record_count` is the module, and `index` the segment or the external, from 1. */
 enum omf_not_linked {
-    OMF_NO_TEXT = 1,       /* what follows the modules from offset `size` on is no module and no text; omf_exe: is no module */
+    OMF_NO_TEXT = 1,       /* what follows the modules from offset `size` on is no module and no text */
     OMF_NO_MODULES = 2,    /* there is no module */
     OMF_UNDEFINED = 3,     /* no module has a public of the external's name */
     OMF_TWICE = 4,         /* two have */
@@ -68,14 +68,7 @@ enum omf_not_linked {
     OMF_OVERLAP = 8,       /* two segments have a byte at address `start`: that of `record_count`, `index`, and segment `within` of module `number` */
     OMF_OUTSIDE = 9,       /* a byte is at address `start`, which is not one of those asked for; `index` is 0 if no segment has it */
     OMF_HIGH = 10,         /* the program does not end below 2^20 */
-    OMF_MOVERS = 11,       /* what moves is not given for each segment and group of the module: omf_exe works it out itself */
-    OMF_STAYS = 12,        /* the part at offset `within` of record `number`, which begins at `start`, does not move with the program */
-    OMF_NO_START = 13,     /* no main module names a start */
-    OMF_START_HIGH = 14,   /* the offset of the start is over 65,535 */
-    OMF_STACK_HIGH = 15,   /* the end of the stack is not in its frame */
-    OMF_WORD_OVERLAP = 16, /* the part at offset `within` of record `number` overlaps a relocation word */
-    OMF_MANY_WORDS = 17,   /* more than 65,535 relocation words */
-    OMF_REPEATED = 18      /* omf_exe: more than one public has a name that no external asks for */
+    OMF_NO_PROGRAM = 11    /* omf_exe: the lines of why, of `start` bytes, are in its last buffer if they fit */
 };
 
 /* A kind: `kind` at OMF_MISSING and OMF_EXTRA, and a frame or target method of a fixup and of a start. The last two are frame methods alone: the frame of
@@ -356,15 +349,33 @@ struct omf_answer omf_library_find(const uint8_t *bytes, size_t length, const ui
  * it gives the frame. */
 struct omf_answer omf_link_image(const uint8_t *input, size_t length, uint32_t base, uint32_t size, uint8_t fill, uint8_t *out, size_t room);
 
-/* Makes a DOS program (.EXE) of the modules of `input`, one after another as above, with nothing after them: laid out from address 0 on in real mode
- * (docs/DOS.md). A member of a library is such a module, where omf_library_members has it. Loaded at any paragraph, the file is what the modules are at
- * their placements moved there. Returns OMF_DONE, OMF_NOT_LINKED, OMF_ROOM, OMF_MEMORY; or OMF_REFUSED or OMF_REACH with the module in
- * `record_count`.
- * It does not look for near calls into another frame, segments and groups of more than 64 KB, and segments between the parts of the stack,
- * as `omf-link exe` does.
- * A communal is an external here: some module must have a public of its name. `omf-link exe` adds a module for communals. A name with more than one
- * public is a fault also if no external asks for it: OMF_REPEATED. */
-struct omf_answer omf_exe(const uint8_t *input, size_t length, uint8_t *out, size_t room);
+/* A file of a program: modules one after another, or a library (its first byte is F0H), of which the members take part that are needed. The lines of
+ * a fault show its name. */
+struct omf_file {
+    const uint8_t *bytes;
+    size_t length;
+    const uint8_t *name;
+    size_t name_length;
+};
+
+/* What is asked of a program, as by the options of `omf-link exe`. All of it 0 is an .EXE file with none of them. */
+struct omf_program {
+    uint16_t stack;       /* --stack: the bytes that are added to the stack, 1 to 65,534; 0 for none */
+    uint16_t order;       /* --order: 1 dos, 2 input; any other number: DOS order if a module asks for it */
+    bool is_com;          /* a .COM file, as of `omf-link com` */
+    bool ignore_case;     /* --ignore-case */
+    bool allow_twice;     /* --allow twice, group, near: what is found is no fault, and its line is in `lines` */
+    bool allow_group;
+    bool allow_near;
+};
+
+/* Makes a DOS program of files, exactly as `omf-link exe` and `com` do (docs/DOS.md): communals, needed members and looks with it. Default libraries are
+ * not looked for: give them as files. At OMF_DONE the program is at the start of `out`, `size` its size; the lines of what is found and allowed are at
+ * the start of `lines`, `start` their size; `record_count` is 1 if an .EXE file has no stack. If either does not fit, OMF_ROOM has the same numbers, and
+ * both buffers are unchanged. If there is no program, the answer is OMF_NOT_LINKED with OMF_NO_PROGRAM: the lines that `omf-link` prints then are at the
+ * start of `lines`, `start` is their size; if they do not fit, `lines` is unchanged. Returns OMF_MEMORY if memory ran out. */
+struct omf_answer omf_exe(const struct omf_file *files, size_t file_count, const struct omf_program *asked, uint8_t *out, size_t room, uint8_t *lines,
+                          size_t line_room);
 
 /* The name and the sentence of a reason, 1 to 33, as `Cut` and `the input ends inside a record`; nothing for any other number. They return
  * OMF_DONE or OMF_ROOM. */

@@ -18,6 +18,7 @@ from __future__ import annotations
 import ctypes
 import ctypes.util
 import os
+import warnings
 from enum import IntEnum
 from functools import cached_property
 from itertools import accumulate
@@ -66,6 +67,10 @@ _Placement = type("_Placement", (ctypes.Structure,), {"_fields_": [
     ("segments", ctypes.POINTER(_Place)), ("segment_count", ctypes.c_size_t), ("groups", ctypes.POINTER(_Frame)), ("group_count", ctypes.c_size_t),
     ("externals", ctypes.POINTER(_Place)), ("external_count", ctypes.c_size_t)]})
 
+_File = type("_File", (ctypes.Structure,), {"_fields_": [
+    ("bytes", ctypes.c_char_p), ("length", ctypes.c_size_t), ("name", ctypes.c_char_p), ("name_length", ctypes.c_size_t)]})
+_Program = _struct("_Program", (ctypes.c_uint16, "stack order"), (ctypes.c_bool, "is_com ignore_case allow_twice allow_group allow_near"))
+
 _TABLES = {"records": _Record, "headers": _Header, "comments": _Comment, "data": _Data, "start_reference": _StartReference, "segments": _Segment, "groups": _Group, "group_members": _Member, "externals": _External, "publics": _Public,
            "fixups": _Fixup}
 _DONE, _MEMORY, _REFUSED, _LINE, _TOO_LONG, _REACH, _ROOM, _NO_LIBRARY, _NOT_LINKED = 0, 1, 4, 5, 6, 7, 8, 9, 10
@@ -95,7 +100,8 @@ def _load() -> ctypes.CDLL:
                  omf_fault_line=[ctypes.POINTER(_Answer)] + out)
     placed = module + [ctypes.POINTER(_Placement)] + flag
     calls.update(omf_image_at=placed + out + out, omf_start_at=placed + out, omf_data_bytes=module + flag + [_U32] + out)
-    calls.update(omf_link_image=module + [_U32, _U32, ctypes.c_uint8] + out, omf_exe=module + out)
+    calls.update(omf_link_image=module + [_U32, _U32, ctypes.c_uint8] + out)
+    calls.update(omf_exe=[ctypes.POINTER(_File), ctypes.c_size_t, ctypes.POINTER(_Program)] + out + out)
     calls.update({f"omf_{name}": module + flag + out for name in [*_TABLES, "library_members"]}, omf_library_find=module + module)
     for name, arguments in calls.items():
         call = getattr(library, name)
@@ -630,28 +636,27 @@ _LINKS = {
     4: "module {0.record_count} external {0.index} is defined twice", 5: "module {0.record_count} external {0.index} has its public at 2^32 or more",
     6: "two starts: module {0.record_count} and module {0.size}", 7: "module {0.record_count} segment {0.index} ends beyond the last address",
     8: "overlap at {0.start:08X}: module {0.record_count} segment {0.index} and module {0.number} segment {0.within}",
-    9: "a byte at {0.start:08X} is outside", 10: "the program ends after 1048576",
-    12: "module {0.record_count} record {0.number} at {0.start} within {0.within} does not move with the program",
-    13: "no start: no main module names one", 14: "module {0.record_count} start: its offset is over 65535",
-    15: "the end of the stack is not in its frame", 16: "module {0.record_count} record {0.number} at {0.start} within {0.within} overlaps a relocation word",
-    17: "more than 65535 relocation words", 18: "a name that no external asks for has more than one public",
+    9: "a byte at {0.start:08X} is outside", 10: "the modules end after 1048576",
 }
 
 
 class NotLinked(Error):
     """Modules are not linked. Modules count from 0 here, segments and externals from 1.
 
-    reason is a number of enum omf_not_linked in include/omf.h, or None: then fault is the Refused or Unreachable of the module, or line is the number
+    reason is a number of enum omf_not_linked in include/omf.h; 11 means that link_exe makes no program, and the text has the lines of `omf-link`. Or it is
+    None: then fault is the Refused or Unreachable of the module, or line is the number
     of the line of the text that does not fit, from 1. module is the module, or None if the fault has none.
     """
 
-    def __init__(self, answer: Any) -> None:
+    def __init__(self, answer: Any, lines: str = "") -> None:
         self.reason: Optional[int] = answer.reason if answer.status == _NOT_LINKED else None
         self.line: Optional[int] = answer.line if answer.status == _LINE else None
         self.fault: Optional[Error] = None
-        is_one = answer.status in (_REFUSED, _REACH) or self.reason in (3, 4, 5, 6, 7, 8, 12, 14, 16)
+        is_one = answer.status in (_REFUSED, _REACH) or self.reason in range(3, 9)
         self.module: Optional[int] = answer.record_count if is_one or (self.reason == 9 and answer.index) else None
-        if self.reason is not None:
+        if lines:
+            super().__init__(lines)
+        elif self.reason is not None:
             super().__init__(_LINKS[self.reason].format(answer))
         elif self.line is not None:
             super().__init__(f"text line {self.line}: {_LINES[answer.reason]}")
@@ -682,7 +687,30 @@ def link(modules: Iterable[Data], text: Union[str, bytes], base: int, size: int,
     return _linked(_library.omf_link_image, joined, len(joined), base, size, fill)
 
 
-def link_exe(modules: Iterable[Data]) -> bytes:
-    """A DOS program (.EXE) of modules, laid out from address 0 on (docs/DOS.md). A member of a library is a module: Member.data. Raises NotLinked."""
-    joined = b"".join(map(bytes, modules))
-    return _linked(_library.omf_exe, joined, len(joined))
+def link_exe(files: Iterable[Union[Data, Tuple[str, Data]]], stack: int = 0, order: Optional[str] = None, is_com: bool = False,
+             ignore_case: bool = False, allow: Iterable[str] = ()) -> bytes:
+    """A DOS program of files, as `omf-link exe` makes it (docs/DOS.md): an .EXE file, or a .COM file if is_com is true.
+
+    Each file has modules or is a library; a pair gives it the name that lines of faults show, else that is its number. stack, order ("dos", "input"),
+    ignore_case and allow ("twice", "group", "near") are the options of `omf-link exe`. Libraries that modules ask for are not looked for. What is found
+    and allowed, and a program without a stack, is a warning. Raises NotLinked, with the lines of `omf-link`.
+    """
+    named = [(each if isinstance(each, tuple) else (str(number), each)) for number, each in enumerate(files, 1)]
+    rows = (_File * len(named))(*((bytes(data), len(data), name.encode(), len(name.encode())) for name, data in named))
+    allowed = set(allow)
+    if not (allowed <= {"twice", "group", "near"} and order in (None, "dos", "input") and 0 <= stack <= 65534):
+        raise ValueError("an option that omf-link does not have")
+    asked = _Program(stack, {None: 0, "dos": 1, "input": 2}[order], is_com, ignore_case, "twice" in allowed, "group" in allowed, "near" in allowed)
+    arguments = (rows, len(rows), ctypes.byref(asked))
+    answer = _library.omf_exe(*arguments, None, 0, None, 0)
+    program, lines = (ctypes.c_uint8 * answer.size)(), (ctypes.c_uint8 * answer.start)()
+    if answer.status in (_ROOM, _NOT_LINKED):
+        answer = _library.omf_exe(*arguments, program, len(program), lines, len(lines))
+    if answer.status == _MEMORY:
+        raise MemoryError("out of memory")
+    text = bytes(lines).decode("utf-8", "replace").rstrip("\n")
+    if answer.status != _DONE:
+        raise NotLinked(answer, text)
+    for line in text.splitlines() + ["no stack: SS:SP is 0:0 from the load address"] * answer.record_count:
+        warnings.warn(line, stacklevel=2)
+    return bytes(program)

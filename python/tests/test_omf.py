@@ -275,23 +275,34 @@ class Links(unittest.TestCase):
         return caught.exception
 
     def test_a_fault_has_its_reason_and_its_module(self):
-        is_ = self.fault_of(omf.link_exe, [ABSOLUTE, FRAMED])
-        self.assertEqual((is_.reason, is_.module, str(is_)), (12, 1, "module 1 record 5 at 40 within 3 does not move with the program"))
-        is_ = self.fault_of(omf.link_exe, [FRAMED])
-        self.assertEqual((is_.reason, is_.module, str(is_)), (3, 0, "module 0 external 1 is not defined"))
         is_ = self.fault_of(omf.link, [ONE], TEXT, 0x7C01, 8)
         self.assertEqual((is_.reason, is_.module, str(is_)), (9, 0, "a byte at 00007C00 is outside"))
-        is_ = self.fault_of(omf.link_exe, [STARTS, DEFINES])
-        self.assertEqual((is_.reason, is_.module, str(is_)), (18, None, "a name that no external asks for has more than one public"))
-        self.assertEqual(self.fault_of(omf.link_exe, []).fault.name, "NoEnd")
+
+    def test_no_program_has_the_lines_of_the_linker(self):
+        is_ = self.fault_of(omf.link_exe, [("b.obj", FRAMED)])
+        self.assertEqual((is_.reason, is_.module), (11, None))
+        self.assertIn('undefined "f"', str(is_))
+        self.assertIn('"b.obj"', str(is_))
+        self.assertIn('twice "f"', str(self.fault_of(omf.link_exe, [STARTS, DEFINES])))
+        self.assertIn("Cut", str(self.fault_of(omf.link_exe, [ABSOLUTE, ONE[:-1]])))
+
+    def test_what_is_allowed_is_a_warning(self):
+        with self.assertWarnsRegex(UserWarning, 'twice "f"'):
+            self.assertEqual(omf.link_exe([STARTS, DEFINES], allow=["twice"])[:2], b"MZ")
+        with self.assertWarnsRegex(UserWarning, "no stack"):
+            omf.link_exe([STARTS])
+
+    def test_a_member_of_a_library_takes_part(self):
+        library = LIBRARY[:16] + DEFINES.ljust(48, b"\0") + LIBRARY[48:64]
+        needs = STARTS.replace(bytes.fromhex("9008000001016600000000"), bytes.fromhex("8C040001660000"))
+        with self.assertWarns(UserWarning):
+            self.assertIn(b"\xCB", omf.link_exe([needs, library]))
 
     def test_a_line_has_its_number(self):
         is_ = self.fault_of(omf.link, [ONE], TEXT.replace("T", "U"), 0x7C00, 8)
         self.assertEqual((is_.reason, is_.line, str(is_)), (None, 2, "text line 2: names nothing"))
 
     def test_a_module_has_its_fault(self):
-        is_ = self.fault_of(omf.link_exe, [ABSOLUTE, ONE[:-1]])
-        self.assertEqual((is_.module, is_.fault.name), (1, "Cut"))
         is_ = self.fault_of(omf.link, [ONE], 'M "A"\nS "T" 7C00 real\n', 0x7C00, 8)
         self.assertEqual((is_.module, str(is_)), (0, "module 0 reach 1 Missing segment 2"))
 

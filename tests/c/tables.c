@@ -465,9 +465,17 @@ static void joins(const void *first, size_t first_length, const void *second, si
     input_length = first_length + second_length;
 }
 
+static const struct omf_program plain = {0, 0, false, false, false, false, false};
+
+/* The program of the input as one file. */
+static struct omf_answer program_of(const struct omf_program *asked, uint8_t *out, size_t room, uint8_t *lines, size_t line_room) {
+    const struct omf_file file = {input, input_length, (const uint8_t *)"in.obj", 6};
+    return omf_exe(&file, 1, asked, out, room, lines, line_room);
+}
+
 /* Links the input: the memory from an address on if there is one, or else the program. */
 static struct omf_answer linked(uint32_t base, uint8_t *out, size_t room) {
-    return base ? omf_link_image(input, input_length, base, 8, 0x90, out, room) : omf_exe(input, input_length, out, room);
+    return base ? omf_link_image(input, input_length, base, 8, 0x90, out, room) : program_of(&plain, out, room, NULL, 0);
 }
 
 /* Makes the call with each room, and with each allocation refused. */
@@ -534,23 +542,68 @@ static void memories(void) {
     if (!unlinked(1, answer(OMF_REFUSED, OMF_CUT, 0, 0, 6, 2, 49, 0, 0, 1))) fail("link", "cut");
 }
 
+/* The input makes no program: the lines of why have this text in them. They are handed out if they fit, and nothing else. */
+static void no_program(const char *text) {
+    uint8_t out[64], before[64], lines[256], line_before[256];
+    memset(before, 7, sizeof before);
+    memset(line_before, 7, sizeof line_before);
+    memset(out, 7, sizeof out);
+    memset(lines, 7, sizeof lines);
+    struct omf_answer is = program_of(&plain, out, sizeof out, lines, sizeof lines);
+    const uint64_t size = is.start;
+    if (is.status != OMF_NOT_LINKED || is.reason != OMF_NO_PROGRAM || is.size != 0 || size == 0 || size >= sizeof lines) fail(text, "another answer");
+    if (memcmp(out, before, sizeof out) != 0 || lines[size] != 7 || lines[size - 1] != '\n') fail(text, "a buffer");
+    lines[size] = 0;
+    if (!strstr((const char *)lines, text)) fail(text, (const char *)lines);
+    memset(lines, 7, sizeof lines);
+    is = program_of(&plain, out, sizeof out, lines, size - 1);
+    if (is.reason != OMF_NO_PROGRAM || is.start != size || memcmp(lines, line_before, sizeof lines) != 0) fail(text, "lines that do not fit");
+    long n = 0;
+    do {
+        refused_from = n++;
+        allocations = 0;
+        is = program_of(&plain, out, sizeof out, lines, sizeof lines);
+        refused_from = -1;
+    } while (has(is, OMF_MEMORY, 0));
+    if (n < 2 || is.reason != OMF_NO_PROGRAM || is.start != size) fail(text, "refused allocations");
+}
+
 static void programs(void) {
     joins(with_stack, sizeof with_stack, NULL, 0);
     links("program", 0, program, sizeof program);
     joins(with_stack, sizeof with_stack, with_stack, sizeof with_stack);
-    if (!unlinked(0, answer(OMF_NOT_LINKED, OMF_STARTS, 0, 0, 0, 0, 0, 0, 1, 0))) fail("program", "two starts");
+    no_program("start");
     joins(framed, sizeof framed, absolute, sizeof absolute);
-    if (!unlinked(0, answer(OMF_NOT_LINKED, OMF_STAYS, 0, 0, 5, 3, 40, 0, 0, 0))) fail("program", "a part that stays");
-    joins(absolute, sizeof absolute, framed, sizeof framed);
-    if (!unlinked(0, answer(OMF_NOT_LINKED, OMF_STAYS, 0, 0, 5, 3, 40, 0, 0, 1))) fail("program", "a part of the second that stays");
+    no_program("in.obj");
     joins(framed, sizeof framed, NULL, 0);
-    if (!unlinked(0, answer(OMF_NOT_LINKED, OMF_UNDEFINED, 0, 1, 0, 0, 0, 0, 0, 0))) fail("program", "undefined");
+    no_program("undefined \"f\"");
     joins(absolute, sizeof absolute, NULL, 0);
-    if (!unlinked(0, answer(OMF_NOT_LINKED, OMF_NO_START, 0, 0, 0, 0, 0, 0, 0, 0))) fail("program", "no start");
+    no_program("start");
     joins(starts_f, sizeof starts_f, defines, sizeof defines);
-    if (!unlinked(0, answer(OMF_NOT_LINKED, OMF_REPEATED, 0, 0, 0, 0, 0, 0, 0, 0))) fail("program", "a name with two publics");
+    no_program("twice \"f\"");
     joins(with_stack, sizeof with_stack, addresses, strlen(addresses));
-    if (!unlinked(0, answer(OMF_NOT_LINKED, OMF_NO_TEXT, 0, 0, 0, 0, 0, 0, sizeof with_stack, 0))) fail("program", "a text");
+    no_program("neither a module nor padding");
+    joins(absolute, sizeof absolute, framed, sizeof framed - 8);
+    no_program("Cut");
+}
+
+/* What is allowed is a program with lines, and both are handed out or none; and a program may have no stack. */
+static void allowed(void) {
+    static const struct omf_program twice = {0, 0, false, false, true, false, false};
+    uint8_t out[64], lines[256], before[256];
+    joins(starts_f, sizeof starts_f, defines, sizeof defines);
+    memset(before, 7, sizeof before);
+    memset(out, 7, sizeof out);
+    memset(lines, 7, sizeof lines);
+    struct omf_answer is = program_of(&twice, out, sizeof out, NULL, 0);
+    const uint64_t size = is.size, told = is.start;
+    if (is.status != OMF_ROOM || size == 0 || told == 0 || is.record_count != 1 || memcmp(out, before, sizeof out) != 0) fail("allowed", "no room for lines");
+    is = program_of(&twice, out, size - 1, lines, sizeof lines);
+    if (is.status != OMF_ROOM || is.size != size || is.start != told || memcmp(lines, before, sizeof lines) != 0) fail("allowed", "no room for the program");
+    is = program_of(&twice, out, size, lines, told);
+    if (is.status != OMF_DONE || is.size != size || is.start != told || out[0] != 'M' || out[size] != 7 || lines[told] != 7) fail("allowed", "another answer");
+    if (memcmp(lines, "twice \"f\"", 9) != 0) fail("allowed", "other lines");
+    if (omf_exe(NULL, 0, &plain, NULL, 0, NULL, 0).reason != OMF_NO_PROGRAM) fail("allowed", "no files");
 }
 
 int main(void) {
@@ -580,6 +633,7 @@ int main(void) {
     libraries();
     memories();
     programs();
+    allowed();
     if (omf_groups(others, sizeof others, false, NULL, 0).status != OMF_DONE) fail("no groups", "another answer");
     if (failures == 0) printf("every table has its rows, every image and every link its bytes\n");
     return failures > 0;

@@ -1,4 +1,4 @@
-/* Modules one after another, each with padding after it, as omf_link_image and omf_exe read them. */
+/* Modules one after another, each with padding after it, as omf_link_image reads them, and omf_exe each file. */
 #ifndef MODULES_H
 #define MODULES_H
 

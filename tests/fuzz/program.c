@@ -1,17 +1,23 @@
 /* Modules as a DOS program: its MZ header fits the file, the relocation words are in the image and apart, the program ends below 2^20; and padding
- * between the modules, or their canonical bytes in their place, give the same file. */
+ * between the modules, or their canonical bytes in their place, give the same file. If there is none, the lines of why are handed out whole or not. */
 #include "modules.h"
 
 int LLVMFuzzerTestOneInput(const uint8_t *bytes, size_t length);
 
 enum { HEADER = 28, PARAGRAPH = 16, TOP = 1 << 20 };
 
-static struct omf_answer exe(const uint8_t *bytes, size_t length, uint8_t *out, size_t room) {
+static struct omf_answer told(const uint8_t *bytes, size_t length, uint8_t *out, size_t room, uint8_t *lines, size_t line_room) {
+    static const struct omf_program plain = {0};
+    const struct omf_file file = {bytes, length, (const uint8_t *)"in.obj", 6};
     begin();
-    struct omf_answer answer = omf_exe(bytes, length, out, room);
+    struct omf_answer answer = omf_exe(&file, 1, &plain, out, room, lines, line_room);
     end();
     PROMISED(answer.status != OMF_MEMORY || refused);
     return answer;
+}
+
+static struct omf_answer exe(const uint8_t *bytes, size_t length, uint8_t *out, size_t room) {
+    return told(bytes, length, out, room, NULL, 0);
 }
 
 /* Asks for the room, and then for the file, which has exactly that size. */
@@ -29,7 +35,7 @@ static struct text program_of(const uint8_t *bytes, size_t length) {
     PROMISED(are_same(exe(bytes, length, file.bytes, file.size - 1), file.answer) || refused);
     PROMISED(file.bytes[0] == 0xA5 && file.bytes[file.size - 1] == 0xA5);
     file.answer = exe(bytes, length, file.bytes, file.size);
-    PROMISED((file.answer.status == OMF_DONE && file.answer.size == file.size) || file.answer.status == OMF_MEMORY);
+    PROMISED((file.answer.status == OMF_DONE && file.answer.size == file.size && file.answer.start == 0) || file.answer.status == OMF_MEMORY);
     PROMISED(file.bytes[file.size] == 0xA5);
     return file;
 }
@@ -67,25 +73,19 @@ static void look_at_file(struct text file) {
     PROMISED(PARAGRAPH * word(head, 22) < TOP);
 }
 
-static void look_at_fault(struct omf_answer answer, size_t length, const struct modules *in) {
-    if (in->fault.status != OMF_DONE) {
-        PROMISED(in->fault.status == OMF_MEMORY || are_same(answer, in->fault));
-    } else if (in->end < length) {
-        PROMISED(answer.status == OMF_NOT_LINKED && answer.reason == OMF_NO_TEXT && answer.size == in->end);
-    } else if (answer.status == OMF_REACH) {
-        PROMISED(answer.record_count < in->count && (answer.reason == OMF_ABSOLUTE || answer.reason == OMF_TOO_FAR));
-        if (answer.reason == OMF_TOO_FAR) {
-            look_at_place(answer, in, false);
-        }
-    } else {
-        PROMISED(answer.status == OMF_NOT_LINKED && answer.reason >= OMF_UNDEFINED && answer.reason <= OMF_REPEATED);
-        PROMISED(answer.reason < OMF_BEYOND || answer.reason >= OMF_HIGH);
-        PROMISED(answer.record_count < in->count && answer.reason != OMF_MOVERS);
-        PROMISED(answer.reason != OMF_STARTS || (answer.record_count < answer.size && answer.size < in->count));
-        if (answer.reason == OMF_STAYS || answer.reason == OMF_WORD_OVERLAP) {
-            look_at_place(answer, in, true);
-        }
-    }
+/* Asks for the lines of a fault, with a byte too little, and with exactly their size. */
+static void look_at_fault(struct omf_answer fault, const uint8_t *bytes, size_t length) {
+    PROMISED(fault.status == OMF_NOT_LINKED && fault.reason == OMF_NO_PROGRAM && fault.size == 0 && fault.start > 0);
+    const size_t size = (size_t)fault.start;
+    uint8_t *lines = __real_malloc(size + 1);
+    PROMISED(lines != NULL);
+    memset(lines, 0xA5, size + 1);
+    PROMISED(are_same(told(bytes, length, NULL, 0, lines, size - 1), fault) || refused);
+    PROMISED(lines[0] == 0xA5 && lines[size - 1] == 0xA5);
+    struct omf_answer answer = told(bytes, length, NULL, 0, lines, size);
+    PROMISED(answer.status == OMF_MEMORY || (are_same(answer, fault) && lines[size - 1] == '\n'));
+    PROMISED(lines[size] == 0xA5);
+    free(lines);
 }
 
 /* The modules as they are, but with other padding after each. */
@@ -127,7 +127,7 @@ int LLVMFuzzerTestOneInput(const uint8_t *bytes, size_t length) {
             }
         } else {
             PROMISED(again.status == OMF_MEMORY || are_same(again, file.answer));
-            look_at_fault(file.answer, length, &in);
+            look_at_fault(file.answer, bytes, length);
         }
     }
     free(file.bytes);

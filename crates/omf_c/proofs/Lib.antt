@@ -1,6 +1,6 @@
 mod DataLaws
+mod FilesLaws
 mod ImageLaws
 mod PlacedLaws
 mod RecordLaws
 mod RowLaws
-pub mod ProgramLaws

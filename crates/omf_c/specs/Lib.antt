@@ -11,3 +11,4 @@ pub mod Tables
 pub mod Texts
 pub mod Libraries
 pub mod Linking
+pub mod Programs

@@ -1,11 +1,8 @@
 -- The results of the calls that link modules (this profile's rule).
-use Rattle.std.specs.Prelude.{◌≡◌, ◌⊎◌, ◌≢◌, ℕ, ◌+◌, List, [], length, Bool, false, Option, Some, None, Result, Ok, Err}
+use Rattle.std.specs.Prelude.{◌≡◌, ℕ, List, Option, Some, None, Result, Ok, Err}
 use Rattle.omf_frame.specs.Fault.{reason_number}
-use Rattle.omf_check.specs.Module.{Module, typed_modules}
-use Rattle.omf_check.specs.declared.profile.Profile.{Profile}
 use Rattle.omf_placement.specs.declared.several.fault.DeriveFault.{DeriveFault}
 use Rattle.omf_placement.specs.declared.several.fault.DeriveFault.TheVariants as derive
-use Rattle.omf_linking.specs.Reading.{AreModules}
 use Rattle.omf_linking.specs.declared.fault.LinkFault.{LinkFault}
 use Rattle.omf_linking.specs.declared.fault.LinkFault.TheVariants as link
 use Rattle.omf_linking.specs.declared.locator.fault.LineFault.{LineFault}
@@ -13,16 +10,9 @@ use Rattle.omf_linking.specs.declared.locator.fault.LineFault.TheVariants as why
 use Rattle.omf_linking.specs.declared.space.fault.MemoryFault.{MemoryFault}
 use Rattle.omf_linking.specs.declared.space.fault.MemoryFault.TheVariants as space
 use Rattle.omf_linking.specs.declared.space.stretch.Owner.{Owner}
-use Rattle.omf_output.specs.declared.exe.fault.ExeFault.{ExeFault}
-use Rattle.omf_output.specs.declared.exe.fault.ExeFault.TheVariants as exe
 use Rattle.omf_output.specs.declared.rom.form.Chip.{Chip}
 use Rattle.omf_output.specs.declared.rom.form.Form.TheVariants.{Binary}
-use Rattle.omf_linker.specs.Exe.Program.{IsProgramFault, IsProgramOf}
-use Rattle.omf_linker.specs.Link.Repeated.{IsRepeatedText}
 use Rattle.omf_linker.specs.Link.Shown.{IsShownOf}
-use Rattle.omf_linker.specs.Link.Unresolved.{all_rows}
-use Rattle.omf_linker.specs.declared.exe.fault.ProgramFault.{ProgramFault}
-use Rattle.omf_linker.specs.declared.exe.fault.ProgramFault.TheVariants as program
 use Rattle.omf_linker.specs.declared.link.fault.ImageFault.{ImageFault}
 use Rattle.omf_linker.specs.declared.link.fault.ImageFault.TheVariants as image
 use Rattle.omf_linker.specs.declared.link.words.Task.TheVariants.{Rom}
@@ -88,55 +78,3 @@ ShowsLinked (Err f) answer old new = (answer ≡ of_image f) × (new ≡ old)
 -- The memory of the modules of an input at the placements of the text after them, as the bytes of a chip.
 abbrev pub IsChipAnswered : Chip → List ℕ → Answer → List ℕ → List ℕ → Type 0
 IsChipAnswered chip input answer old new = (made : Result (List ℕ) ImageFault) × IsShownOf (Rom (Binary chip)) input made × ShowsLinked made answer old new
-
--- ---- DOS programs
-
--- Modules that are no program.
-abbrev pub of_exe : ExeFault → Answer
-of_exe exe.Memory = record done { status = 1 }
-of_exe (exe.Reach j f) = record (of_reach f) { record_count = j }
-of_exe (exe.Movers j) = record (unlinked 11) { record_count = j }
-of_exe (exe.Stays j at) = record (unlinked 12) { record_count = j; number = at.number; start = at.start; within = at.within }
-of_exe exe.NoStart = unlinked 13
-of_exe (exe.Starts j k) = record (unlinked 6) { record_count = j; size = k }
-of_exe (exe.FarStart j) = record (unlinked 14) { record_count = j }
-of_exe exe.TooHigh = unlinked 10
-of_exe exe.FarStack = unlinked 15
-of_exe (exe.Overlap j at) = record (unlinked 16) { record_count = j; number = at.number; start = at.start; within = at.within }
-of_exe exe.TooMany = unlinked 17
-
-abbrev pub of_program : ProgramFault → Answer
-of_program program.Memory = record done { status = 1 }
-of_program program.NoRoom = unlinked 10
-of_program (program.External f) = of_derive f
-of_program (program.Exe f) = of_exe f
-
--- Comments of all classes are accepted.
-abbrev pub any : Profile
-any = record { refuse_vendor_comments = false }
-
--- Modules have a program.
-abbrev pub IsLinkable : List Module → Type 0
-IsLinkable modules = (bytes : List ℕ) × (has_stack : Bool) × IsProgramOf modules bytes has_stack
-
--- The program of modules in which no name has more than one public; or why it is none: the modules have no program; or else a name has more.
-abbrev pub IsProgramMade : List Module → Result (List ℕ) Answer → Type 0
-IsProgramMade modules (Ok bytes) = IsRepeatedText [] (all_rows (typed_modules modules)) [] × ((has_stack : Bool) × IsProgramOf modules bytes has_stack)
-IsProgramMade modules (Err answer) =
-    ((f : ProgramFault) × IsProgramFault modules f × (answer ≡ of_program f))
-    ⊎ (IsLinkable modules × ((lines : List ℕ) × IsRepeatedText [] (all_rows (typed_modules modules)) lines × (lines ≢ []) × (answer ≡ unlinked 18)))
-
--- The program of an input that is modules, one after another; or why it is none: a module is refused, something is left after the modules, or their program is not made.
-abbrev pub IsProgramIn : List ℕ → Result (List ℕ) Answer → Type 0
-IsProgramIn input (Ok bytes) = (modules : List Module) × AreModules any input (Ok (modules, [])) × IsProgramMade modules (Ok bytes)
-IsProgramIn input (Err answer) =
-    ((f : LinkFault) × AreModules any input (Err f) × (answer ≡ of_link f))
-    ⊎ (((modules : List Module) × (text : List ℕ) × AreModules any input (Ok (modules, text)) × (text ≢ []) × (answer.size + length text ≡ length input) × (answer ≡ of_link (link.NoText answer.size)))
-    ⊎ ((modules : List Module) × AreModules any input (Ok (modules, [])) × IsProgramMade modules (Err answer)))
-
-abbrev pub ShowsProgram : Result (List ℕ) Answer → Answer → List ℕ → List ℕ → Type 0
-ShowsProgram (Ok bytes) answer old new = HandsOut bytes answer old new
-ShowsProgram (Err fault) answer old new = (answer ≡ fault) × (new ≡ old)
-
-abbrev pub IsProgramAnswered : List ℕ → Answer → List ℕ → List ℕ → Type 0
-IsProgramAnswered input answer old new = (made : Result (List ℕ) Answer) × IsProgramIn input made × ShowsProgram made answer old new

@@ -9,10 +9,12 @@ mod calls;
 mod data;
 mod fixups;
 mod images;
+mod kept;
 mod libraries;
 mod linking;
 mod making;
 mod placing;
+mod programs;
 mod reasons;
 mod records;
 mod row_calls;
@@ -32,14 +34,15 @@ pub use calls::{
     omf_canon, omf_check, omf_image, omf_image_at, omf_list, omf_reloc, omf_start, omf_start_at,
 };
 pub use libraries::{omf_library_find, omf_library_members};
-pub use linking::{omf_exe, omf_link_image};
+pub use linking::omf_link_image;
+pub use programs::omf_exe;
 pub use row_calls::{
     omf_comments, omf_data, omf_data_bytes, omf_externals, omf_fixups, omf_group_members,
     omf_groups, omf_headers, omf_publics, omf_records, omf_segments, omf_start_reference,
 };
 pub use rows::{
-    CommentRow, DataRow, ExternalRow, FixupRow, FrameRow, GroupRow, HeaderRow, LibraryMemberRow,
-    MemberRow, NamePlace, PlaceRow, PlacementRows, PublicRow, RecordRow, RunRow, SegmentRow, Span,
-    StartReferenceRow, StartRow,
+    CommentRow, DataRow, ExternalRow, FileRow, FixupRow, FrameRow, GroupRow, HeaderRow,
+    LibraryMemberRow, MemberRow, NamePlace, PlaceRow, PlacementRows, ProgramRow, PublicRow,
+    RecordRow, RunRow, SegmentRow, Span, StartReferenceRow, StartRow,
 };
 pub use texts::{omf_fault_line, omf_reason_name, omf_reason_sentence, omf_version};

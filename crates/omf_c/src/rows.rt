@@ -268,3 +268,31 @@ pub struct LibraryMemberRow {
     /// In bytes.
     pub size: u64,
 }
+
+/// A file of a program: its bytes, and its name, which the lines of a fault show.
+#[repr(C)]
+#[derive(Clone, Copy, Drop)]
+pub struct FileRow<'a> {
+    pub bytes: &'a [u8],
+    pub name: &'a [u8],
+}
+
+/// What is asked of a program.
+#[repr(C)]
+#[derive(Clone, Copy, Drop)]
+pub struct ProgramRow {
+    /// The bytes of a stack that is added; 0 for none.
+    pub stack: u16,
+    /// 1 is DOS order of segments, 2 the order of the modules; any other is DOS order if a module asks for it.
+    pub order: u16,
+    /// Whether it is a .COM file.
+    pub is_com: bool,
+    /// Whether names are compared without case.
+    pub ignore_case: bool,
+    /// Whether several publics may have one name, if no external has it.
+    pub allow_twice: bool,
+    /// Whether 16-bit segments and groups may be longer than 64 KB.
+    pub allow_group: bool,
+    /// Whether near references may be into another frame.
+    pub allow_near: bool,
+}

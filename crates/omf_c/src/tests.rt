@@ -2,7 +2,8 @@
 
 use crate::answer::NOTHING;
 use crate::{
-    Answer, omf_canon, omf_check, omf_exe, omf_fault_line, omf_link_image, omf_list, omf_reloc,
+    Answer, FileRow, ProgramRow, omf_canon, omf_check, omf_exe, omf_fault_line, omf_link_image,
+    omf_list, omf_reloc,
 };
 use omf_samples::{BadHex, DATA, HEADER, MODULE, NAMES, SEGMENT, joined};
 use std::alloc::Global;
@@ -325,10 +326,25 @@ const ONE: &[&str] = &[
     "8A 07 00 C1 00 01 01 00 00 00",
 ];
 
+/// An .EXE file, with nothing else asked.
+const PLAIN: ProgramRow = ProgramRow {
+    stack: 0,
+    order: 0,
+    is_com: false,
+    ignore_case: false,
+    allow_twice: false,
+    allow_group: false,
+    allow_near: false,
+};
+
 /// Whether the program of the module is handed out.
 fn has_program(alloc: Global, module: &[u8]) -> bool {
+    let files = [FileRow {
+        bytes: module,
+        name: b"one.obj",
+    }];
     let mut buffer = [7; 48];
-    let answer = omf_exe(alloc, module, &mut buffer);
+    let answer = omf_exe(alloc, &files, &PLAIN, &mut buffer, &mut []);
     is_shown(
         answer,
         &buffer,
@@ -393,14 +409,17 @@ fn is_repeated(alloc: Global, rows: &[&str]) -> bool {
     let Ok(input) = joined(alloc, rows) else {
         return false;
     };
+    let files = [FileRow {
+        bytes: &input,
+        name: b"two.obj",
+    }];
     let mut buffer = [7; 48];
-    let answer = omf_exe(alloc, &input, &mut buffer);
-    let wanted = Answer {
-        status: 10,
-        reason: 18,
-        ..NOTHING
-    };
-    answer == wanted && buffer == [7; 48]
+    let mut lines = [7; 96];
+    let answer = omf_exe(alloc, &files, &PLAIN, &mut buffer, &mut lines);
+    answer.status == 10
+        && answer.reason == 11
+        && buffer == [7; 48]
+        && lines.starts_with(b"twice \"f\"")
 }
 
 #[test]

@@ -1,0 +1,49 @@
+-- Programs of files, and why there is none.
+use Rattle.std.proofs.Common.{◌≡◌, ℕ, List, [], arith, refl, subst, inl, inr}
+use Rattle.std.specs.Prelude.{◌⊎◌}
+use Rattle.omf_frame.specs.Device.{Device, HasFailed}
+use Rattle.omf_cmd.specs.Programs.{in_memory}
+use Rattle.omf_cmd.specs.Runs.{IsWritten}
+use Rattle.omf_linking.specs.File.{InputFile}
+use Rattle.omf_linker.specs.Exe.Making.{GiveNone, IsMade, IsNotMade, ProgramFiles}
+use Rattle.omf_linker.specs.Exe.Refusing.{IsRefusalFor}
+use Rattle.omf_linker.specs.declared.exe.made.MadeProgram.{MadeProgram}
+use Rattle.omf_linker.specs.declared.exe.options.ExeOptions.{ExeOptions}
+use Rattle.omf_linker.specs.declared.exe.refusal.Refusal.{Refusal}
+use Rattle.omf_c.specs.Answers.{done}
+use Rattle.omf_c.specs.Programs.{AreNotWritten, HandsProgram, HaveNoProgram, IsAnsweredOf, IsProgramOfFiles, ShowsRefusal, warnings}
+use Rattle.omf_c.specs.declared.answer.Answer.{Answer}
+
+none_failed : (n : ℕ) → HasFailed 0 n → n ≡ 0 → ⊥
+none_failed n (inl h) z = omega arith
+none_failed n (inr h) z = omega arith
+
+whole_in_memory : (n : ℕ) (items text : List ℕ) → n ≡ 0 → IsWritten (in_memory 0 []) (in_memory n items) text → items ≡ text
+whole_in_memory n items text z (inl h) = h.1
+whole_in_memory n items text z (inr h) = absurd (none_failed n h.0.0 z)
+
+-- a sink in memory with no refusals holds the whole text
+pub whole_kept : (old : Device) (n : ℕ) (items text : List ℕ) → old ≡ in_memory 0 [] → n ≡ 0 → IsWritten old (in_memory n items) text → items ≡ text
+whole_kept old n items text e z h = whole_in_memory n items text z (subst (λ (d : Device). IsWritten d (in_memory n items) text) e h)
+
+-- what is made of the files is their program
+pub program_of : (files : List InputFile) (o : ExeOptions) (p : ProgramFiles) (m : MadeProgram) → p.files ≡ files → p.ignores_case ≡ o.ignore_case → IsMade o p m → IsProgramOfFiles files o m
+program_of files o p m e c h = record { program = p; of = e; case = c; made = h }
+
+-- a refusal is for files without modules, or without a program
+pub give_none : (files : List InputFile) (o : ExeOptions) (r : Refusal) → IsRefusalFor (GiveNone o.ignore_case files) r → IsRefusalFor (HaveNoProgram files o) r
+give_none files o r h n = inl (h n)
+
+pub not_written : (files : List InputFile) (o : ExeOptions) (p : ProgramFiles) (r : Refusal) → p.files ≡ files → p.ignores_case ≡ o.ignore_case → IsRefusalFor (IsNotMade o p) r → IsRefusalFor (HaveNoProgram files o) r
+not_written files o p r e c h n = inr (record { program = p; of = e; case = c; why = h n })
+
+-- the results for them
+pub written_answered : (files : List InputFile) (o : ExeOptions) (m : MadeProgram) (answer : Answer) (old new : List ℕ × List ℕ) → IsProgramOfFiles files o m
+    → (HandsProgram m (warnings m) answer old new ⊎ ((answer ≡ record done { status = 1 }) × (new.0 ≡ old.0) × (new.1 ≡ old.1))) → IsAnsweredOf files o answer old new
+written_answered files o m answer old new p (inl h) = inl (m, p, h)
+written_answered files o m answer old new p (inr h) = inr (inr h)
+
+pub refused_answered : (files : List InputFile) (o : ExeOptions) (r : Refusal) (answer : Answer) (old new : List ℕ × List ℕ) → IsRefusalFor (HaveNoProgram files o) r
+    → ShowsRefusal r answer old.1 new.1 → new.0 ≡ old.0 → IsAnsweredOf files o answer old new
+refused_answered files o r answer old new why (inl h) same = inr (inl (r, why h.0, h.1, same))
+refused_answered files o r answer old new why (inr h) same = inr (inr (h.0, same, h.1))

@@ -1,0 +1,35 @@
+"""Does what `omf-link exe` does, by the package: as_linker.py exe -o OUTPUT FILE.. [--allow KIND].. [--stack N] [--order dos|input] [--ignore-case]
+
+tests/c/run.sh runs the cases of conformance/programs on it.
+"""
+import argparse
+import os
+import sys
+import warnings
+
+sys.path.insert(0, os.path.join(os.path.dirname(__file__), ".."))
+import omf  # noqa: E402
+
+parser = argparse.ArgumentParser()
+parser.add_argument("kind", choices=["exe", "com"])
+parser.add_argument("-o", dest="output", required=True)
+parser.add_argument("--allow", action="append", default=[])
+parser.add_argument("--stack", type=int, default=0)
+parser.add_argument("--order")
+parser.add_argument("--ignore-case", action="store_true")
+parser.add_argument("files", nargs="+")
+asked = parser.parse_intermixed_args()
+files = []
+for path in asked.files:
+    with open(path, "rb") as file:
+        files.append((path, file.read()))
+with warnings.catch_warnings(record=True) as caught:
+    warnings.simplefilter("always")
+    try:
+        program = omf.link_exe(files, asked.stack, asked.order, asked.kind == "com", asked.ignore_case, asked.allow)
+    except omf.NotLinked as fault:
+        sys.exit("\n".join(f"omf-link: {line}" for line in str(fault).splitlines()))
+for warning in caught:
+    print(f"omf-link: {warning.message}", file=sys.stderr)
+with open(asked.output, "wb") as file:
+    file.write(program)
