@@ -26,7 +26,7 @@ struct Single {
 pub(crate) struct Singles {
     /// The address and the number of each, in ascending order.
     by_address: Vec<(u32, usize)>,
-    /// Those over whose data no other one with as many closed bytes lies, in ascending order.
+    /// Those whose data no other one with as many closed bytes overlaps, in ascending order.
     pub(crate) alone: Vec<(u32, usize)>,
 }
 
@@ -55,7 +55,7 @@ impl Singles {
         })
     }
 
-    /// Whether no other one lies over the data of this one, but such with fewer closed bytes.
+    /// Whether no other one overlaps the data of this one, but such with fewer closed bytes.
     pub(crate) fn is_alone(&self, address: u32, number: usize) -> bool {
         self.alone.binary_search(&(address, number)).is_ok()
     }
@@ -101,7 +101,7 @@ fn add_all(
     Ok(())
 }
 
-/// Those over whose data no other one with as many closed bytes lies.
+/// Those whose data no other one with as many closed bytes overlaps.
 fn alone(alloc: Global, all: Vec<Single>) -> Result<Vec<(u32, usize)>, AllocError> {
     let mut all = all;
     all.sort_unstable_by_key(|single| (single.start, single.end, single.number));
