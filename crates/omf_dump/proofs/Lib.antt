@@ -10,6 +10,7 @@ pub mod LibraryLaws
 pub mod ListingLaws
 pub mod NamingLaws
 pub mod PairLaws
+pub mod RawLaws
 pub mod RowLaws
 pub mod StreamLaws
 pub mod SubrecordLaws

@@ -5,6 +5,8 @@ pub mod Known
 pub mod Looks
 pub mod Blocks
 pub mod Comments
+pub mod Layouts
+pub mod Raw
 pub mod Contents
 pub mod Dump
 pub mod Later
