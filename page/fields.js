@@ -43,6 +43,14 @@ function blockPlaces(cursor, wide) {
   return { depth: repeat, repeat, blocks, bytes: isData ? cursor.name() : blocks };
 }
 
+// The places of a leaf of a TYPDEF: near (62H) or far (61H).
+function leafPlaces(cursor) {
+  const places = { leaf: cursor.take(1), variable: cursor.take(1) }, leaf = cursor.bytes[places.leaf[0]];
+  if (leaf === 0x62) places.bits = cursor.communal();
+  if (leaf === 0x61) { places.elements = cursor.communal(); places["element-type"] = cursor.index(); }
+  return places;
+}
+
 // The places of one item of a record.
 function itemPlaces(type, cursor, wide, data) {
   if (type === "LNAMES" || type === "LLNAMES") return { name: cursor.name() };
@@ -55,6 +63,9 @@ function itemPlaces(type, cursor, wide, data) {
     return { ...places, length: cursor.communal() };
   }
   if (type === "COMENT") { const index = cursor.index(); return { external: index, default: index }; }
+  if (type === "LINNUM" || type === "LINSYM") return { line: cursor.take(2), offset: cursor.take(wide ? 4 : 2) };
+  if (type === "ALIAS") return { alias: cursor.name(), substitute: cursor.name() };
+  if (type === "TYPDEF") return leafPlaces(cursor);
   if (type === "LIDATA") return blockPlaces(cursor, wide);
   if (type === "FIXUPP") return subrecordPlaces(cursor, wide, data);
   if (type === "MODEND") return referencePlaces(cursor, wide);
@@ -86,7 +97,11 @@ function recordPlaces(type, cursor, wide, end) {
     places.segment = cursor.index();
     places.offset = cursor.take(wide ? 4 : 2);
     places.data = places.length = [cursor.at, end - 1];
-  } else if (type === "MODEND") places.flags = places.main = places["has-start"] = cursor.take(1);
+  } else if (type === "TYPDEF") { places.name = cursor.name(); places.EN = cursor.take(1); }
+  else if (type === "LINNUM") { places.group = cursor.index(); places.segment = cursor.index(); }
+  else if (type === "LINSYM") { places.flags = places.continued = cursor.take(1); places.public = cursor.index(); }
+  else if (type === "VERNUM") places.version = contents;
+  else if (type === "MODEND") places.flags = places.main = places["has-start"] = cursor.take(1);
   else places.data = places.length = contents;
   return places;
 }
@@ -94,6 +109,7 @@ function recordPlaces(type, cursor, wide, end) {
 const SIZES = { "low-byte": 1, offset16: 2, base: 2, "pointer16:16": 4, "high-byte": 1, "loader-offset16": 2, offset32: 4, "pointer16:32": 6,
   "loader-offset32": 4 };
 const FRAME = new Set(["number", "start", "items", "within", "record"]);
+const QUOTED = new Set(["name", "text", "public", "alias", "substitute", "version", "meaning", "looks-like"]);
 const NAME_ESCAPES = /[^\x20-\x7E]|["\\]/g;
 
 // A name as omf-dump shows it.
@@ -109,13 +125,13 @@ function shownValue(key, value, type, wide, isOfItem) {
   if (typeof value === "object") return (value.index || "-") + (value.name === undefined ? "" : " " + shownName(value.name));
   if (typeof value === "boolean") return value ? "yes" : "no";
   if (typeof value === "string") {
-    if (key === "data" || key === "bytes") return value.replace(/..(?=.)/g, "$& ");
-    return ["name", "text", "public", "meaning", "looks-like"].includes(key) && !(key === "meaning" && type === "COMENT") ? shownName(value) : value;
+    if (["data", "bytes", "left"].includes(key)) return value.replace(/..(?=.)/g, "$& ");
+    return QUOTED.has(key) && !(key === "meaning" && type === "COMENT") ? shownName(value) : value;
   }
-  if (type === "COMENT" || key === "flags" || key === "byte" || (key === "offset" && type === "SEGDEF")) return hex(value, 2) + "H";
+  if (type === "COMENT" || key === "flags" || key === "EN" || key === "byte" || (key === "offset" && type === "SEGDEF")) return hex(value, 2) + "H";
   if ((key === "type" || key === "checksum") && !isOfItem) return hex(value, 2) + "H";
   if (["offset", "at", "displacement", "length"].includes(key)) return hex(value, digits) + "H";
-  if (["frame", "count", "size"].includes(key)) return hex(value, 4) + "H";
+  if (["frame", "count", "size", "bits", "elements"].includes(key)) return hex(value, 4) + "H";
   return String(value);
 }
 
@@ -143,6 +159,7 @@ function recordTree(bytes, from, to, dump, dataAt) {
   for (const item of dump.items || []) {
     cursor.at = from + item.within;
     const inside = itemPlaces(type, cursor, wide, dataAt), children = [];
+    cursor.at = Math.min(cursor.at, to - 1);
     for (const [key, value] of Object.entries(item)) {
       if (key === "within") continue;
       let [first, end] = inside[key] || [from + item.within, cursor.at];

@@ -15,7 +15,7 @@ def look_at_value(value, most):
         for key, one in value.items():
             if key in DELTAS:
                 continue
-            if key in ("data", "bytes") and isinstance(one, str):
+            if key in ("data", "bytes", "left") and isinstance(one, str):
                 promised(re.fullmatch("(?:[0-9A-F]{2})*", one), f"{key} {one}")
             look_at_value(one, most)
         left = value.get("left-out")

@@ -4,6 +4,7 @@ use Rattle.std.specs.Prelude.{flat_map, map, Option, Some, None, option_and_then
 use Rattle.std.proofs.lemmas.List.{append-nil, map-append}
 use Rattle.std.specs.List.{last_or}
 use Rattle.omf_frame.specs.Bytes.{last}
+use Rattle.omf_frame.specs.Types.{width_of}
 use Rattle.omf_frame.specs.declared.kinds.Width.{Width}
 use Rattle.omf_records.specs.Values.{At, Rec, Contents, Header, Comment, Names, Segment, Group, Externs, Publics, Communals, Plain, Iterated, Fixups, ModEnd, Carried, Subrecord, Thread, Fixup, Reference}
 use Rattle.omf_check.specs.Tables.{segments, groups, subrecords, subrecords_in, defined_names, defined_segments, defined_groups, defined_externals, data_in}
@@ -45,20 +46,20 @@ start_is t width threads earlier None h = refl
 start_is t width threads earlier (Some r) h = ap (λ (fs : List Field). item r.fix.within fs ∷ []) (reference_is t width threads earlier r h)
 
 -- what is shown is what the records before give
-pub shown_is : (known : Known) (earlier : List Subrecord) (width : Width) (c : Contents) → HasThreads known.threads earlier → shown_by known width c ≡ shown known.tables known.fixed earlier width c
-shown_is known earlier width (Fixups subs) h = ap (with_items []) (subrecords_are known.tables known.fixed width known.threads earlier subs h)
-shown_is known earlier width (ModEnd byte start) h = ap (with_items _) (start_is known.tables width known.threads earlier start h)
-shown_is known earlier width (Header name) h = refl
-shown_is known earlier width (Comment byte class text) h = refl
-shown_is known earlier width (Names items) h = refl
-shown_is known earlier width (Segment s) h = refl
-shown_is known earlier width (Group g) h = refl
-shown_is known earlier width (Externs items) h = refl
-shown_is known earlier width (Publics p) h = refl
-shown_is known earlier width (Communals items) h = refl
-shown_is known earlier width (Plain d) h = refl
-shown_is known earlier width (Iterated d) h = refl
-shown_is known earlier width (Carried bytes) h = refl
+pub shown_is : (known : Known) (earlier : List Subrecord) (kind : ℕ) (c : Contents) → HasThreads known.threads earlier → shown_by known kind c ≡ shown known.tables known.fixed earlier kind c
+shown_is known earlier kind (Fixups subs) h = ap (with_items []) (subrecords_are known.tables known.fixed (width_of kind) known.threads earlier subs h)
+shown_is known earlier kind (ModEnd byte start) h = ap (with_items _) (start_is known.tables (width_of kind) known.threads earlier start h)
+shown_is known earlier kind (Header name) h = refl
+shown_is known earlier kind (Comment byte class text) h = refl
+shown_is known earlier kind (Names items) h = refl
+shown_is known earlier kind (Segment s) h = refl
+shown_is known earlier kind (Group g) h = refl
+shown_is known earlier kind (Externs items) h = refl
+shown_is known earlier kind (Publics p) h = refl
+shown_is known earlier kind (Communals items) h = refl
+shown_is known earlier kind (Plain d) h = refl
+shown_is known earlier kind (Iterated d) h = refl
+shown_is known earlier kind (Carried bytes) h = refl
 
 -- ---- one more record
 
@@ -122,6 +123,6 @@ holds_more old new before r h k = record {
 }
 
 -- what is shown of the next record
-pub next_shown : (known : Known) (before : List Rec) (width : Width) (c : Contents) → Holds known before → shown_by known width c ≡ shown (tables before) (fixed_data before) (subrecords before) width c
-next_shown known before width c h =
-    shown_is known (subrecords before) width c h.threads ∙ ap₂ (λ (t : Tables) (d : Option Data). shown t d (subrecords before) width c) h.tables h.fixed
+pub next_shown : (known : Known) (before : List Rec) (kind : ℕ) (c : Contents) → Holds known before → shown_by known kind c ≡ shown (tables before) (fixed_data before) (subrecords before) kind c
+next_shown known before kind c h =
+    shown_is known (subrecords before) kind c h.threads ∙ ap₂ (λ (t : Tables) (d : Option Data). shown t d (subrecords before) kind c) h.tables h.fixed

@@ -8,7 +8,6 @@ use Rattle.omf_frame.specs.Bytes.{with_before}
 use Rattle.omf_frame.specs.Framing.{Raw, raw_bytes, present, front_record, after_front}
 use Rattle.omf_frame.proofs.FramingLaws.{after_raw, front_raw, present_raw}
 use Rattle.omf_records.specs.Inner.Reading.{typed, contents_or, read_body}
-use Rattle.omf_frame.specs.Types.{width_of}
 use Rattle.omf_records.specs.Values.{Contents}
 use Rattle.omf_check.specs.Listed.{IsReadable, StartsWithRecord}
 use Rattle.omf_check.specs.WellFormed.{recs}
@@ -64,7 +63,7 @@ next_of f bytes records known number start left old now are some w = next_by f b
 -- it was shown, and the walk is after it
 pub walked_on : (f : Style) (records : List Raw) (known known' : Known) (number number' start start' : ℕ) (left left' old now now' : List ℕ) (n : IsNext f records known number start left old now)
     → left' ≡ flat_map raw_bytes n.after → number' ≡ number + 1 → start' ≡ start + length (raw_bytes n.one)
-    → now' ≡ now ++ record_text f number start n.one.kind n.one.checksum (shown_by known (width_of n.one.kind) (typed n.one).contents)
+    → now' ≡ now ++ record_text f number start n.one.kind n.one.checksum (shown_by known n.one.kind (typed n.one).contents)
     → Keeps known (typed n.one).contents known'
     → IsWalked f records known' number' start' left' old now'
 walked_on f records known known' number number' start start' left left' old now now' n spelled count offset shown keeps =
@@ -74,8 +73,8 @@ walked_on f records known known' number number' start start' left left' old now 
     ap length (flat_map-append raw_bytes n.before (n.one ∷ []) ∙ ap (λ (t : List ℕ). flat_map raw_bytes n.before ++ t) (append-nil (raw_bytes n.one))) ∙ length-append (flat_map raw_bytes n.before) (raw_bytes n.one) in
     let others : List ℕ = with_before (record_dump f) before n.after in
     let typed_all : recs before ≡ recs n.before ++ typed n.one ∷ [] = map-append typed n.before (n.one ∷ []) in
-    let text : record_text f number start n.one.kind n.one.checksum (shown_by known (width_of n.one.kind) (typed n.one).contents) ≡ record_dump f n.before n.one =
-    ap (record_text f number start n.one.kind n.one.checksum) (next_shown known (recs n.before) (width_of n.one.kind) (typed n.one).contents n.holds)
+    let text : record_text f number start n.one.kind n.one.checksum (shown_by known n.one.kind (typed n.one).contents) ≡ record_dump f n.before n.one =
+    ap (record_text f number start n.one.kind n.one.checksum) (next_shown known (recs n.before) n.one.kind (typed n.one).contents n.holds)
     ∙ ap₂ (λ (i j : ℕ). record_text f i j n.one.kind n.one.checksum (shown_after (recs n.before) (typed n.one))) n.number n.start in
     record {
       before = before;
@@ -127,9 +126,9 @@ counted f bytes records known number start left old now are n =
 
 -- it is shown as the record that it is
 pub as_typed : (f : Style) (number start kind checksum : ℕ) (body : List ℕ) (known : Known) (one : Raw) → kind ≡ one.kind → checksum ≡ one.checksum → body ≡ one.body
-    → record_text f number start kind checksum (shown_by known (width_of kind) (contents_or body (read_body kind body))) ≡ record_text f number start one.kind one.checksum (shown_by known (width_of one.kind) (typed one).contents)
-as_typed f number start kind checksum body known one a s b = ap₂ (λ (k : ℕ) (bs : List ℕ). record_text f number start k checksum (shown_by known (width_of k) (contents_or bs (read_body k bs)))) a b
-    ∙ ap (λ (n : ℕ). record_text f number start one.kind n (shown_by known (width_of one.kind) (typed one).contents)) s
+    → record_text f number start kind checksum (shown_by known kind (contents_or body (read_body kind body))) ≡ record_text f number start one.kind one.checksum (shown_by known one.kind (typed one).contents)
+as_typed f number start kind checksum body known one a s b = ap₂ (λ (k : ℕ) (bs : List ℕ). record_text f number start k checksum (shown_by known k (contents_or bs (read_body k bs)))) a b
+    ∙ ap (λ (n : ℕ). record_text f number start one.kind n (shown_by known one.kind (typed one).contents)) s
 
 pub kept_typed : (kind : ℕ) (body : List ℕ) (known known' : Known) (one : Raw) → kind ≡ one.kind → body ≡ one.body → Keeps known (contents_or body (read_body kind body)) known' → Keeps known (typed one).contents known'
 kept_typed kind body known known' one a b k = subst (λ (c : Contents). Keeps known c known') (ap₂ (λ (n : ℕ) (bs : List ℕ). contents_or bs (read_body n bs)) a b) k
@@ -145,7 +144,7 @@ moved_on left rest one after e r =
 -- it was split off and shown: the walk is after it
 pub shown_next : (f : Style) (bytes : List ℕ) (records : List Raw) (known known' : Known) (number start kind checksum : ℕ) (body left rest old now now' : List ℕ) → AreRecords bytes records → 0 < length left
     → IsWalked f records known number start left old now → kind ≡ (front_record (present left)).kind → checksum ≡ (front_record (present left)).checksum → body ≡ (front_record (present left)).body → rest ≡ after_front left
-    → now' ≡ now ++ record_text f number start kind checksum (shown_by known (width_of kind) (contents_or body (read_body kind body))) → Keeps known (contents_or body (read_body kind body)) known'
+    → now' ≡ now ++ record_text f number start kind checksum (shown_by known kind (contents_or body (read_body kind body))) → Keeps known (contents_or body (read_body kind body)) known'
     → IsWalked f records known' (number + 1) (start + (length left - length rest)) rest old now'
 shown_next f bytes records known known' number start kind checksum body left rest old now now' are some w k s b r made keeps =
     let n = next_of f bytes records known number start left old now are some w in

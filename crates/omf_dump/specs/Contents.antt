@@ -4,9 +4,8 @@ use Rattle.std.specs.Prelude.{ℕ, ◌+◌, ◌-◌, ◌*◌, ◌^◌, List, [],
 use Rattle.omf_frame.specs.Bytes.{has_bit, bits}
 use Rattle.omf_records.specs.Location.{row_of}
 use Rattle.omf_records.specs.Values.{At, SegmentItem, ExternalItem, PublicItem, CommunalSize, Near, Far, CommunalItem, Reference, Subrecord, Thread, Fixup, Contents, Header, Comment, Names, Segment, Group, Externs, Publics, Communals, Plain, Iterated, Fixups, ModEnd, Carried, alignment, combination, is_big, is_use32, thread_is_frame, thread_method, is_segment_relative, location_type, location_offset, frame_by_thread, target_by_thread, target_bits}
-use Rattle.omf_frame.specs.Types.{width_bytes}
+use Rattle.omf_frame.specs.Types.{width_bytes, width_of}
 use Rattle.omf_frame.specs.declared.kinds.Width.{Width}
-use Rattle.omf_frame.specs.declared.kinds.Width.TheVariants.{Bits16}
 use Rattle.omf_image.specs.Limits.{profile_limits}
 -- computed: lengths_are_decided of omf_image.
 use Rattle.omf_image.specs.Inner.Expanding.{expanded_length}
@@ -20,6 +19,7 @@ use Rattle.omf_dump.specs.Blocks.{blocks_from}
 use Rattle.omf_dump.specs.Comments.{class_fields, class_items}
 use Rattle.omf_dump.specs.Fields.{Entry, Value, Number, Hex, Word, Characters, Marked, Named, Method, Flag, Field, field, Item, item, Shown, only_fields, with_items, with_block}
 use Rattle.omf_dump.specs.Known.{Data, Tables, name_entry, segment_entry, group_entry, external_entry}
+use Rattle.omf_dump.specs.Raw.{raw_shown}
 use Rattle.omf_dump.specs.Render.{digits}
 use Rattle.omf_dump.specs.Words.{alignment_word, combination_word, location_word, class_word}
 
@@ -207,23 +207,23 @@ start_items t width earlier (Some r) = item r.fix.within (reference_fields t wid
 abbrev pub expanded_if : Width → List ℕ → List Field
 expanded_if width blocks = if nat_le (length blocks) 65534 then length_if width (expanded_length (width_bytes width) profile_limits blocks) else []
 
--- All that is shown of the contents of a record, 32-bit or 16-bit, with the tables of the records before it. `subrecords` and `starts` give
--- the items of a FIXUPP and of a MODEND.
-abbrev pub shown_with : (List (At Subrecord) → List Item) → (Option Reference → List Item) → Tables → Width → Contents → Shown
-shown_with subrecords starts t width (Header name) = only_fields (header_fields name)
-shown_with subrecords starts t width (Comment byte class text) = record { fields = comment_fields byte class text; items = class_items t class text; block = None }
-shown_with subrecords starts t width (Names items) = with_items [] (numbered name_fields (length t.names + 1) items)
-shown_with subrecords starts t width (Segment s) = only_fields (segment_fields t (length t.segments + 1) width s)
-shown_with subrecords starts t width (Group g) = with_items (group_fields t (length t.groups + 1) g.name) (each (member_fields t) g.members)
-shown_with subrecords starts t width (Externs items) = with_items [] (numbered external_fields (length t.externals + 1) items)
-shown_with subrecords starts t width (Publics p) = with_items (base_fields (group_entry t p.group.item) (segment_entry t p.segment.item) p.frame) (each (public_fields width) p.items)
-shown_with subrecords starts t width (Communals items) = with_items [] (numbered communal_fields (length t.externals + 1) items)
-shown_with subrecords starts t width (Plain d) = with_block (place_fields width (segment_entry t d.segment.item) d.offset.item ++ length_field width (length d.bytes)) d.offset.item d.bytes
-shown_with subrecords starts t width (Iterated d) = with_items (place_fields width (segment_entry t d.segment.item) d.offset.item ++ expanded_if width d.bytes) (blocks_from width (d.offset.within + width_bytes width) [] 0 d.bytes)
-shown_with subrecords starts t width (Fixups subs) = with_items [] (subrecords subs)
-shown_with subrecords starts t width (ModEnd byte start) = with_items (end_fields byte) (starts start)
-shown_with subrecords starts t width (Carried bytes) = with_block (length_field Bits16 (length bytes)) 3 bytes
+-- All that is shown of the contents of a record, 32-bit or 16-bit, with this type byte, with the tables of the records before it. `subrecords`
+-- and `starts` give the items of a FIXUPP and of a MODEND.
+abbrev pub shown_with : (List (At Subrecord) → List Item) → (Option Reference → List Item) → Tables → Width → ℕ → Contents → Shown
+shown_with subrecords starts t width kind (Header name) = only_fields (header_fields name)
+shown_with subrecords starts t width kind (Comment byte class text) = record { fields = comment_fields byte class text; items = class_items t class text; block = None }
+shown_with subrecords starts t width kind (Names items) = with_items [] (numbered name_fields (length t.names + 1) items)
+shown_with subrecords starts t width kind (Segment s) = only_fields (segment_fields t (length t.segments + 1) width s)
+shown_with subrecords starts t width kind (Group g) = with_items (group_fields t (length t.groups + 1) g.name) (each (member_fields t) g.members)
+shown_with subrecords starts t width kind (Externs items) = with_items [] (numbered external_fields (length t.externals + 1) items)
+shown_with subrecords starts t width kind (Publics p) = with_items (base_fields (group_entry t p.group.item) (segment_entry t p.segment.item) p.frame) (each (public_fields width) p.items)
+shown_with subrecords starts t width kind (Communals items) = with_items [] (numbered communal_fields (length t.externals + 1) items)
+shown_with subrecords starts t width kind (Plain d) = with_block (place_fields width (segment_entry t d.segment.item) d.offset.item ++ length_field width (length d.bytes)) d.offset.item d.bytes
+shown_with subrecords starts t width kind (Iterated d) = with_items (place_fields width (segment_entry t d.segment.item) d.offset.item ++ expanded_if width d.bytes) (blocks_from width (d.offset.within + width_bytes width) [] 0 d.bytes)
+shown_with subrecords starts t width kind (Fixups subs) = with_items [] (subrecords subs)
+shown_with subrecords starts t width kind (ModEnd byte start) = with_items (end_fields byte) (starts start)
+shown_with subrecords starts t width kind (Carried bytes) = raw_shown t kind bytes
 
 -- The same after records with these tables, this data and these subrecords.
-abbrev pub shown : Tables → Option Data → List Subrecord → Width → Contents → Shown
-shown t fixed earlier width c = shown_with (subrecord_items t fixed width earlier) (start_items t width earlier) t width c
+abbrev pub shown : Tables → Option Data → List Subrecord → ℕ → Contents → Shown
+shown t fixed earlier kind c = shown_with (subrecord_items t fixed (width_of kind) earlier) (start_items t (width_of kind) earlier) t (width_of kind) kind c

@@ -4,7 +4,6 @@ use Rattle.omf_frame.specs.Bytes.{with_before}
 use Rattle.omf_frame.specs.Framing.{Raw, raw_bytes}
 -- computed: readings_meet_layouts and contents_are_typed_once of omf_records.
 use Rattle.omf_records.specs.Inner.Reading.{typed}
-use Rattle.omf_frame.specs.Types.{width_of}
 use Rattle.omf_records.specs.Values.{Rec}
 use Rattle.omf_check.specs.Listed.{IsReadable}
 use Rattle.omf_check.specs.Tables.{subrecords}
@@ -17,7 +16,7 @@ use Rattle.omf_dump.specs.declared.format.Style.{Style}
 
 -- What is shown of a record after these records.
 abbrev pub shown_after : List Rec → Rec → Shown
-shown_after before r = shown (tables before) (fixed_data before) (subrecords before) (width_of r.kind) r.contents
+shown_after before r = shown (tables before) (fixed_data before) (subrecords before) r.kind r.contents
 
 abbrev pub record_dump : Style → List Raw → Raw → List ℕ
 record_dump f before r = record_text f (length before) (length (flat_map raw_bytes before)) r.kind r.checksum (shown_after (recs before) (typed r))

@@ -1,5 +1,5 @@
 -- The fields of each record in their order (TIS OMF 1.1, the page of each record), also of the records that this profile carries or refuses.
-use Rattle.std.specs.Prelude.{ℕ, List, [], ◌∷◌, ◌++◌, Bool, nat_lt, codes, if◌then◌else◌}
+use Rattle.std.specs.Prelude.{ℕ, List, [], ◌∷◌, nat_lt, codes, if◌then◌else◌}
 use Rattle.omf_frame.specs.declared.kinds.RecordType.{RecordType}
 use Rattle.omf_frame.specs.declared.kinds.RecordType.TheVariants.{
   Theadr,

@@ -5,9 +5,7 @@ use Rattle.omf_frame.specs.Types.{width_bytes, width_of, type_of}
 use Rattle.omf_frame.specs.declared.kinds.RecordType.{RecordType}
 use Rattle.omf_frame.specs.declared.kinds.RecordType.TheVariants.{Coment, Ledata, Lidata, Comdat, Vendext}
 use Rattle.omf_frame.specs.declared.kinds.Width.{Width}
-use Rattle.omf_frame.specs.declared.kinds.Width.TheVariants.{Bits16, Bits32}
 use Rattle.omf_dump.specs.Blocks.{blocks_from}
-use Rattle.omf_dump.specs.Comments.{front_index}
 use Rattle.omf_dump.specs.Fields.{Number, Hex, Word, Characters, Bytes, Named, Method, Flag, Field, field, Item, item, Block, Shown, with_block}
 use Rattle.omf_dump.specs.Known.{Tables, name_entry, segment_entry, group_entry, external_entry}
 use Rattle.omf_dump.specs.Layouts.{head_steps, item_steps, row}

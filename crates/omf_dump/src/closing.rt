@@ -17,7 +17,12 @@ pub(crate) fn close_fields(text: &mut Vec<u8>, style: Style) -> Result<(), Alloc
 }
 
 /// Ends the fields of a record, and shows its bytes.
-pub(crate) fn close_block(text: &mut Vec<u8>, style: Style, first: u64, bytes: &[u8]) -> Result<(), AllocError>
+pub(crate) fn close_block(
+    text: &mut Vec<u8>,
+    style: Style,
+    first: u64,
+    bytes: &[u8],
+) -> Result<(), AllocError>
     requires { first + length bytes.now < 2 ^ 64 }
     ensures { AddsText result text.old.items text.new.items (closing style None (Some (record { first = first; bytes = bytes.now }))) }
 {

@@ -4,7 +4,6 @@ ghost use Rattle.std.specs.Prelude.{◌≡◌, ◌+◌, ◌++◌, ◌<◌, ◌�
 ghost use Rattle.omf_frame.specs.Bytes.{AddsText};
 ghost use Rattle.omf_frame.specs.Framing.{is_taken};
 ghost use Rattle.omf_frame.specs.Types.{width_bytes, width_of};
-ghost use Rattle.omf_frame.specs.declared.kinds.Width.TheVariants.{Bits16};
 ghost use Rattle.omf_records.specs.Inner.Reading.{contents_or, read_body};
 ghost use Rattle.omf_records.specs.Inner.Seen.{contents_seen, kind_seen};
 ghost use Rattle.omf_records.specs.Values.{Communals, Externs, Group, Names, Segment as SegmentContents};
@@ -14,61 +13,29 @@ ghost use Rattle.omf_dump.specs.Comments.{class_items};
 ghost use Rattle.omf_dump.specs.Contents.{communal_fields, each, expanded_if, external_fields, group_fields, length_field, member_fields, name_fields, numbered, place_fields, public_fields, segment_fields};
 ghost use Rattle.omf_dump.specs.Fields.{only_fields, with_block, with_items};
 ghost use Rattle.omf_dump.specs.Inner.Keeping.{with_contents};
-ghost use Rattle.omf_dump.specs.Inner.Showing.{Keeps, shown_by};
+ghost use Rattle.omf_dump.specs.Inner.Showing.{Keeps, shown_by, shown_in};
 ghost use Rattle.omf_dump.specs.Inner.Resolving.{start_items_by, subrecord_items_by};
 ghost use Rattle.omf_dump.specs.Render.{closing, line_end, list_end, list_start, record_end, record_text, shown_text};
 
 use crate::blocks::put_blocks;
+use crate::closing::{begin_items, close_block, close_fields, end_items};
 use crate::contents::{
     put_base, put_comment, put_end, put_expanded, put_group, put_header, put_length, put_place,
     put_segment,
 };
 use crate::entry::Entry;
 use crate::format::Style;
-use crate::item::{close_list, close_record, end_fields, open_framed, open_list, put_block};
+use crate::item::open_framed;
 use crate::items::{put_communals, put_externals, put_members, put_names, put_publics};
 use crate::known::{Data, Known, Tables};
 use crate::pairs::put_pairs;
+use crate::raw::show_raw;
 use crate::subrecord::{put_start, put_subrecords};
 use omf_frame::{Index, Name, RawRecord, Width};
 use omf_records::{
     At, Blocks, Communal, Extern, Items, Member, Public, Rec, Reference, Segment, Subrecord, view,
 };
 use std::alloc::AllocError;
-
-/// Ends a record that has fields alone.
-fn close_fields(text: &mut Vec<u8>, style: Style) -> Result<(), AllocError>
-    ensures { AddsText result text.old.items text.new.items (closing style None None) }
-{
-    end_fields(text, style.format)?;
-    close_record(text, style.format)
-}
-
-/// Ends the fields of a record, and shows its bytes.
-fn close_block(text: &mut Vec<u8>, style: Style, first: u64, bytes: &[u8]) -> Result<(), AllocError>
-    requires { first < 2 ^ 63 }
-    ensures { AddsText result text.old.items text.new.items (closing style None (Some (record { first = first; bytes = bytes.now }))) }
-{
-    end_fields(text, style.format)?;
-    put_block(text, style, first, bytes)?;
-    close_record(text, style.format)
-}
-
-/// Ends the fields of a record, and begins its items.
-fn begin_items(text: &mut Vec<u8>, style: Style) -> Result<(), AllocError>
-    ensures { AddsText result text.old.items text.new.items (line_end style.format ++ list_start style.format) }
-{
-    end_fields(text, style.format)?;
-    open_list(text, style.format)
-}
-
-/// Ends the items of a record, and the record.
-fn end_items(text: &mut Vec<u8>, style: Style) -> Result<(), AllocError>
-    ensures { AddsText result text.old.items text.new.items (list_end style.format ++ record_end style.format) }
-{
-    close_list(text, style.format)?;
-    close_record(text, style.format)
-}
 
 /// Ends the fields of a comment, and shows the indices in its text, if it has some.
 fn close_comment(
@@ -228,14 +195,6 @@ fn show_iterated(
     show_blocks(text, style, offset.within, blocks)
 }
 
-/// A record that is not interpreted.
-fn show_carried(text: &mut Vec<u8>, style: Style, contents: &[u8]) -> Result<(), AllocError>
-    ensures { AddsText result text.old.items text.new.items (shown_text style (with_block (length_field Bits16 (length contents.now)) 3 contents.now)) }
-{
-    put_length(text, style.format, Width::Bits16, contents.len() as u64)?;
-    close_block(text, style, 3, contents)
-}
-
 /// FIXUPP.
 fn show_fixups(
     text: &mut Vec<u8>,
@@ -278,7 +237,7 @@ fn show_contents<'a>(
     rec: &Rec<'a>,
 ) -> Result<(), AllocError>
     requires { width ≡ width_of (kind_seen rec.now) }
-    ensures text { AddsText result text.old.items text.new.items (shown_text style (shown_by known.old width (contents_seen rec.now))) }
+    ensures text { AddsText result text.old.items text.new.items (shown_text style (shown_in known.old width (kind_seen rec.now) (contents_seen rec.now))) }
     ensures keeps { OnOk result (Keeps known.old (contents_seen rec.now) known.new) }
 {
     match rec {
@@ -362,11 +321,29 @@ fn show_contents<'a>(
             put_end(text, style.format, *type_byte)?;
             show_start(text, style, known, width, start)
         }
-        Rec::Carried { contents, .. } => show_carried(text, style, *contents),
+        Rec::Carried { kind, contents } => show_raw(text, style, &known.tables, *kind, *contents),
     }
 }
 
-/// A record: its head, its checksum byte, and its contents, or its bytes if these have a fault of layout. Keeps what it gives later records.
+/// The contents of a record, or its fields by its bytes alone if these have a fault of layout. Keeps what they give later records.
+pub(crate) fn show_body<'a>(
+    text: &mut Vec<u8>,
+    style: Style,
+    known: &mut Known<'a>,
+    raw: RawRecord<'a>,
+) -> Result<(), AllocError>
+    requires taken { IsTrue (is_taken raw.kind) }
+    requires short { length raw.body.now ≤ 65534 }
+    ensures text { AddsText result text.old.items text.new.items (shown_text style (shown_by known.old raw.entry.kind (contents_or raw.entry.body.now (read_body raw.entry.kind raw.entry.body.now)))) }
+    ensures keeps { OnOk result (Keeps known.old (contents_or raw.entry.body.now (read_body raw.entry.kind raw.entry.body.now)) known.new) }
+{
+    match view(raw) {
+        Ok(rec) => show_contents(text, style, known, Width::of(raw.kind), &rec),
+        Err(_) => show_raw(text, style, &known.tables, raw.kind, raw.body),
+    }
+}
+
+/// A record: its head, its checksum byte, and its contents. Keeps what it gives later records.
 pub(crate) fn show_record<'a>(
     text: &mut Vec<u8>,
     style: Style,
@@ -376,12 +353,9 @@ pub(crate) fn show_record<'a>(
 ) -> Result<(), AllocError>
     requires taken { IsTrue (is_taken raw.kind) }
     requires short { length raw.body.now ≤ 65534 }
-    ensures text { AddsText result text.old.items text.new.items (record_text style raw.entry.number raw.entry.start raw.entry.kind checksum (shown_by known.old (width_of raw.entry.kind) (contents_or raw.entry.body.now (read_body raw.entry.kind raw.entry.body.now)))) }
+    ensures text { AddsText result text.old.items text.new.items (record_text style raw.entry.number raw.entry.start raw.entry.kind checksum (shown_by known.old raw.entry.kind (contents_or raw.entry.body.now (read_body raw.entry.kind raw.entry.body.now)))) }
     ensures keeps { OnOk result (Keeps known.old (contents_or raw.entry.body.now (read_body raw.entry.kind raw.entry.body.now)) known.new) }
 {
     open_framed(text, style.format, &raw, checksum)?;
-    match view(raw) {
-        Ok(rec) => show_contents(text, style, known, Width::of(raw.kind), &rec),
-        Err(_) => show_carried(text, style, raw.body),
-    }
+    show_body(text, style, known, raw)
 }

@@ -1,5 +1,6 @@
 -- What is shown of a record, and what is kept of it, computed from what is kept of the records before it.
-use Rattle.std.specs.Prelude.{◌≡◌}
+use Rattle.std.specs.Prelude.{◌≡◌, ℕ}
+use Rattle.omf_frame.specs.Types.{width_of}
 use Rattle.omf_frame.specs.declared.kinds.Width.{Width}
 use Rattle.omf_records.specs.Values.{Contents, Fixups}
 use Rattle.omf_check.specs.Inner.Kept.{set_threads}
@@ -10,8 +11,11 @@ use Rattle.omf_dump.specs.Inner.Keeping.{data_after, with_contents}
 use Rattle.omf_dump.specs.Inner.Resolving.{start_items_by, subrecord_items_by}
 use Rattle.omf_dump.specs.declared.known.Known.{Known}
 
-abbrev pub shown_by : Known → Width → Contents → Shown
-shown_by known width c = shown_with (subrecord_items_by known.tables known.fixed width known.threads) (start_items_by known.tables width known.threads) known.tables width c
+abbrev pub shown_in : Known → Width → ℕ → Contents → Shown
+shown_in known width kind c = shown_with (subrecord_items_by known.tables known.fixed width known.threads) (start_items_by known.tables width known.threads) known.tables width kind c
+
+abbrev pub shown_by : Known → ℕ → Contents → Shown
+shown_by known kind c = shown_in known (width_of kind) kind c
 
 -- the threads after one more record
 abbrev pub threads_after : Threads → Contents → Threads
