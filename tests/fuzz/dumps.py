@@ -10,11 +10,37 @@ from records import compare_list, compare_text, compare_verdict, last_judged, lo
 BATCH = 16
 
 
+def module_ends(bytes_):
+    """The offsets where the modules of a file begin, one after another, and where the last of them ends."""
+    at, ends = 0, [0]
+    while bytes_[at:at + 1] in (b"\x80", b"\x82"):
+        length = libraries.module_length(bytes_[at:])
+        at = len(bytes_) if length is None else at + length
+        ends.append(at)
+    return ends if len(ends) > 1 else [0, len(bytes_)]
+
+
+def file_modules(bytes_, rows, text):
+    """The bytes from each module of a file on, its lines of JSON and its text. A line `left` has the bytes after the last."""
+    ends = module_ends(bytes_)
+    left = [it for it in rows if it.startswith(b'{"left":')]
+    wanted = [b'{"left":true,"offset":%d,"length":%d}' % (ends[-1], len(bytes_) - ends[-1])] if ends[-1] < len(bytes_) else []
+    promised(left == wanted and left == rows[len(rows) - len(left):], f"left {left}")
+    texts = re.split(rb"^module .*\n", text, flags=re.M)
+    texts[-1] = re.sub(rb"^left .*\n\Z", b"", texts[-1], flags=re.M)
+    starts = [number for number, it in enumerate(rows) if it.startswith(b'{"module":')]
+    places = [json.loads(rows[it], object_pairs_hook=no_doubles) for it in starts]
+    promised([it["module"] for it in places] == list(range(1, len(ends) - 1)) and [it["offset"] for it in places] == ends[1:-1], f"modules {places}")
+    promised(len(texts) == len(ends) - 1, "the texts of modules")
+    stops = starts + [len(rows) - len(left)]
+    return [(bytes_[at:], rows[first:stop], own) for at, first, stop, own in zip(ends, [0, *(it + 1 for it in starts)], stops, texts)]
+
+
 def modules_shown(bytes_, lines, text):
     """The bytes, the lines of JSON and the text of each module, which of a library are its members; and 1 where the library has no end."""
     rows, read = lines.splitlines(), libraries.members(bytes_)
     if read is None:
-        return [(bytes_, rows, text)], 0
+        return file_modules(bytes_, rows, text), 0
     fault = [it for it in rows if it.startswith(b'{"fault":')]
     promised(fault == (rows[-1:] if fault else []) and bool(fault) != read[1], f"fault {fault}, of a library whose end is there: {read[1]}")
     texts = re.split(rb"^member .*\n", text, flags=re.M)

@@ -104,6 +104,7 @@ def accepted(tab, tries, name, data, line):
 def refused(tab, tries, name, data, line):
     sentence, record, fault = tab.value(text_of("verdict")), int(line[4]), int(line[6]) + int(line[8])
     lines = [json.loads(it) for it in printed("omf_dump", ["--json"], data).decode("latin-1").splitlines()]
+    lines = lines[:next((at for at, it in enumerate(lines) if "number" not in it), len(lines))]  # of the first module
     last = next((it for it in lines if "refused" in it), None)
     means = f" is refused: {last['meaning']}" if last else " is no module: read as one, it is refused."
     tries.see(f"{name}: the sentence", sentence.startswith(name + means), True)
@@ -118,7 +119,8 @@ def refused(tab, tries, name, data, line):
         return
     tries.see(f"{name}: the record at fault is chosen", tab.value("page.tree.rowAt(page.tree.at).record"), record)
     tries.see(f"{name}: records of the tree", tab.value("page.look.dump.starts.length - 1"), len(lines))
-    after = [it.split() for it in printed("omf_dump", [], data).decode().splitlines() if it.endswith(" unjudged")]
+    own = re.split("^module ", printed("omf_dump", [], data).decode(), flags=re.M)[0]
+    after = [it.split() for it in own.splitlines() if it.endswith(" unjudged")]
     rows = tab.value("[...page.look.records.keys()].slice(0, -1).filter(it => page.look.isUnjudged(it)).map(it => page.tree.make(page.tree.indexOf(it)).textContent)")
     tries.see(f"{name}: records after the fault", [re.sub(r"\b([0-9A-F]{4})H\b", r"\1", it).lstrip("▸▾").split() for it in rows], after)
 

@@ -2,6 +2,7 @@ pub mod AnswerLaws
 pub mod BlockLaws
 pub mod DeltaLaws
 pub mod ExpandedLaws
+pub mod FileLaws
 pub mod HeaderLaws
 pub mod ItemLaws
 pub mod KnownLaws

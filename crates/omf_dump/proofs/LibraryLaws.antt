@@ -10,7 +10,7 @@ use Rattle.omf_library.specs.Library.{HasHeader, IsHeaderRead, next_page, page_s
 use Rattle.omf_library.specs.declared.fault.LibraryFault.{LibraryFault}
 use Rattle.omf_library.specs.declared.fault.LibraryFault.TheVariants as fault
 use Rattle.omf_dump.specs.Later.{front_kind}
-use Rattle.omf_dump.specs.Library.{AreMembers, IsEndShown, IsLibraryText, IsMemberShown, IsModuleText, IsShown, Member, Shows, after_member, end_text, title_text}
+use Rattle.omf_dump.specs.Library.{AreMembers, IsEndShown, IsFileText, IsLibraryText, IsMemberShown, IsModuleText, IsShown, Member, Shows, after_member, end_text, title_text}
 use Rattle.omf_dump.specs.declared.format.Mode.{Mode}
 use Rattle.omf_dump.specs.declared.spot.Spot.{Spot}
 
@@ -45,7 +45,7 @@ members_more mode bytes number at (x ∷ ms) to m h e s =
     let n : number + suc (length ms) ≡ number + 1 + length ms = omega arith in
     (h.0, h.1, members_more mode bytes (number + 1) (next_at bytes at) ms to m h.2 e (subst (λ (k : ℕ). IsMemberShown mode (spot bytes k to) (drop to bytes) m.is_refused m.text) n s))
 
-any_more : (ms : List Member) (m : Member) → list_any (λ x. x.is_refused) (ms ++ m ∷ []) ≡ (list_any (λ x. x.is_refused) ms || m.is_refused)
+pub any_more : (ms : List Member) (m : Member) → list_any (λ x. x.is_refused) (ms ++ m ∷ []) ≡ (list_any (λ x. x.is_refused) ms || m.is_refused)
 any_more [] m = by m.is_refused
   where
     by : (b : Bool) → (b || false) ≡ b
@@ -53,7 +53,7 @@ any_more [] m = by m.is_refused
     by false = refl
 any_more (x ∷ ms) m = ap (λ (b : Bool). x.is_refused || b) (any_more ms m) ∙ or_swaps x.is_refused (list_any (λ y. y.is_refused) ms) m.is_refused
 
-texts_more : (ms : List Member) (m : Member) → flat_map (λ x. x.text) (ms ++ m ∷ []) ≡ flat_map (λ x. x.text) ms ++ m.text
+pub texts_more : (ms : List Member) (m : Member) → flat_map (λ x. x.text) (ms ++ m ∷ []) ≡ flat_map (λ x. x.text) ms ++ m.text
 texts_more [] m = append-nil m.text
 texts_more (x ∷ ms) m = ap (λ (t : List ℕ). x.text ++ t) (texts_more ms m) ∙ sym (append_assoc x.text (flat_map (λ y. y.text) ms) m.text)
 
@@ -141,5 +141,5 @@ header_exclusive bytes (fault.NoEnd member offset) r h = r
 pub is_library : (mode : Mode) (bytes : List ℕ) (is_refused : Bool) (old new : Option (List ℕ)) → HasHeader bytes → Shows old new (IsLibraryText mode bytes is_refused) → IsShown mode bytes is_refused old new
 is_library mode bytes is_refused old new h s = record { library = λ _. s; others = λ n. absurd (n h) }
 
-pub is_module : (mode : Mode) (bytes : List ℕ) (is_refused : Bool) (old new : Option (List ℕ)) (f : LibraryFault) → IsHeaderRead bytes (Err f) → Shows old new (IsModuleText mode bytes is_refused) → IsShown mode bytes is_refused old new
+pub is_module : (mode : Mode) (bytes : List ℕ) (is_refused : Bool) (old new : Option (List ℕ)) (f : LibraryFault) → IsHeaderRead bytes (Err f) → Shows old new (IsFileText mode bytes is_refused) → IsShown mode bytes is_refused old new
 is_module mode bytes is_refused old new f r s = record { library = λ h. absurd (header_exclusive bytes f r h); others = λ _. s }

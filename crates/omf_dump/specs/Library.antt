@@ -1,5 +1,5 @@
--- What is shown of an input: a module, or a library, whose members follow one another, each under its name (TIS OMF 1.1, appendix 2; the text
--- is this profile's rule).
+-- What is shown of an input: modules one after another, or a library, whose members follow one another, each under its name (TIS OMF 1.1,
+-- appendix 2; the text is this profile's rule).
 use Rattle.std.specs.Prelude.{◌≡◌, ℕ, zero, suc, ◌+◌, ◌-◌, ◌/◌, List, [], ◌∷◌, ◌++◌, length, drop, flat_map, Bool, true, false, not, ◌==◌, ◌||◌, codes, decimal, Option, if◌then◌else◌}
 use Rattle.std.specs.Io.KnownBytes.{Appends}
 use Rattle.std.specs.List.{list_any}
@@ -97,11 +97,65 @@ pub record IsLibraryText (mode : Mode) (bytes : List ℕ) (is_refused : Bool) (t
   pub refused : is_refused ≡ (list_any (λ m. m.is_refused) members || is_fault (drop to bytes))
   pub whole : text ≡ flat_map (λ m. m.text) members ++ end_text mode.style.format (length members) to (drop to bytes)
 
--- What is written for an input, by whether it is refused: a library if it has the header of one, else a module. `old` and `new` are the bytes that
+-- What follows a module in its file: other modules, each after a line that names it by its number from 1, its offset and its name; or a line for the
+-- bytes that are left.
+abbrev pub module_head : Format → ℕ → List ℕ
+module_head format.Text number = codes "module " ++ decimal number
+module_head format.Json number = codes "{\"module\":" ++ decimal number
+
+abbrev pub offset_field : ℕ → List Field
+offset_field offset = field (codes "offset") (Hex (digits Bits32) offset) ∷ []
+
+abbrev pub module_title : Format → ℕ → ℕ → List ℕ → List ℕ
+module_title f number offset bytes = module_head f number ++ (fields_text f (offset_field offset) ++ (fields_text f (module_name bytes) ++ (line_end f ++ record_end f)))
+
+abbrev pub left_head : Format → List ℕ
+left_head format.Text = codes "left"
+left_head format.Json = codes "{\"left\":true"
+
+abbrev pub left_fields : ℕ → ℕ → List Field
+left_fields offset size = field (codes "offset") (Hex (digits Bits32) offset) ∷ field (codes "length") (Hex (digits Bits32) size) ∷ []
+
+abbrev pub left_text : Format → ℕ → List ℕ → List ℕ
+left_text f offset [] = []
+left_text f offset (b ∷ bytes) = left_head f ++ (fields_text f (left_fields offset (length (b ∷ bytes))) ++ (line_end f ++ record_end f))
+
+abbrev pub IsLeftShown : Mode → ℕ → List ℕ → List ℕ → Type 0
+IsLeftShown mode offset bytes text = text ≡ left_text mode.style.format offset bytes
+
+abbrev pub IsNextShown : Mode → ℕ → ℕ → List ℕ → Bool → List ℕ → Type 0
+IsNextShown mode number offset bytes is_refused text = (own : List ℕ) × IsModuleText mode bytes is_refused own × (text ≡ module_title mode.style.format number offset bytes ++ own)
+
+-- Where the module at an offset ends, and the one that the file begins with; a file that begins with no module has no others.
+abbrev pub end_at : List ℕ → ℕ → ℕ
+end_at bytes at = length bytes - length (after_member 0 (drop at bytes))
+
+abbrev pub first_end : List ℕ → ℕ
+first_end bytes = if is_header (front_kind bytes) then length bytes - length (after_member 0 bytes) else length bytes
+
+-- Modules one after another: the first at the offset `at`, with this number, each next where the one before ends, while a THEADR or an LHEADR is
+-- there; the last of them ends at `to`.
+abbrev pub AreNext : Mode → List ℕ → ℕ → ℕ → List Member → ℕ → Type 0
+AreNext mode bytes number at [] to = at ≡ to
+AreNext mode bytes number at (m ∷ ms) to = (is_header (front_kind (drop at bytes)) ≡ true) × IsNextShown mode number at (drop at bytes) m.is_refused m.text
+    × AreNext mode bytes (number + 1) (end_at bytes at) ms to
+
+-- The text of a file that is no library: what it is as a module, the modules that follow, the bytes that are left. It is refused if a module is.
+pub record IsFileText (mode : Mode) (bytes : List ℕ) (is_refused : Bool) (text : List ℕ) : Type 0 where
+  pub first : Member
+  pub first_is : IsModuleText mode bytes first.is_refused first.text
+  pub others : List Member
+  pub to : ℕ
+  pub others_are : AreNext mode bytes 1 (first_end bytes) others to
+  pub ended : is_header (front_kind (drop to bytes)) ≡ false
+  pub refused : is_refused ≡ list_any (λ m. m.is_refused) (first ∷ others)
+  pub whole : text ≡ flat_map (λ m. m.text) (first ∷ others) ++ left_text mode.style.format to (drop to bytes)
+
+-- What is written for an input, by whether it is refused: a library if it has the header of one, else modules. `old` and `new` are the bytes that
 -- the writer holds before and after, if they are known.
 abbrev pub Shows : Option (List ℕ) → Option (List ℕ) → (List ℕ → Type 0) → Type 0
 Shows old new IsText = (text : List ℕ) × IsText text × Appends old new text
 
 pub record IsShown (mode : Mode) (input : List ℕ) (is_refused : Bool) (old new : Option (List ℕ)) : Type 0 where
   pub library : HasHeader input → Shows old new (IsLibraryText mode input is_refused)
-  pub others : (HasHeader input → ⊥) → Shows old new (IsModuleText mode input is_refused)
+  pub others : (HasHeader input → ⊥) → Shows old new (IsFileText mode input is_refused)

@@ -11,6 +11,7 @@ ghost use Rattle.omf_dump.specs.Library.{IsModuleText, IsShown, Shows};
 ghost use Rattle.omf_dump.specs.Refused.{refusal_text};
 
 use crate::fault::DumpFault;
+use crate::file::show_file;
 use crate::format::{Format, Mode, Style};
 use crate::later::put_later;
 use crate::library::show_library;
@@ -100,7 +101,8 @@ pub(crate) fn show_module<K: Sink>(
     }
 }
 
-/// Writes what is shown of an input: of a library its members, of other bytes what they are as a module. Returns whether it is refused.
+/// Writes what is shown of an input: of a library its members, of other bytes the modules that follow one another in
+/// them. Returns whether one is refused.
 ///
 /// # Errors
 ///
@@ -119,7 +121,7 @@ pub fn dump_input<K: Sink>(
             Ok(is_refused)
         }
         Err(_) => {
-            let is_refused = show_module(alloc, writer, mode, input)?;
+            let is_refused = show_file(alloc, writer, mode, input)?;
             Ok(is_refused)
         }
     }

@@ -17,6 +17,7 @@ mod entry;
 mod facts;
 mod fault;
 mod field;
+mod file;
 mod flags;
 mod format;
 mod host;
