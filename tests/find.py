@@ -218,11 +218,11 @@ def record(kind, contents):
 
 
 def code_module(name, segments, fixup=b""):
-    """A module with segments of code, each of a name and bytes; the fixup is one of the last."""
-    made = record(0x80, bytes([len(name)]) + name) + record(0x96, b"\x00\x04CODE" + b"".join(b"\x01" + it for it, _ in segments))
-    for index, (_, data) in enumerate(segments):
-        made += record(0x98, b"\x28" + struct.pack("<H", len(data)) + bytes([index + 3, 2, 1]))
-    for index, (_, data) in enumerate(segments):
+    """A module with segments of code, each of a name, its length and its bytes; the fixup is one of the last."""
+    made = record(0x80, bytes([len(name)]) + name) + record(0x96, b"\x00\x04CODE" + b"".join(b"\x01" + it for it, _, _ in segments))
+    for index, (_, length, _) in enumerate(segments):
+        made += record(0x98, b"\x28" + struct.pack("<H", length) + bytes([index + 3, 2, 1]))
+    for index, (_, _, data) in enumerate(segments):
         for at in range(0, len(data), 1000):
             made += record(0xA0, bytes([index + 1]) + struct.pack("<H", at) + data[at:at + 1000])
     return made + (record(0x9C, fixup) if fixup else b"") + record(0x8A, b"\x00")
@@ -240,9 +240,9 @@ def absent_segments(folder):
         program[0x200:0x200 + len(others)] = others
         (folder / "x.bin").write_bytes(program)
         # A self-relative offset of 16 bits at 1, in the frame of its target (F5), the first segment (T4).
-        dropped = b"\xE8\0\0" + b"\xF1\xF2\xF3\xF4" * (length // 4 - 1) + b"\xC3"
-        (folder / "m.obj").write_bytes(code_module(b"m", [(b"T", code), (b"D", dropped)], b"\x84\x01\x54\x01"))
-        (folder / "b.obj").write_bytes(code_module(b"b", [(b"B", large)]))
+        # It has no four bytes in a row that no fixup touches: of these it would be known that they are nowhere, and its module would not be sure.
+        (folder / "m.obj").write_bytes(code_module(b"m", [(b"T", len(code), code), (b"D", length, b"\xE8\0\0")], b"\x84\x01\x54\x01"))
+        (folder / "b.obj").write_bytes(code_module(b"b", [(b"B", len(large), large)]))
         words = ["--base", "0", "--frame", "0", "x.bin", "m.obj", "b.obj"]
         status, output, error = run(FIND, "--link", "x.link", *words, folder=folder)
         text = (folder / "x.link").read_text().splitlines()
