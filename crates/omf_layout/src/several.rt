@@ -11,7 +11,7 @@ pub(crate) mod portion;
 pub mod rows;
 pub(crate) mod runs;
 
-pub use arranging::arrange;
+pub use arranging::{arrange, lay_portions};
 pub use gathering::gather;
 pub use laying::Lying;
 pub use placing::place_segments;

@@ -3,11 +3,11 @@ use Rattle.std.specs.Prelude.{map}
 use Rattle.omf_layout.specs.Layout.{and_then_more}
 use Rattle.omf_layout.specs.Several.Laying.{run_laid, runs_laid}
 use Rattle.omf_layout.proofs.SeveralLaws.LayingLaws.{then-after, next-run}
-use Rattle.omf_layout.proofs.several.arranging.arrange.Goals as goal
+use Rattle.omf_layout.proofs.several.arranging.lay_portions.Goals as goal
 
 pub loop-run-preserved : goal.loop-run-preserved
 loop-run-preserved c =
-    let frames = c.args.options.frames in
+    let frames = c.args.frames in
     let rs = c.deref-run-items.result.now in
     let i = c.loop-run.run-index in
     let r = c.run-item.result in
