@@ -18,7 +18,7 @@ use Rattle.omf_placement.specs.declared.frame.Placed.{Placed}
 use Rattle.omf_placement.specs.Placement.{Places}
 use Rattle.omf_reloc.specs.declared.fault.Kind.TheVariants as kinds
 use Rattle.omf_placement.proofs.ListLaws.{told-append}
-use Rattle.omf_linking.specs.Locator.Items.{Item, Nothing, Opened, Given, opened, current, segment_given, group_given, external_given, stored_given, given_to, segment_place, stored_address, group_frame, external_place, Title, first_titled, given_at, group_title, in_quotes, is_titled, item_in, item_of, items_after, module_at, or_unshared, segment_framed, segment_title, shared_frame, unless_again}
+use Rattle.omf_linking.specs.Locator.Items.{Item, Nothing, Opened, Given, alone, opened, current, segment_given, group_given, external_given, stored_given, given_to, segment_place, stored_address, group_frame, external_place, Title, first_titled, given_at, group_title, in_quotes, is_titled, item_in, items_of, items_after, module_at, or_unshared, segment_framed, segment_title, shared_frame, unless_again}
 use Rattle.omf_linking.specs.Locator.Keys.{count_from, entry_named}
 use Rattle.omf_linking.specs.Locator.LinkEntries.{Key, SegmentPlace, GroupFrame, Told, Own, SharedPlace, SharedFrame, LinkEntry, Blank, Opens, Gives, Line}
 use Rattle.omf_linking.specs.Locator.Sparse.{Sparse, sparse_of, sparse_all}
@@ -299,9 +299,9 @@ module _ (ms : List (List Rec)) (all : List Places) where
   runs-none : (before : List Item) → Runs before [] []
   runs-none before n ls = ap (λ b. items_after ms b ls) (sym (append-nil before))
 
-  runs-one : (before : List Item) (e : LinkEntry) (x : Item) → item_of ms before (Some e) ≡ Ok x → Runs before (e ∷ []) (x ∷ [])
+  runs-one : (before : List Item) (e : LinkEntry) (x : Item) → items_of ms before (Some e) ≡ Ok (x ∷ []) → Runs before (e ∷ []) (x ∷ [])
   runs-one before e x h n ls =
-      subst (λ (r : Result Item LineFault). elim r [ Ok y ↦ items_after ms (before ++ y ∷ []) ls | Err w ↦ Err (fault.Line n w) ] ≡ items_after ms (before ++ x ∷ []) ls) (sym h) refl
+      subst (λ (r : Result (List Item) LineFault). elim r [ Ok ys ↦ items_after ms (before ++ ys) ls | Err w ↦ Err (fault.Line n w) ] ≡ items_after ms (before ++ x ∷ []) ls) (sym h) refl
 
   runs-both : (before : List Item) (es fs : List LinkEntry) (xs ys : List Item) → Runs before es xs → Runs (before ++ xs) fs ys → Runs before (es ++ fs) (xs ++ ys)
   runs-both before es fs xs ys h k n ls =
@@ -312,33 +312,33 @@ module _ (ms : List (List Rec)) (all : List Places) where
   -- ---- the lines of a module
 
   module _ (j : ℕ) (m : List Rec) (here : slice_get ms j ≡ Some m) where
-    item-here : (before : List Item) (s g : ℕ) (k : Key) (t : Told) → IsOpen before j s g → item_of ms before (Some (Gives k t)) ≡ item_in ms before (Some (j, m)) k t
+    item-here : (before : List Item) (s g : ℕ) (k : Key) (t : Told) → IsOpen before j s g → items_of ms before (Some (Gives k t)) ≡ alone (item_in ms before (Some (j, m)) k t)
     item-here before s g k t h =
-        ap (λ o. item_in ms before (option_and_then (module_at ms) o) k t) h.current ∙ ap (λ o. item_in ms before (option_map (λ x. (j, x)) o) k t) here
+        ap (λ o. alone (item_in ms before (option_and_then (module_at ms) o) k t)) h.current ∙ ap (λ o. alone (item_in ms before (option_map (λ x. (j, x)) o) k t)) here
 
     segment-item : (before : List Item) (s g : ℕ) (k : Key) (p : Placed) (b : Bool) → IsOpen before j s g → entry_named m kinds.Segment k ≡ Ok s
-        → (b ≡ true → shared_frame segment_title ms (in_quotes (segment_title m s)) (filter_map segment_framed before) ≡ Some p.frame) → item_of ms before (Some (Gives k (segment_told b p))) ≡ Ok (Given j s (SegmentPlace p))
+        → (b ≡ true → shared_frame segment_title ms (in_quotes (segment_title m s)) (filter_map segment_framed before) ≡ Some p.frame) → items_of ms before (Some (Gives k (segment_told b p))) ≡ Ok (Given j s (SegmentPlace p) ∷ [])
     segment-item before s g k p false h named frame =
         item-here before s g k (Own (SegmentPlace p)) h
-        ∙ ap (λ r. given_at ms before (j, m) (Own (SegmentPlace p)) r) named
-        ∙ ap (λ o. if is_some o then Err why.Twice else Ok (Given j s (SegmentPlace p))) (h.segments j s (inr (refl, omega arith)))
+        ∙ ap (λ r. alone (given_at ms before (j, m) (Own (SegmentPlace p)) r)) named
+        ∙ ap (λ o. alone (if is_some o then Err why.Twice else Ok (Given j s (SegmentPlace p)))) (h.segments j s (inr (refl, omega arith)))
     segment-item before s g k p true h named frame =
         item-here before s g k (SharedPlace p.address) h
-        ∙ ap (λ r. given_at ms before (j, m) (SharedPlace p.address) r) named
-        ∙ ap (λ o. unless_again before (map_ok (Given j s) (or_unshared (option_map (λ f. SegmentPlace (record { address = p.address; frame = f })) o)))) (frame refl)
-        ∙ ap (λ o. if is_some o then Err why.Twice else Ok (Given j s (SegmentPlace p))) (h.segments j s (inr (refl, omega arith)))
+        ∙ ap (λ r. alone (given_at ms before (j, m) (SharedPlace p.address) r)) named
+        ∙ ap (λ o. alone (unless_again before (map_ok (Given j s) (or_unshared (option_map (λ f. SegmentPlace (record { address = p.address; frame = f })) o))))) (frame refl)
+        ∙ ap (λ o. alone (if is_some o then Err why.Twice else Ok (Given j s (SegmentPlace p)))) (h.segments j s (inr (refl, omega arith)))
 
     group-item : (before : List Item) (s g : ℕ) (k : Key) (f : Frame) (b : Bool) → IsOpen before j s g → entry_named m kinds.Group k ≡ Ok g
-        → (b ≡ true → shared_frame group_title ms (in_quotes (group_title m g)) (filter_map group_given before) ≡ Some f) → item_of ms before (Some (Gives k (group_told b f))) ≡ Ok (Given j g (GroupFrame (Some f)))
+        → (b ≡ true → shared_frame group_title ms (in_quotes (group_title m g)) (filter_map group_given before) ≡ Some f) → items_of ms before (Some (Gives k (group_told b f))) ≡ Ok (Given j g (GroupFrame (Some f)) ∷ [])
     group-item before s g k f false h named frame =
         item-here before s g k (Own (GroupFrame (Some f))) h
-        ∙ ap (λ r. given_at ms before (j, m) (Own (GroupFrame (Some f))) r) named
-        ∙ ap (λ o. if is_some o then Err why.Twice else Ok (Given j g (GroupFrame (Some f)))) (h.groups j g (inr (refl, omega arith)))
+        ∙ ap (λ r. alone (given_at ms before (j, m) (Own (GroupFrame (Some f))) r)) named
+        ∙ ap (λ o. alone (if is_some o then Err why.Twice else Ok (Given j g (GroupFrame (Some f))))) (h.groups j g (inr (refl, omega arith)))
     group-item before s g k f true h named frame =
         item-here before s g k SharedFrame h
-        ∙ ap (λ r. given_at ms before (j, m) SharedFrame r) named
-        ∙ ap (λ o. unless_again before (map_ok (Given j g) (or_unshared (option_map (λ x. GroupFrame (Some x)) o)))) (frame refl)
-        ∙ ap (λ o. if is_some o then Err why.Twice else Ok (Given j g (GroupFrame (Some f)))) (h.groups j g (inr (refl, omega arith)))
+        ∙ ap (λ r. alone (given_at ms before (j, m) SharedFrame r)) named
+        ∙ ap (λ o. alone (unless_again before (map_ok (Given j g) (or_unshared (option_map (λ x. GroupFrame (Some x)) o))))) (frame refl)
+        ∙ ap (λ o. alone (if is_some o then Err why.Twice else Ok (Given j g (GroupFrame (Some f))))) (h.groups j g (inr (refl, omega arith)))
 
     record RunSegments (before : List Item) (q : Labels) (s g : ℕ) (ps : List Placed) (ls lg : List Framed) : Type 0 where
       pub run : Runs before (segment_lines_of q s ps) (segment_items_of j s ps)
@@ -442,7 +442,7 @@ module _ (ms : List (List Rec)) (all : List Places) where
         let ns = nothings q.count in
         let b1 = before ++ x ∷ [] in
         let fs = groups_framed j 1 pl.groups ++ lg in
-        let one = runs-one before (Opens q.opening) x (ap (λ r. unless_again before (map_ok Opened r)) named.«module» ∙ ap (λ b. if b then Err why.Twice else Ok x) (h.modules j (omega arith))) in
+        let one = runs-one before (Opens q.opening) x (ap (λ r. alone (unless_again before (map_ok Opened r))) named.«module» ∙ ap (λ b. alone (if b then Err why.Twice else Ok x)) (h.modules j (omega arith))) in
         let s = run-segments b1 q 1 1 pl.segments ls fs named (opens before j h) (left-nothing all before (segments_framed j 1 pl.segments ++ ls) fs x refl refl left)
         (λ i low high. named.segments i low (omega (arith, high, has.segments))) in
         let g = run-groups (b1 ++ ss) q (1 + length pl.segments) 1 pl.groups ls lg named s.after s.left (λ i low high. named.groups i low (omega (arith, high, has.groups))) in

@@ -94,7 +94,7 @@ module _ (texts : ℕ → Option (List ℕ)) (numbers : List ℕ) (x : ℕ) wher
 pub none-yet : (texts : ℕ → Option (List ℕ)) (m : Kept) → m.entries ≡ [] → IsKeyTable texts [] m
 none-yet texts m e q = ap (λ es. lookup (is_at (λ (k : Vec ℕ). slice_cmp nat_cmp q k.items)) es) e
 
-more-counted : (first n : ℕ) → count_from first (suc n) ≡ count_from first n ++ (first + n) ∷ []
+pub more-counted : (first n : ℕ) → count_from first (suc n) ≡ count_from first n ++ (first + n) ∷ []
 more-counted first zero = let e : first ≡ first + 0 = omega arith in ap (λ k. k ∷ []) e
 more-counted first (suc n) =
     let e : first + 1 + n ≡ first + suc n = omega arith in

@@ -16,6 +16,7 @@ pub mod NamingLaws
 pub mod SparseLaws
 pub mod LineLaws
 pub mod WalkLaws
+pub mod PartLaws
 pub mod EachLaws
 pub mod KeyLaws
 pub mod KeyNames

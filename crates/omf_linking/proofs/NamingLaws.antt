@@ -1,6 +1,7 @@
 -- Finding what a key names, one after another.
+use denote.Ref.{Bor}
 use Rattle.std.proofs.Common.{◌≡◌, ℕ, zero, suc, ◌+◌, ◌<◌, ◌/◌, ◌%◌, true, false, List, [], ◌∷◌, length, get_or, refl, sym, ap, ap₂, ◌∙◌, arith}
-use Rattle.std.specs.Prelude.{◌==◌, if◌then◌else◌, is_some, option_map, slice_get, Option, Some, None}
+use Rattle.std.specs.Prelude.{◌==◌, bytes_eq, codes, if◌then◌else◌, is_some, option_and_then, option_map, slice_get, Option, Some, None}
 use Rattle.std.specs.List.{count_by, slice_split}
 use Rattle.std.proofs.lemmas.Bool.{eqb-true, true≢false}
 use Rattle.std.proofs.lemmas.List.Splits.{length-slice_split}
@@ -10,13 +11,16 @@ use Rattle.omf_records.specs.Values.{Rec}
 use Rattle.omf_check.specs.Listed.{placed_from}
 use Rattle.omf_check.specs.Module.{Module, records_in, typed_modules}
 use Rattle.omf_check.specs.WellFormed.{recs}
-use Rattle.omf_placement.specs.Inner.EntryReading.{words_of}
+use Rattle.omf_placement.specs.Inner.EntryReading.{frame_of, words_of}
+use Rattle.omf_placement.specs.declared.frame.Frame.{Frame}
+use Rattle.omf_text.specs.Numerals.{digits_of}
+use Rattle.omf_linking.specs.Inner.LineParsing.{words_left}
 use Rattle.omf_placement.specs.Inner.Parsing.{parts_after}
 use Rattle.std.specs.Fmt.{digit_glyph}
 use Rattle.omf_placement.specs.Quoted.{escaped, hex, is_plain}
 use Rattle.omf_placement.proofs.HexadecimalLaws.{hex_two}
 use Rattle.omf_linking.specs.Locator.Keys.{header_name, module_name}
-use Rattle.omf_linking.specs.Locator.LinkEntries.{Key, Named, class_after, classed_entry, entry_of_parts, frame_in, has_comment, name_entry, named_entry, opens, place_in, shared_place, shared_word, stored_place}
+use Rattle.omf_linking.specs.Locator.LinkEntries.{Key, Named, class_after, classed_entry, entry_of_parts, frame_in, framed_span, has_comment, name_entry, named_entry, opens, place_in, shared_place, shared_word, span_in, span_of, store_in, stored_place}
 use Rattle.omf_placement.specs.Entries.{said}
 
 -- the name of the first record
@@ -67,12 +71,19 @@ pub parts_some : {A : Type 0} (f : A → List ℕ) (o : Option A) → is_some o 
 parts_some f None e = absurd cc
 parts_some f (Some t) e = (count_by (λ c. c == 32) (f t), length-slice_split (λ c. c == 32) (f t))
 
+no_store_more : (a b : List ℕ) (more : List (List ℕ)) (n : ℕ) → length more ≡ n + 1 → store_in (a ∷ b ∷ more) ≡ None
+no_store_more a b [] n h = absurd (omega arith)
+no_store_more a b (w ∷ ws) n h = refl
+
 module _ (ws a_rest b_rest : List (List ℕ)) (a b : List ℕ) (one : ws ≡ a ∷ a_rest) (two : a_rest ≡ b ∷ b_rest) where
   pub too_many_frame : (n : ℕ) → length b_rest ≡ n + 1 → None ≡ frame_in ws
   too_many_frame n e = sym (ap frame_in (one ∙ ap (λ (t : List (List ℕ)). a ∷ t) two) ∙ no_frame_more a b [] b_rest n e)
 
   pub too_many_shared : (n : ℕ) → length b_rest ≡ n + 1 → None ≡ shared_place ws
   too_many_shared n e = sym (ap shared_place (one ∙ ap (λ (t : List (List ℕ)). a ∷ t) two) ∙ no_shared_more a b [] b_rest n e)
+
+  pub too_many_store : (n : ℕ) → length b_rest ≡ n + 1 → None ≡ store_in ws
+  too_many_store n e = sym (ap store_in (one ∙ ap (λ (t : List (List ℕ)). a ∷ t) two) ∙ no_store_more a b b_rest n e)
 
   pub too_many_place : (s : List ℕ) (s_rest : List (List ℕ)) → b_rest ≡ s ∷ s_rest → (n : ℕ) → length s_rest ≡ n + 1 → None ≡ place_in ws
   too_many_place s s_rest three n e = sym (ap place_in (one ∙ ap (λ (t : List (List ℕ)). a ∷ t) (two ∙ ap (λ (t : List (List ℕ)). b ∷ t) three)) ∙ no_place_more a b s s_rest n e)
@@ -137,3 +148,15 @@ escaped_is b high low small plain h l =
     let digits : high ∷ low ∷ [] ≡ hex 2 b = ap₂ (λ x y. x ∷ y ∷ []) h l ∙ hex_two b small in
     let cases : escaped b ≡ 92 ∷ 120 ∷ hex 2 b = rw plain refl in
     cases ∙ ap (λ (t : List ℕ). 92 ∷ 120 ∷ t) (sym digits)
+
+-- ---- where a line lays segments
+
+pub left_is : (o : Option (Bor (List ℕ))) → parts_after 32 (option_map (λ t. t.now) o) ≡ words_left o
+left_is None = refl
+left_is (Some t) = refl
+
+pub framed_by : (a b s : List ℕ) (ws rest : List (List ℕ)) (f : Frame) → ws ≡ s ∷ rest → frame_of (digits_of b) (digits_of s) ≡ Some f → span_of a (Some f) rest ≡ framed_span a b ws
+framed_by a b s ws rest f e g = sym (ap (framed_span a b) e ∙ ap (option_and_then (λ (x : Frame). span_of a (Some x) rest)) g)
+
+pub real_by : (a r : List ℕ) (ws rest : List (List ℕ)) → ws ≡ a ∷ r ∷ rest → bytes_eq r (codes "real") ≡ true → span_of a None rest ≡ span_in ws
+real_by a r ws rest e h = sym (ap span_in e ∙ ap (λ b. if b then span_of a None rest else framed_span a r rest) h)

@@ -13,7 +13,7 @@ use Rattle.omf_check.specs.Tables.{segments, groups, externals}
 use Rattle.omf_placement.specs.declared.frame.Frame.{Frame}
 use Rattle.omf_placement.specs.declared.frame.Placed.{Placed}
 use Rattle.omf_linking.specs.Inner.Walking.{IsGiven, IsPut}
-use Rattle.omf_linking.specs.Locator.Items.{Item, Nothing, Opened, Given, external_given, given_to, group_given, is_again, segment_given, stored_given}
+use Rattle.omf_linking.specs.Locator.Items.{Item, Nothing, Opened, Given, Ends, external_given, given_to, group_given, is_again, segment_given, stored_given}
 use Rattle.omf_linking.specs.Locator.LinkEntries.{Target, SegmentPlace, StoredPlace, GroupFrame, ExternalPlace}
 use Rattle.omf_linking.specs.Locator.Sparse.{Sparse, sparse_all, sparse_of}
 use Rattle.omf_linking.specs.Locator.Keys.{count_from}
@@ -270,6 +270,7 @@ none_found : (items : List Item) (j i : ℕ) → find (λ (g : (ℕ × ℕ) × P
 none_found [] j i e = refl
 none_found (Nothing ∷ items) j i e = none_found items j i e
 none_found (Opened k ∷ items) j i e = none_found items j i e
+none_found (Ends d ∷ items) j i e = none_found items j i e
 none_found (Given a b (SegmentPlace p) ∷ items) j i e = none_found items j i (left ((a == j) && (b == i)) ((a, b), p) _ e)
   where
     left : {V : Type 0} (t : Bool) (x : V) (o : Option V) → cond t (Some x) o ≡ None → o ≡ None

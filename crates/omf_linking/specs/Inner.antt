@@ -5,6 +5,7 @@ pub mod Turning
 pub mod Searching
 pub mod Gathering
 pub mod LineParsing
+pub mod Parting
 pub mod KeyTables
 pub mod Titling
 pub mod Sharing

@@ -1,5 +1,6 @@
 pub mod LinkEntries
 pub mod Keys
+pub mod Parts
 pub mod Items
 pub mod Sparse
 pub mod KeyForms

@@ -10,6 +10,10 @@
 //! X "_printf" FFFF0 F0000 F000 ; an external
 //! M #2                         ; the second module of the input
 //! S #1 7D00 real               ; its first segment
+//! C "CONST" 8000 800 80        ; for all modules: all segments of a class that are not placed yet, from an address on in one frame
+//! P "_BSS" "BSS" after real    ; those of a name and a class, after the segments of the nearest such line before; real-mode frames
+//! C "DATA" 600 60 6 at after   ; they run at 600H, and are stored after those
+//! F "CGROUP" 8000 800          ; the frame of all groups of a name that have none yet
 //! ```
 //!
 //! A key, `"NAME"`, `"NAME" "CLASS"` or `#N`, names exactly one module of the input, or one entry of the module's table; the order of the lines
@@ -23,15 +27,18 @@ pub mod forms;
 mod keys;
 pub mod laws;
 mod lines;
+mod parts;
 pub mod rows;
 mod shares;
+mod span;
 mod sparse;
 mod tables;
 mod titles;
 
-pub use entry::{Key, LinkEntry, Target, Told, link_entry_on};
+pub use entry::{Key, LinkEntry, Parts, Target, Told, link_entry_on};
 pub use fault::{LineFault, LocatorFault};
 pub use keys::{class_name, entry_count, entry_name, module_name};
 pub use lines::sparse_places;
 pub use shares::{Shares, shares_of};
+pub use span::{Span, Where};
 pub use sparse::Sparse;

@@ -1,12 +1,13 @@
 -- What the code keeps of the lines so far.
-use Rattle.std.specs.Prelude.{◌≡◌, ◌≤◌, ◌-◌, ◌==◌, ⊤, ℕ, Option, Some, None, is_some, set, slice_get, List, [], ◌∷◌, ◌++◌, filter_map, Bool, true, false, Result, Ok, Err}
+use Rattle.std.specs.Prelude.{◌≡◌, ◌≤◌, ◌-◌, ◌==◌, ⊤, IfSome, ℕ, Option, Some, None, is_some, set, slice_get, List, [], ◌∷◌, ◌++◌, filter_map, Bool, true, false, Result, Ok, Err}
 use Rattle.std.specs.BTreeSet.{contains}
 use Rattle.std.specs.List.{list_any}
 use Rattle.std.specs.Ordering.{nat_cmp}
 use Rattle.omf_records.specs.Values.{Rec}
 use Rattle.omf_linking.specs.Inner.KeyTables.{AreEntryKeys, AreModuleKeys}
+use Rattle.omf_linking.specs.Inner.Parting.{IsLow}
 use Rattle.omf_linking.specs.Inner.Titling.{AreTitles}
-use Rattle.omf_linking.specs.Locator.Items.{Item, Given, current, is_again, kind_of, opened}
+use Rattle.omf_linking.specs.Locator.Items.{Item, Given, current, is_again, kind_of, last_end, opened}
 use Rattle.omf_linking.specs.Locator.LinkEntries.{Target}
 use Rattle.omf_reloc.specs.Reach.{entries}
 use Rattle.omf_linking.specs.Locator.Sparse.{Sparse, sparse_all, sparse_of}
@@ -27,10 +28,12 @@ pub record AreLines (ms : List (List Rec)) (s : Lines) (items : List Item) : Typ
   pub current_is : IsCurrent ms s.current (current items)
   pub given_is : s.given.items ≡ sparse_all ms items
   pub titles_are : AreTitles ms s.titles items
+  pub end_is : s.end ≡ last_end items
+  pub end_low : IfSome s.end IsLow
 
--- The result of a line after these items: it has an item, or this is why it has none; or memory ran out.
-abbrev pub IsTaken : List (List Rec) → Lines → List Item → ℕ → Result Item LineFault → Result (Unit {0}) LocatorFault → Type 0
-IsTaken ms new items n r (Ok done) = (x : Item) × (r ≡ Ok x) × AreLines ms new (items ++ x ∷ [])
+-- The result of a line after these items: it has items, or this is why it has none; or memory ran out.
+abbrev pub IsTaken : List (List Rec) → Lines → List Item → ℕ → Result (List Item) LineFault → Result (Unit {0}) LocatorFault → Type 0
+IsTaken ms new items n r (Ok done) = (xs : List Item) × (r ≡ Ok xs) × AreLines ms new (items ++ xs)
 IsTaken ms new items n r (Err fault.Memory) = ⊤
 IsTaken ms new items n r (Err (fault.Line k w)) = (k ≡ n) × (r ≡ Err w)
 

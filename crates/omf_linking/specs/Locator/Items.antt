@@ -1,27 +1,34 @@
 -- The lines of a locator's text, each by the modules and by the lines before it (this profile's rule).
-use Rattle.std.specs.Prelude.{ℕ, List, [], ◌∷◌, ◌++◌, filter_map, find, flat_map, Bool, false, ◌==◌, ◌&&◌, Option, Some, None, bytes_eq, option_map, option_and_then, unwrap_or, is_some, slice_get, Result, Ok, Err, if◌then◌else◌}
+use Rattle.std.specs.Prelude.{ℕ, List, [], ◌∷◌, ◌++◌, filter_map, find, flat_map, Bool, false, not, filter, map, ◌==◌, ◌&&◌, Option, Some, None, bytes_eq, option_map, option_and_then, unwrap_or, is_some, slice_get, Result, Ok, Err, if◌then◌else◌}
 use Rattle.std.specs.List.{list_any}
 use Rattle.std.specs.Option.{option_map_or}
 use Rattle.omf_frame.specs.Bytes.{last}
 use Rattle.omf_records.specs.Values.{Rec}
 use Rattle.omf_records.specs.Inner.Seen.{map_ok}
+use Rattle.omf_layout.specs.Several.Portions.{Classed}
+use Rattle.omf_layout.specs.declared.several.portion.Portion.{Portion}
 use Rattle.omf_placement.specs.Quoted.{escaped}
 use Rattle.omf_placement.specs.declared.frame.Frame.{Frame}
 use Rattle.omf_placement.specs.declared.frame.Placed.{Placed}
 use Rattle.omf_reloc.specs.declared.fault.Kind.{Kind}
 use Rattle.omf_reloc.specs.declared.fault.Kind.TheVariants as kinds
 use Rattle.omf_linking.specs.Locator.Keys.{class_name, entry_name, entry_named, module_named}
-use Rattle.omf_linking.specs.Locator.LinkEntries.{Key, Target, SegmentPlace, StoredPlace, GroupFrame, ExternalPlace, Told, Own, SharedPlace, SharedStored, SharedFrame, LinkEntry, Blank, Opens, Gives, Line}
+use Rattle.omf_linking.specs.Locator.LinkEntries.{Key, Numbered, Lays, Frames, Target, SegmentPlace, StoredPlace, GroupFrame, ExternalPlace, Told, Own, SharedPlace, SharedStored, SharedFrame, LinkEntry, Blank, Opens, Gives, Line}
+use Rattle.omf_linking.specs.Locator.Parts.{Gift, gifts_of, groups_named, parts_named, site_of}
 use Rattle.omf_linking.specs.declared.locator.fault.LineFault.{LineFault}
 use Rattle.omf_linking.specs.declared.locator.fault.LineFault.TheVariants as why
 use Rattle.omf_linking.specs.declared.locator.fault.LocatorFault.{LocatorFault}
 use Rattle.omf_linking.specs.declared.locator.fault.LocatorFault.TheVariants as fault
+use Rattle.omf_linking.specs.declared.locator.span.End.{End}
+use Rattle.omf_linking.specs.declared.locator.span.Site.{Site}
 
--- What a line does: nothing; it begins the lines of a module, by its number from 0; or it gives something to an entry of a module, by its index from 1.
+-- What lines do: nothing; a line begins the lines of a module, by its number from 0; it gives something to an entry of a module, by its index from 1; or it ends
+-- what it lays of all modules.
 pub data Item : Type 0 where
   Nothing : Item
   Opened : ℕ → Item
   Given : ℕ → ℕ → Target → Item
+  Ends : End → Item
 
 -- The modules that items begin, and the one whose lines follow: that of the last `M` line.
 abbrev pub opened : Item → Option ℕ
@@ -30,6 +37,14 @@ opened _ = None
 
 abbrev pub current : List Item → Option ℕ
 current items = last (filter_map opened items)
+
+-- The end of what the last line for segments of all modules laid.
+abbrev pub ended : Item → Option End
+ended (Ends e) = Some e
+ended _ = None
+
+abbrev pub last_end : List Item → Option End
+last_end items = last (filter_map ended items)
 
 -- What items give: the module and the index of an entry, and its place or its frame.
 abbrev pub segment_given : Item → Option ((ℕ × ℕ) × Placed)
@@ -69,6 +84,7 @@ external_place items j i = given_to (filter_map external_given items) j i
 -- A line was before this one for the same module, or gives something to the same entry.
 abbrev pub is_again : List Item → Item → Bool
 is_again before Nothing = false
+is_again before (Ends e) = false
 is_again before (Opened j) = list_any (λ k. k == j) (filter_map opened before)
 is_again before (Given j i (SegmentPlace p)) = is_some (segment_place before j i)
 is_again before (Given j i (StoredPlace p s)) = is_some (segment_place before j i)
@@ -145,13 +161,54 @@ abbrev pub item_in : List (List Rec) → List Item → Option (ℕ × List Rec) 
 item_in ms before None k t = Err why.NoModule
 item_in ms before (Some m) k t = given_at ms before m t (entry_named m.1 (told_kind t) k)
 
-abbrev pub item_of : List (List Rec) → List Item → Option LinkEntry → Result Item LineFault
-item_of ms before None = Err why.NotUnderstood
-item_of ms before (Some Blank) = Ok Nothing
-item_of ms before (Some (Opens k)) = unless_again before (map_ok Opened (module_named ms k))
-item_of ms before (Some (Gives k t)) = item_in ms before (option_and_then (module_at ms) (current before)) k t
+-- What is given to several entries, one after another: each by its module and its number, as by a line of that module.
+abbrev pub gift_item : List (List Rec) → List Item → Gift → Result Item LineFault
+gift_item ms before g = item_in ms before (module_at ms g.0.0) (Numbered g.0.1) (Own g.1)
+
+abbrev pub all_items : List (List Rec) → List Item → List Gift → Result (List Item) LineFault
+all_items ms before [] = Ok []
+all_items ms before (g ∷ gs) = elim (gift_item ms before g) [ Ok x ↦ map_ok (λ xs. x ∷ xs) (all_items ms (before ++ x ∷ []) gs) | Err w ↦ Err w ]
+
+-- There is one of a line's class or name.
+abbrev pub if_any : {A : Type 0} → List A → Result (List Item) LineFault → Result (List Item) LineFault
+if_any [] r = Err why.Unknown
+if_any (x ∷ xs) r = r
+
+-- A line lays, of the segments of its class or name, those that are not absolute and that no line before it places.
+abbrev pub is_left : List Item → Portion → Bool
+is_left before p = not (is_some p.segment.absolute) && not (is_some (segment_place before p.«module» p.index))
+
+abbrev pub parts_left : List Item → List (Classed Portion) → List (Classed Portion)
+parts_left before xs = filter (λ x. is_left before x.1.1) xs
+
+abbrev pub laid_items : List (List Rec) → List Item → Option (List Gift × End) → Result (List Item) LineFault
+laid_items ms before None = Err why.NoRoom
+laid_items ms before (Some g) = map_ok (λ xs. xs ++ Ends g.1 ∷ []) (all_items ms before g.0)
+
+abbrev pub sited_items : List (List Rec) → List Item → List (Classed Portion) → Result Site LineFault → Result (List Item) LineFault
+sited_items ms before xs (Ok s) = laid_items ms before (gifts_of s (parts_left before xs))
+sited_items ms before xs (Err w) = Err w
+
+-- A line gives its frame to the groups of its name to which no line before it gives one.
+abbrev pub is_unframed : List Item → ℕ × ℕ → Bool
+is_unframed before e = not (is_some (group_frame before e.0 e.1))
+
+abbrev pub frame_gifts : List Item → Frame → List (ℕ × ℕ) → List Gift
+frame_gifts before f es = map (λ e. (e, GroupFrame (Some f))) (filter (is_unframed before) es)
+
+-- The items of a line after others, or why it has none.
+abbrev pub alone : Result Item LineFault → Result (List Item) LineFault
+alone r = map_ok (λ x. x ∷ []) r
+
+abbrev pub items_of : List (List Rec) → List Item → Option LinkEntry → Result (List Item) LineFault
+items_of ms before None = Err why.NotUnderstood
+items_of ms before (Some Blank) = Ok (Nothing ∷ [])
+items_of ms before (Some (Opens k)) = alone (unless_again before (map_ok Opened (module_named ms k)))
+items_of ms before (Some (Gives k t)) = alone (item_in ms before (option_and_then (module_at ms) (current before)) k t)
+items_of ms before (Some (Lays ps s)) = if_any (parts_named ps ms) (sited_items ms before (parts_named ps ms) (site_of (last_end before) s))
+items_of ms before (Some (Frames n f)) = if_any (groups_named n ms) (all_items ms before (frame_gifts before f (groups_named n ms)))
 
 -- The items of lines after others; or the first line that has none, and why.
 abbrev pub items_after : List (List Rec) → List Item → List Line → Result (List Item) LocatorFault
 items_after ms before [] = Ok before
-items_after ms before (l ∷ ls) = elim (item_of ms before l.1) [ Ok x ↦ items_after ms (before ++ x ∷ []) ls | Err w ↦ Err (fault.Line l.0 w) ]
+items_after ms before (l ∷ ls) = elim (items_of ms before l.1) [ Ok xs ↦ items_after ms (before ++ xs) ls | Err w ↦ Err (fault.Line l.0 w) ]

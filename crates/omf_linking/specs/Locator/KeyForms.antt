@@ -51,6 +51,10 @@ is_repeated (x ∷ xs) text = if bytes_eq x text then has_text xs text else is_r
 abbrev pub key_texts : List Rec → Kind → KeyForm → List (List ℕ)
 key_texts m kind k = map (key_text m kind k) (range_with_len 1 (entries m kind))
 
+-- The classes of all segments, each as it is printed.
+abbrev pub class_texts : List Rec → List (List ℕ)
+class_texts m = map (λ i. shown (class_name m i)) (range_with_len 1 (entries m kinds.Segment))
+
 abbrev pub owns : List Rec → Kind → KeyForm → ℕ → Bool
 owns m kind k i = has_key m kind k i && not (is_repeated (key_texts m kind k) (key_text m kind k i))
 

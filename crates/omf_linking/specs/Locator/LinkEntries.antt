@@ -1,4 +1,4 @@
--- The entry of a line of a locator's text (this profile's rule): a letter, a key, and a place, a frame, or `shared`.
+-- The entry of a line of a locator's text (this profile's rule): a letter, a key, and a place, a frame, or `shared`; for all modules where its letter is C, P or F.
 use Rattle.std.specs.Prelude.{ℕ, List, [], ◌∷◌, length, map, Bool, ◌==◌, ◌&&◌, ◌^◌, nat_le, nat_lt, Option, Some, None, option_map, option_and_then, codes, if◌then◌else◌, bytes_eq}
 use Rattle.std.specs.List.{list_all, list_any, slice_split}
 use Rattle.std.specs.Char.{is_digit}
@@ -10,6 +10,9 @@ use Rattle.omf_placement.specs.PlacementText.{numbered_lines}
 use Rattle.omf_placement.specs.declared.frame.Frame.{Frame}
 use Rattle.omf_placement.specs.declared.frame.Placed.{Placed}
 use Rattle.omf_text.specs.Numerals.{digits_of}
+use Rattle.omf_linking.specs.declared.locator.span.Span.{Span}
+use Rattle.omf_linking.specs.declared.locator.span.Where.{Where}
+use Rattle.omf_linking.specs.declared.locator.span.Where.TheVariants.{From, After}
 
 -- A key names a module, or an entry of a module's table: by its name, as it is between the quotes; by its name and class; or by its number.
 pub data Key : Type 0 where
@@ -32,10 +35,19 @@ pub data Told : Type 0 where
   SharedStored : ℕ → ℕ → Told
   SharedFrame : Told
 
+-- The segments of all modules that are of a class, of a name, or of a name and a class, each as it is between the quotes.
+pub data Parts : Type 0 where
+  ClassParts : List ℕ → Parts
+  NameParts : List ℕ → Parts
+  NamedParts : List ℕ → List ℕ → Parts
+
+-- A line begins the lines of a module, or gives an entry of that module something. For all modules it lays such segments, or gives the groups of a name a frame.
 pub data LinkEntry : Type 0 where
   Blank : LinkEntry
   Opens : Key → LinkEntry
   Gives : Key → Told → LinkEntry
+  Lays : Parts → Span → LinkEntry
+  Frames : List ℕ → Frame → LinkEntry
 
 -- A place is `address base selector` or `address real`; a frame is `base selector` or `real`. Numbers may be marked as hexadecimal: 0x7C00, 7C00H.
 abbrev pub place_in : List (List ℕ) → Option Placed
@@ -95,6 +107,45 @@ segment_in ws = told_or (run_place ws) (stored_place ws)
 abbrev pub group_in : List (List ℕ) → Option Told
 group_in ws = own_or (option_map GroupFrame (frame_in ws)) (shared_word ws)
 
+-- Segments are laid from an address on, or `after` others.
+abbrev pub where_in : List ℕ → Option Where
+where_in w = if bytes_eq w (codes "after") then Some After else option_map From (hexadecimal 8 (digits_of w))
+
+-- They may be stored elsewhere than they run: `at` and an address, or `at after`.
+abbrev pub store_in : List (List ℕ) → Option (Option Where)
+store_in [] = Some None
+store_in (w ∷ s ∷ []) = if is_at w then option_map Some (where_in s) else None
+store_in _ = None
+
+-- Where they are: `where base selector` or `where real`, without or with that.
+abbrev pub span_of : List ℕ → Option Frame → List (List ℕ) → Option Span
+span_of a f ws = option_and_then (λ start. option_map (λ stored. record { start = start; frame = f; stored = stored }) (store_in ws)) (where_in a)
+
+abbrev pub framed_span : List ℕ → List ℕ → List (List ℕ) → Option Span
+framed_span a b (s ∷ ws) = option_and_then (λ f. span_of a (Some f) ws) (frame_of (digits_of b) (digits_of s))
+framed_span a b [] = None
+
+abbrev pub span_in : List (List ℕ) → Option Span
+span_in (a ∷ r ∷ ws) = if bytes_eq r (codes "real") then span_of a None ws else framed_span a r ws
+span_in _ = None
+
+-- A `C` line has a class; a `P` line a name, or a name and a class; an `F` line a name, and a frame.
+abbrev pub class_parts : Key → Option Parts
+class_parts (Named c) = Some (ClassParts c)
+class_parts k = None
+
+abbrev pub name_parts : Key → Option Parts
+name_parts (Named n) = Some (NameParts n)
+name_parts (OfClass n c) = Some (NamedParts n c)
+name_parts k = None
+
+abbrev pub lays : Option Parts → List (List ℕ) → Option LinkEntry
+lays o ws = option_and_then (λ ps. option_map (Lays ps) (span_in ws)) o
+
+abbrev pub frames_by : Key → Option (Option Frame) → Option LinkEntry
+frames_by (Named n) (Some (Some f)) = Some (Frames n f)
+frames_by k o = None
+
 -- The words after a key; none after that of an `M`.
 abbrev pub words_in : List ℕ → List (List ℕ)
 words_in text = if length text == 0 then [] else words_of text
@@ -104,13 +155,20 @@ opens k [] = Some (Opens k)
 opens k _ = None
 
 -- The entry of a letter, a key and the words after it.
+abbrev pub entry_of_all : List ℕ → Key → List (List ℕ) → Option LinkEntry
+entry_of_all letter k ws =
+    if bytes_eq letter (codes "C") then lays (class_parts k) ws
+    else if bytes_eq letter (codes "P") then lays (name_parts k) ws
+    else if bytes_eq letter (codes "F") then frames_by k (frame_in ws)
+    else None
+
 abbrev pub entry_by : List ℕ → Key → List (List ℕ) → Option LinkEntry
 entry_by letter k ws =
     if bytes_eq letter (codes "M") then opens k ws
     else if bytes_eq letter (codes "S") then option_map (λ t. Gives k t) (segment_in ws)
     else if bytes_eq letter (codes "G") then option_map (λ t. Gives k t) (group_in ws)
     else if bytes_eq letter (codes "X") then option_map (λ p. Gives k (Own (ExternalPlace p))) (place_in ws)
-    else None
+    else entry_of_all letter k ws
 
 -- A number: `#` and 1 to 10 decimal digits. It is below 2^32.
 abbrev pub if_short : ℕ → Option ℕ

@@ -1,9 +1,12 @@
 -- Definitions for the worked examples.
-use Rattle.std.specs.Prelude.{ℕ, List, [], ◌∷◌, map, Option, None, codes}
+use Rattle.std.specs.Prelude.{ℕ, List, [], ◌∷◌, map, Option, Some, None, codes}
 use Rattle.std.specs.List.{join_with_byte}
 use Rattle.omf_placement.specs.declared.frame.Placed.{Placed}
-use Rattle.omf_records.specs.Values.{Rec, Header, Names, Segment}
+use Rattle.omf_placement.specs.declared.frame.Frame.{Frame}
+use Rattle.omf_records.specs.Values.{Rec, Header, Names, Segment, Group}
+use Rattle.omf_linking.specs.Locator.LinkEntries.{LinkEntry, Lays, Parts}
 use Rattle.omf_linking.specs.Locator.Sparse.{Sparse}
+use Rattle.omf_linking.specs.declared.locator.span.Where.{Where}
 
 -- A text of these lines.
 abbrev pub lines : List (List ℕ) → List ℕ
@@ -30,3 +33,24 @@ given_segments ps = record { segments = ps; stored = map (λ p. None) ps; groups
 -- The same, with the addresses at which they are stored.
 abbrev pub given_stored : List (Option Placed) → List (Option ℕ) → Sparse
 given_stored ps ss = record { segments = ps; stored = ss; groups = []; externals = [] }
+
+-- The entry of a line that lays segments.
+abbrev pub laid : Parts → Where → Option Frame → Option Where → Option LinkEntry
+laid ps start frame stored = Some (Lays ps (record { start = start; frame = frame; stored = stored }))
+
+-- A segment with this attribute byte, length, name and class.
+abbrev pub part_of : ℕ → ℕ → ℕ → ℕ → Rec
+part_of attribute size name class = record { kind = 0x98; contents = Segment (record { attribute = attribute; absolute = None; size = size; name = record { within = 6; item = name }; class = record { within = 7; item = class }; overlay = 1 }) }
+
+-- The module m of three public segments: 5 bytes of A of class C, at a word; 3 bytes of B of class C, at a paragraph; and 4 bytes of A of class B, at any byte.
+-- Its one group B is empty.
+abbrev pub three_parts : List Rec
+three_parts = header (codes "m") ∷ record { kind = 0x96; contents = Names (record { within = 3; item = codes "A" } ∷ record { within = 5; item = codes "B" } ∷ record { within = 7; item = codes "C" } ∷ []) }
+    ∷ part_of 0x48 5 1 3 ∷ part_of 0x68 3 2 3 ∷ part_of 0x28 4 1 2 ∷ record { kind = 0x9A; contents = Group (record { name = record { within = 3; item = 2 }; members = [] }) } ∷ []
+
+-- What is given to its segments, where these are stored, and what is given to its group.
+abbrev pub given_parts : List (Option Placed) → List (Option ℕ) → Option (Option Frame) → Sparse
+given_parts ps ss g = record { segments = ps; stored = ss; groups = g ∷ []; externals = [] }
+
+abbrev pub unstored : List (Option ℕ)
+unstored = None ∷ None ∷ None ∷ []

@@ -3,9 +3,10 @@
 ghost use Rattle.std.specs.Prelude.{◌≡◌, ◌∷◌, ◌==◌, ◌<◌, [], option_map, length, IfSome};
 ghost use Rattle.std.specs.List.{list_all, list_any, slice_split};
 ghost use Rattle.omf_placement.specs.Inner.EntryReading.{frame_of, real_of, words_of};
-ghost use Rattle.omf_linking.specs.Locator.LinkEntries.{class_after, classed_entry, decimal_of, entry_by, entry_of_parts, frame_in, group_in, has_comment, if_short, is_printed, is_shared, link_entry_on, name_entry, named_entry, number_of, numbered_entry, opens, place_in, run_place, segment_in, shared_place, shared_word, stored_at, stored_place, stored_word, unnamed_entry, words_in};
-ghost use Rattle.omf_linking.specs.Inner.LineParsing.{key_seen, seen, told_seen, words_left};
+ghost use Rattle.omf_linking.specs.Locator.LinkEntries.{class_after, class_parts, classed_entry, decimal_of, entry_by, entry_of_all, entry_of_parts, frame_in, frames_by, framed_span, group_in, has_comment, if_short, is_printed, is_shared, lays, link_entry_on, name_entry, name_parts, named_entry, number_of, numbered_entry, opens, place_in, run_place, segment_in, shared_place, shared_word, span_in, span_of, store_in, stored_at, stored_place, stored_word, unnamed_entry, where_in, words_in};
+ghost use Rattle.omf_linking.specs.Inner.LineParsing.{key_seen, parts_seen, seen, told_seen, words_left};
 
+use crate::locator::span::{Span, Where};
 use omf_placement::cut::cut;
 use omf_placement::{Frame, Placed, hexadecimal, placed_of, said_by};
 use omf_text::digits_of;
@@ -57,6 +58,17 @@ pub enum Told {
     SharedFrame,
 }
 
+/// Segments of all modules. A name is as the programs print it in quotes.
+#[derive(Clone, Copy)]
+pub enum Parts<'a> {
+    /// `"CLASS"`: those of a class.
+    OfClass(&'a [u8]),
+    /// `"NAME"`: those of a name.
+    OfName(&'a [u8]),
+    /// `"NAME" "CLASS"`: those of a name and a class.
+    OfBoth(&'a [u8], &'a [u8]),
+}
+
 /// The entry of a line.
 #[derive(Clone, Copy)]
 pub enum LinkEntry<'a> {
@@ -66,6 +78,10 @@ pub enum LinkEntry<'a> {
     Opens(Key<'a>),
     /// `S key ..`, `G key ..` or `X key ..`: what an entry of the module is given.
     Gives(Key<'a>, Told),
+    /// `C "CLASS" ..` or `P "NAME" ..`: where segments of all modules are laid.
+    Lays(Parts<'a>, Span),
+    /// `F "NAME" base selector`: the frame of the groups of a name in all modules.
+    Frames(&'a [u8], Frame),
 }
 
 /// Returns a number as 32 bits, if it is below 2^32.
@@ -330,6 +346,131 @@ fn opens<'a>(key: Key<'a>, words: Option<&[u8]>) -> Option<LinkEntry<'a>>
     }
 }
 
+/// Parses an address, or `after`.
+fn where_in(word: &[u8]) -> Option<Where>
+    ensures { result ≡ where_in word.now }
+{
+    if word == b"after".as_slice() {
+        return Some(Where::After);
+    }
+    Some(Where::From(hexadecimal(digits_of(word), 8)?))
+}
+
+/// Parses `at` and where segments are stored, or nothing.
+fn store_in(words: Option<&[u8]>) -> Option<Option<Where>>
+    ensures { result ≡ store_in (words_left words.entry) }
+{
+    let Some(words) = words else {
+        return Some(None);
+    };
+    let (at, more) = cut(words, b' ');
+    let (address, more) = cut(more?, b' ');
+    if more.is_some() {
+        return None;
+    }
+    if at == b"at".as_slice() {
+        Some(Some(where_in(address)?))
+    } else {
+        None
+    }
+}
+
+/// Parses from where on segments run, and where they are stored.
+fn span_of(start: &[u8], frame: Option<Frame>, words: Option<&[u8]>) -> Option<Span>
+    ensures { result ≡ span_of start.now frame (words_left words.entry) }
+{
+    let start = where_in(start)?;
+    let stored = store_in(words)?;
+    Some(Span {
+        start,
+        frame,
+        stored,
+    })
+}
+
+/// Parses the same, with the base of a frame and its selector.
+fn framed_span(start: &[u8], base: &[u8], words: Option<&[u8]>) -> Option<Span>
+    ensures { result ≡ framed_span start.now base.now (words_left words.entry) }
+{
+    let (selector, more) = cut(words?, b' ');
+    let frame = frame_of(digits_of(base), digits_of(selector))?;
+    span_of(start, Some(frame), more)
+}
+
+/// Parses where segments are laid: `where base selector` or `where real`, and `at where` for where they are stored.
+fn span_in(words: Option<&[u8]>) -> Option<Span>
+    ensures { result ≡ span_in (words_left words.entry) }
+{
+    let (start, more) = cut(words?, b' ');
+    let (second, more) = cut(more?, b' ');
+    if second == b"real".as_slice() {
+        span_of(start, None, more)
+    } else {
+        framed_span(start, second, more)
+    }
+}
+
+/// Returns the segments of a `C` line: those of a class.
+fn class_parts<'a>(key: Key<'a>) -> Option<Parts<'a>>
+    ensures { option_map parts_seen result ≡ class_parts (key_seen key.entry) }
+{
+    match key {
+        Key::Named(class) => Some(Parts::OfClass(class)),
+        Key::OfClass(_, _) => None,
+        Key::Numbered(_) => None,
+    }
+}
+
+/// Returns the segments of a `P` line: those of a name, or of a name and a class.
+fn name_parts<'a>(key: Key<'a>) -> Option<Parts<'a>>
+    ensures { option_map parts_seen result ≡ name_parts (key_seen key.entry) }
+{
+    match key {
+        Key::Named(name) => Some(Parts::OfName(name)),
+        Key::OfClass(name, class) => Some(Parts::OfBoth(name, class)),
+        Key::Numbered(_) => None,
+    }
+}
+
+/// Returns the entry of a line that lays segments.
+fn lays<'a>(parts: Option<Parts<'a>>, words: Option<&[u8]>) -> Option<LinkEntry<'a>>
+    ensures { option_map seen result ≡ lays (option_map parts_seen parts.entry) (words_left words.entry) }
+{
+    let parts = parts?;
+    let span = span_in(words)?;
+    Some(LinkEntry::Lays(parts, span))
+}
+
+/// Returns the entry of an `F` line: a name and a frame.
+fn frames_by<'a>(key: Key<'a>, words: Option<&[u8]>) -> Option<LinkEntry<'a>>
+    ensures { option_map seen result ≡ frames_by (key_seen key.entry) (frame_in (words_left words.entry)) }
+{
+    let Some(Some(frame)) = frame_in(words) else {
+        return None;
+    };
+    match key {
+        Key::Named(name) => Some(LinkEntry::Frames(name, frame)),
+        Key::OfClass(_, _) => None,
+        Key::Numbered(_) => None,
+    }
+}
+
+/// Returns the entry of a letter, a key and the words after it, if the line is for all modules.
+fn entry_of_all<'a>(letter: &[u8], key: Key<'a>, words: Option<&[u8]>) -> Option<LinkEntry<'a>>
+    ensures { option_map seen result ≡ entry_of_all letter.now (key_seen key.entry) (words_left words.entry) }
+{
+    if letter == b"C".as_slice() {
+        return lays(class_parts(key), words);
+    }
+    if letter == b"P".as_slice() {
+        return lays(name_parts(key), words);
+    }
+    if letter == b"F".as_slice() {
+        return frames_by(key, words);
+    }
+    None
+}
+
 /// Returns the entry of a letter, a key and the words after it, if there are any.
 fn entry_by<'a>(letter: &[u8], key: Key<'a>, words: Option<&[u8]>) -> Option<LinkEntry<'a>>
     ensures { option_map seen result ≡ entry_by letter.now (key_seen key.entry) (words_left words.entry) }
@@ -347,7 +488,7 @@ fn entry_by<'a>(letter: &[u8], key: Key<'a>, words: Option<&[u8]>) -> Option<Lin
         let place = place_in(words)?;
         return Some(LinkEntry::Gives(key, Told::Own(Target::External(place))));
     }
-    None
+    entry_of_all(letter, key, words)
 }
 
 /// Returns the entry of a letter, a number and words.
@@ -450,6 +591,9 @@ fn named_entry<'a>(letter: &[u8], text: &'a [u8]) -> Option<LinkEntry<'a>>
 /// - `S key address base selector` or `S key address real`, and the same with `X`; `S key address shared`; of a segment each also with
 ///   `at stored` at its end
 /// - `G key base selector`, `G key real` or `G key shared`
+/// - `C "CLASS" where base selector` or `C "CLASS" where real`, each also with `at where` at its end; the same with `P` and `"NAME"` or
+///   `"NAME" "CLASS"`; where is an address or `after`
+/// - `F "NAME" base selector`
 ///
 /// A key is `"NAME"`, `"NAME" "CLASS"` or `#N`. From a `;` outside of names on a line is a comment.
 pub fn link_entry_on(line: &[u8]) -> Option<LinkEntry<'_>>

@@ -13,7 +13,7 @@ pub enum LineFault {
     NotUnderstood,
     /// No `M` line is before it.
     NoModule,
-    /// Its key names no module of the input, or no entry of its module.
+    /// Its key names no module of the input, or no entry of its module; or no module has a segment or a group of its class or name.
     Unknown,
     /// Its key names more than one.
     Several,
@@ -21,6 +21,10 @@ pub enum LineFault {
     Twice,
     /// It shares a frame, and no line before it gives one to its name.
     Unshared,
+    /// It says `after`, and no line before it lays segments of a class or a name.
+    NothingBefore,
+    /// The segments that it lays do not fit: below 2^20 with real-mode frames, else below 2^32; where they are stored below 2^32.
+    NoRoom,
 }
 
 /// Why a text does not place modules.

@@ -9,7 +9,8 @@ ghost use Rattle.omf_placement.specs.Quoted.{quoted};
 ghost use Rattle.omf_reloc.specs.declared.fault.Kind.{Kind};
 ghost use Rattle.omf_reloc.specs.Reach.{entries};
 ghost use Rattle.omf_linking.specs.Locator.Keys.{module_name};
-ghost use Rattle.omf_linking.specs.Locator.KeyForms.{IsTextTable, class_of, has_key, is_repeated, key_form, key_text, key_texts, module_texts, owns};
+ghost use Rattle.omf_linking.specs.Locator.KeyForms.{IsTextTable, class_of, class_texts, has_key, is_repeated, key_form, key_text, key_texts, module_texts, owns, shown};
+ghost use Rattle.omf_linking.specs.Locator.Keys.{class_name};
 ghost use Rattle.omf_linking.specs.Inner.Forms.{AreKeys, AreOwned};
 ghost use Rattle.omf_linking.specs.declared.locator.forms.KeyForm.TheVariants.{OfClass};
 
@@ -108,6 +109,30 @@ pub fn key_texts(
     let mut texts = Vec::new(alloc);
     for before in 0..entry_count(module, kind) {
         texts.push(key_text(alloc, module, kind, form, before + 1)?)?;
+    }
+    Ok(texts)
+}
+
+/// Returns the class of a segment as it is printed; a dash for none.
+fn class_text(alloc: Global, module: &Checked, index: u16) -> Result<String, AllocError>
+    ensures { IfOk result (λ t. string_bytes t ≡ shown (class_name (recs_of «module».now.bytes) index)) }
+{
+    let mut text = String::new(alloc);
+    print_name(&mut text, class_name(module, index))?;
+    Ok(text)
+}
+
+/// Returns the classes of all segments of a module as they are printed, in index order.
+///
+/// # Errors
+///
+/// `AllocError` if memory runs out.
+pub fn class_texts(alloc: Global, module: &Checked) -> Result<Vec<String>, AllocError>
+    ensures { IfOk result (λ v. map string_bytes v.items ≡ class_texts (recs_of «module».now.bytes)) }
+{
+    let mut texts = Vec::new(alloc);
+    for before in 0..entry_count(module, Kind::Segment) {
+        texts.push(class_text(alloc, module, before + 1)?)?;
     }
     Ok(texts)
 }

@@ -1,24 +1,31 @@
 //! What the lines of a locator's text give the modules.
 
-ghost use Rattle.std.specs.Prelude.{◌≡◌, ◌<◌, ◌≤◌, ◌^◌, [], Err, IfErr, IfOk, List, Some, length, option_map, slice_get};
+ghost use Rattle.std.specs.Prelude.{◌≡◌, ◌<◌, ◌≤◌, ◌^◌, [], Err, IfErr, IfOk, List, Some, length, map, option_map, slice_get};
 ghost use Rattle.omf_check.specs.Module.{recs_of, typed_modules};
 ghost use Rattle.omf_records.specs.Inner.Seen.{map_ok};
+ghost use Rattle.omf_records.specs.Values.{Rec as Records};
 ghost use Rattle.omf_reloc.specs.Reach.{entries};
-ghost use Rattle.omf_linking.specs.Inner.LineParsing.{key_seen, seen, target_seen, told_seen};
+ghost use Rattle.omf_linking.specs.Inner.LineParsing.{key_seen, parts_seen, seen, target_seen, told_seen};
+ghost use Rattle.omf_linking.specs.Inner.Parting.{IsLow, gift_seen, parts_laid};
 ghost use Rattle.omf_linking.specs.Inner.Walking.{AreLines, IsTaken};
-ghost use Rattle.omf_linking.specs.Locator.Items.{Item, item_of, items_after, kind_of, told_kind};
-ghost use Rattle.omf_linking.specs.Locator.LinkEntries.{Gives as Entry, Opens, link_lines};
+ghost use Rattle.omf_linking.specs.Locator.Items.{Given, Item, all_items, alone, gift_item, items_after, items_of, kind_of, laid_items, settled, told_kind, unless_again};
+ghost use Rattle.omf_linking.specs.Locator.LinkEntries.{Frames, Gives as Entry, Lays, Opens, link_lines};
 ghost use Rattle.omf_linking.specs.Locator.Sparse.{IsOutcome};
 ghost use Rattle.omf_linking.specs.Locator.Sparse.{bad_lines, sparse, sparse_all};
 ghost use Rattle.omf_linking.specs.declared.locator.fault.LocatorFault.TheVariants.{Line, Memory};
 
-use crate::locator::entry::{Key, LinkEntry, Target, Told, link_entry_on};
+use crate::locator::entry::{Key, LinkEntry, Parts, Target, Told, link_entry_on};
 use crate::locator::fault::{LineFault, LocatorFault};
 use crate::locator::keys::entry_count;
+use crate::locator::parts::{
+    Gift, LaidParts, frame_gifts, gifts_of, groups_named, parts_left, parts_named, site_of,
+};
+use crate::locator::span::{End, Span};
 use crate::locator::sparse::Sparse;
-use crate::locator::tables::{EntryKeys, ModuleKeys};
+use crate::locator::tables::{EntryKeys, ModuleKeys, numbered};
 use crate::locator::titles::Titles;
 use omf_check::Checked;
+use omf_placement::Frame;
 use omf_placement::cut::cut;
 use omf_reloc::Kind;
 use std::alloc::{AllocError, Global};
@@ -47,6 +54,17 @@ pub struct Lines {
     given: Vec<Sparse>,
     /// The frames that names share.
     titles: Titles,
+    /// The end of what the last line for segments of all modules laid.
+    end: Option<End>,
+}
+
+/// An entry of a module.
+#[derive(Clone, Copy)]
+struct EntryOf {
+    /// The module, from 0.
+    module: u32,
+    /// The entry's index, from 1.
+    index: u32,
 }
 
 /// Returns the kind of what is given something.
@@ -111,13 +129,14 @@ impl Lines {
             current: None,
             given,
             titles: Titles::new(alloc),
+            end: None,
         })
     }
 
     /// Adds a line with which the lines of a module begin.
     fn open(&mut self, modules: &[Checked], line: u64, key: Key<'_>) -> Result<(), LocatorFault>
         requires { length modules.now < 2 ^ 32 }
-        ensures { (items : List Item) → AreLines (typed_modules modules.now) self.old items → IsTaken (typed_modules modules.now) self.new items line (item_of (typed_modules modules.now) items (Some (Opens (key_seen key.entry)))) result }
+        ensures { (items : List Item) → AreLines (typed_modules modules.now) self.old items → IsTaken (typed_modules modules.now) self.new items line (items_of (typed_modules modules.now) items (Some (Opens (key_seen key.entry)))) result }
     {
         let number = match self.keys.named(key) {
             Ok(number) => number,
@@ -135,6 +154,37 @@ impl Lines {
         Ok(())
     }
 
+    /// Gives an entry of a module what a line says.
+    fn settle(
+        &mut self,
+        modules: &[Checked],
+        line: u64,
+        entry: EntryOf,
+        told: Told,
+    ) -> Result<(), LocatorFault>
+        ensures { (items : List Item) (m : List Records) → AreLines (typed_modules modules.now) self.old items → slice_get (typed_modules modules.now) entry.«module» ≡ Some m → 1 ≤ entry.index → entry.index ≤ entries m (told_kind (told_seen told)) → IsTaken (typed_modules modules.now) self.new items line (alone (unless_again items (map_ok (Given entry.«module» entry.index) (settled (typed_modules modules.now) items m (told_seen told) entry.index)))) result }
+    {
+        let at = entry.module as usize;
+        if at >= modules.len() {
+            return at_fault(line, LineFault::NoModule);
+        }
+        if at >= self.given.len() {
+            return at_fault(line, LineFault::NoModule);
+        }
+        let module = &modules[at];
+        let index = entry_index(module, told_kind(told), entry.index);
+        let settled = self.titles.settled(self.alloc, module, index, told)?;
+        let target = match settled {
+            Ok(target) => target,
+            Err(why) => return at_fault(line, why),
+        };
+        if !self.given[at].give(entry.index, target) {
+            return at_fault(line, LineFault::Twice);
+        }
+        self.titles.note(self.alloc, module, index, target)?;
+        Ok(())
+    }
+
     /// Adds a line for an entry of the current module.
     fn add(
         &mut self,
@@ -143,36 +193,125 @@ impl Lines {
         key: Key<'_>,
         told: Told,
     ) -> Result<(), LocatorFault>
-        ensures { (items : List Item) → AreLines (typed_modules modules.now) self.old items → IsTaken (typed_modules modules.now) self.new items line (item_of (typed_modules modules.now) items (Some (Entry (key_seen key.entry) (told_seen told)))) result }
+        ensures { (items : List Item) → AreLines (typed_modules modules.now) self.old items → IsTaken (typed_modules modules.now) self.new items line (items_of (typed_modules modules.now) items (Some (Entry (key_seen key.entry) (told_seen told)))) result }
     {
         let Some(current) = &self.current else {
             return at_fault(line, LineFault::NoModule);
         };
-        let at = current.number as usize;
+        let module = current.number;
+        let at = module as usize;
         if at >= modules.len() {
             return at_fault(line, LineFault::NoModule);
         }
-        if at >= self.given.len() {
-            return at_fault(line, LineFault::NoModule);
-        }
-        let module = &modules[at];
         let kind = told_kind(told);
-        let found = current.keys.named(self.alloc, module, kind, key)?;
+        let found = current.keys.named(self.alloc, &modules[at], kind, key)?;
         let index = match found {
             Ok(index) => index,
             Err(why) => return at_fault(line, why),
         };
-        let entry = entry_index(module, kind, index);
-        let settled = self.titles.settled(self.alloc, module, entry, told)?;
-        let target = match settled {
-            Ok(target) => target,
+        self.settle(modules, line, EntryOf { module, index }, told)
+    }
+
+    /// Gives an entry of a module something, as a line of that module with the entry's number.
+    fn give(&mut self, modules: &[Checked], line: u64, gift: &Gift) -> Result<(), LocatorFault>
+        ensures { (items : List Item) → AreLines (typed_modules modules.now) self.old items → IsTaken (typed_modules modules.now) self.new items line (alone (gift_item (typed_modules modules.now) items (gift_seen gift.now))) result }
+    {
+        let module = gift.module;
+        let at = module as usize;
+        if at >= modules.len() {
+            return at_fault(line, LineFault::NoModule);
+        }
+        let kind = kind_of(gift.target);
+        let count = u32::from(entry_count(&modules[at], kind));
+        let index = match numbered(u32::from(gift.index), count) {
+            Ok(index) => index,
             Err(why) => return at_fault(line, why),
         };
-        if !self.given[at].give(index, target) {
-            return at_fault(line, LineFault::Twice);
+        let told = Told::Own(gift.target);
+        self.settle(modules, line, EntryOf { module, index }, told)
+    }
+
+    /// Gives several entries something, one after another.
+    fn give_all(
+        &mut self,
+        modules: &[Checked],
+        line: u64,
+        gifts: &[Gift],
+    ) -> Result<(), LocatorFault>
+        ensures { (items : List Item) → AreLines (typed_modules modules.now) self.old items → IsTaken (typed_modules modules.now) self.new items line (all_items (typed_modules modules.now) items (map gift_seen gifts.now)) result }
+    {
+        for gift in gifts {
+            match self.give(modules, line, gift) {
+                Ok(()) => {}
+                Err(fault) => return Err(fault),
+            }
         }
-        self.titles.note(self.alloc, module, entry, target)?;
         Ok(())
+    }
+
+    /// Gives segments what a line lays, and ends what it lays.
+    fn give_laid(
+        &mut self,
+        modules: &[Checked],
+        line: u64,
+        laid: LaidParts,
+    ) -> Result<(), LocatorFault>
+        requires { IsLow laid.end }
+        ensures { (items : List Item) → AreLines (typed_modules modules.now) self.old items → IsTaken (typed_modules modules.now) self.new items line (laid_items (typed_modules modules.now) items (Some (parts_laid laid))) result }
+    {
+        match self.give_all(modules, line, &laid.gifts) {
+            Ok(()) => {
+                self.end = Some(laid.end);
+                Ok(())
+            }
+            Err(fault) => Err(fault),
+        }
+    }
+
+    /// Adds a line that lays segments of all modules.
+    fn lay(
+        &mut self,
+        modules: &[Checked],
+        line: u64,
+        parts: Parts<'_>,
+        span: Span,
+    ) -> Result<(), LocatorFault>
+        requires { length modules.now < 2 ^ 32 }
+        ensures { (items : List Item) → AreLines (typed_modules modules.now) self.old items → IsTaken (typed_modules modules.now) self.new items line (items_of (typed_modules modules.now) items (Some (Lays (parts_seen parts.entry) span))) result }
+    {
+        let named = parts_named(self.alloc, modules, parts)?;
+        if named.is_empty() {
+            return at_fault(line, LineFault::Unknown);
+        }
+        let site = match site_of(self.end, span) {
+            Ok(site) => site,
+            Err(why) => return at_fault(line, why),
+        };
+        let left = parts_left(self.alloc, &self.given, &named)?;
+        let laid = gifts_of(self.alloc, site, left)?;
+        match laid {
+            Some(laid) => self.give_laid(modules, line, laid),
+            None => at_fault(line, LineFault::NoRoom),
+        }
+    }
+
+    /// Adds a line that gives the groups of a name a frame.
+    fn frame(
+        &mut self,
+        modules: &[Checked],
+        line: u64,
+        name: &[u8],
+        frame: Frame,
+    ) -> Result<(), LocatorFault>
+        requires { length modules.now < 2 ^ 32 }
+        ensures { (items : List Item) → AreLines (typed_modules modules.now) self.old items → IsTaken (typed_modules modules.now) self.new items line (items_of (typed_modules modules.now) items (Some (Frames name.now frame))) result }
+    {
+        let groups = groups_named(self.alloc, modules, name)?;
+        if groups.is_empty() {
+            return at_fault(line, LineFault::Unknown);
+        }
+        let gifts = frame_gifts(self.alloc, &self.given, &groups, frame)?;
+        self.give_all(modules, line, &gifts)
     }
 
     /// Adds a line that is an entry.
@@ -183,12 +322,14 @@ impl Lines {
         entry: LinkEntry<'_>,
     ) -> Result<(), LocatorFault>
         requires { length modules.now < 2 ^ 32 }
-        ensures { (items : List Item) → AreLines (typed_modules modules.now) self.old items → IsTaken (typed_modules modules.now) self.new items line (item_of (typed_modules modules.now) items (Some (seen entry.entry))) result }
+        ensures { (items : List Item) → AreLines (typed_modules modules.now) self.old items → IsTaken (typed_modules modules.now) self.new items line (items_of (typed_modules modules.now) items (Some (seen entry.entry))) result }
     {
         match entry {
             LinkEntry::Blank => Ok(()),
             LinkEntry::Opens(key) => self.open(modules, line, key),
             LinkEntry::Gives(key, told) => self.add(modules, line, key, told),
+            LinkEntry::Lays(parts, span) => self.lay(modules, line, parts, span),
+            LinkEntry::Frames(name, frame) => self.frame(modules, line, name, frame),
         }
     }
 
@@ -200,7 +341,7 @@ impl Lines {
         entry: Option<LinkEntry<'_>>,
     ) -> Result<(), LocatorFault>
         requires { length modules.now < 2 ^ 32 }
-        ensures { (items : List Item) → AreLines (typed_modules modules.now) self.old items → IsTaken (typed_modules modules.now) self.new items line (item_of (typed_modules modules.now) items (option_map seen entry.entry)) result }
+        ensures { (items : List Item) → AreLines (typed_modules modules.now) self.old items → IsTaken (typed_modules modules.now) self.new items line (items_of (typed_modules modules.now) items (option_map seen entry.entry)) result }
     {
         match entry {
             Some(entry) => self.enter(modules, line, entry),
@@ -248,8 +389,9 @@ fn taken(alloc: Global, modules: &[Checked], text: &[u8]) -> Result<Vec<Sparse>,
 /// # Errors
 ///
 /// `Line` for the first line that is no entry; or else for the first whose key does not name exactly one module of the input or one entry of
-/// its module, that is before the first `M`, that is for the same module or entry as an earlier one, or that shares a frame that no line
-/// before it gives. `Memory` if memory runs out, only if every line is an entry.
+/// its module, that is before the first `M`, that is for the same module or entry as an earlier one, that shares a frame that no line
+/// before it gives, that is for a class or a name that no module has, that lays segments after others where no line before it does, or whose
+/// segments do not fit. `Memory` if memory runs out, only if every line is an entry.
 pub fn sparse_places(
     alloc: Global,
     modules: &[Checked],

@@ -4,8 +4,9 @@ ghost use Rattle.std.specs.Prelude.{◌≡◌, [], ◌∷◌, codes, Some, None,
 ghost use Rattle.omf_reloc.specs.Rows.{at, frame};
 ghost use Rattle.omf_reloc.specs.declared.fault.Kind.TheVariants as kinds;
 ghost use Rattle.omf_linking.specs.Locator.Keys.{entry_named, module_named};
-ghost use Rattle.omf_linking.specs.Locator.LinkEntries.{link_entry_on, Named, OfClass, Numbered, SegmentPlace, StoredPlace, GroupFrame, ExternalPlace, Own, SharedPlace, SharedStored, SharedFrame, Blank, Opens, Gives};
-ghost use Rattle.omf_linking.specs.Locator.Rows.{given_segments, given_stored, lines, named_only, three_segments};
+ghost use Rattle.omf_linking.specs.Locator.LinkEntries.{link_entry_on, Named, OfClass, Numbered, SegmentPlace, StoredPlace, GroupFrame, ExternalPlace, Own, SharedPlace, SharedStored, SharedFrame, Blank, Opens, Gives, Frames, ClassParts, NameParts, NamedParts};
+ghost use Rattle.omf_linking.specs.declared.locator.span.Where.TheVariants.{From, After};
+ghost use Rattle.omf_linking.specs.Locator.Rows.{given_parts, given_segments, given_stored, laid, lines, named_only, three_parts, three_segments, unstored};
 ghost use Rattle.omf_linking.specs.Locator.Sparse.{sparse};
 ghost use Rattle.omf_linking.specs.declared.locator.fault.LineFault.TheVariants as why;
 ghost use Rattle.omf_linking.specs.declared.locator.fault.LocatorFault.TheVariants.{Line};
@@ -26,6 +27,32 @@ pub fn lines_of_a_link()
     ensures stored_real { link_entry_on (codes "S #2 505 real at 0FF00H ; x") ≡ Some (Gives (Numbered 2) (Own (StoredPlace (at 0x505 0x500 0x50) 0xFF00))) }
     ensures stored_shared { link_entry_on (codes "S #2 600 shared at FF100") ≡ Some (Gives (Numbered 2) (SharedStored 0x600 0xFF100)) }
     ensures nothing { link_entry_on (codes "; S \"a\"") ≡ Some Blank }
+{}
+
+/// Entries of lines for all modules: segments of a class, of a name, or of both, from an address on or after others, and where they are stored; and groups.
+pub fn lines_for_all_modules()
+    ensures class { link_entry_on (codes "C \"CODE\" 0F0000H F0000 F000 ; x") ≡ laid (ClassParts (codes "CODE")) (From 0xF0000) (Some (frame 0xF0000 0xF000)) None }
+    ensures no_class { link_entry_on (codes "C \"\" after real") ≡ laid (ClassParts []) After None None }
+    ensures name { link_entry_on (codes "P \"reset\" FFFF0 real at 1FFF0") ≡ laid (NameParts (codes "reset")) (From 0xFFFF0) None (Some (From 0x1FFF0)) }
+    ensures both { link_entry_on (codes "P \"A\" \"B\" after 500 50 at after") ≡ laid (NamedParts (codes "A") (codes "B")) After (Some (frame 0x500 0x50)) (Some After) }
+    ensures frame { link_entry_on (codes "F \"DGROUP\" 500 50") ≡ Some (Frames (codes "DGROUP") (frame 0x500 0x50)) }
+{}
+
+/// Lines for all modules that are no entry: a number as a key, a class with a name before it, a name that says where groups are stored, words that are missing,
+/// too many or in another order, and a frame of lowest members.
+pub fn lines_for_none()
+    ensures class_number { link_entry_on (codes "C #1 500 50 5") ≡ None }
+    ensures name_number { link_entry_on (codes "P #1 500 real") ≡ None }
+    ensures frame_number { link_entry_on (codes "F #1 500 50") ≡ None }
+    ensures class_of_name { link_entry_on (codes "C \"A\" \"B\" 500 50 5") ≡ None }
+    ensures no_frame { link_entry_on (codes "C \"A\" 500") ≡ None }
+    ensures no_selector { link_entry_on (codes "C \"A\" 500 50") ≡ None }
+    ensures shared { link_entry_on (codes "C \"A\" 500 shared") ≡ None }
+    ensures nowhere { link_entry_on (codes "C \"A\" 500 50 5 at") ≡ None }
+    ensures stored_more { link_entry_on (codes "C \"A\" after real at after 0") ≡ None }
+    ensures before { link_entry_on (codes "C \"A\" before real") ≡ None }
+    ensures lowest { link_entry_on (codes "F \"G\" real") ≡ None }
+    ensures after { link_entry_on (codes "F \"G\" after 50") ≡ None }
 {}
 
 /// Lines that are no entry: an open name, a number with other characters, a hexadecimal, a large or a long number, a word too many or too few, a placement
@@ -79,4 +106,34 @@ pub fn what_texts_give()
     ensures stored_again { sparse (three_segments ∷ []) (lines (codes "M #1" ∷ codes "S #2 10 20 2 at 8000" ∷ codes "S #2 10 20 2" ∷ [])) ≡ Err (Line 3 why.Twice) }
     ensures again_stored { sparse (three_segments ∷ []) (lines (codes "M #1" ∷ codes "S #2 10 20 2" ∷ codes "S #2 10 20 2 at 8000" ∷ [])) ≡ Err (Line 3 why.Twice) }
     ensures no_entry { sparse (three_segments ∷ []) (lines (codes "M #2" ∷ codes "q" ∷ [])) ≡ Err (Line 2 why.NotUnderstood) }
+{}
+
+/// Segments that lines for all modules lay. Those of class C, from 101H on: both of A at words, then both of B at paragraphs; after them, from 123H on, those of class
+/// B. With real-mode frames those of name A: two of class C in one frame, and two of class B in the next. An absolute address is kept as a distance where they are
+/// stored. A segment that has a place is not laid again.
+pub fn what_lines_for_all_modules_give()
+    ensures class { sparse (three_parts ∷ three_parts ∷ []) (lines (codes "C \"C\" 101 10 1" ∷ codes "C \"B\" after 20 2" ∷ [])) ≡ Ok (given_parts (Some (at 0x102 0x10 1) ∷ Some (at 0x110 0x10 1) ∷ Some (at 0x123 0x20 2) ∷ []) unstored None ∷ given_parts (Some (at 0x108 0x10 1) ∷ Some (at 0x120 0x10 1) ∷ Some (at 0x127 0x20 2) ∷ []) unstored None ∷ []) }
+    ensures real { sparse (three_parts ∷ three_parts ∷ []) (lines (codes "P \"A\" 12345 real" ∷ [])) ≡ Ok (given_parts (Some (at 0x12346 0x12340 0x1234) ∷ None ∷ Some (at 0x12351 0x12350 0x1235) ∷ []) unstored None ∷ given_parts (Some (at 0x1234C 0x12340 0x1234) ∷ None ∷ Some (at 0x12355 0x12350 0x1235) ∷ []) unstored None ∷ []) }
+    ensures both { sparse (three_parts ∷ []) (lines (codes "P \"A\" \"B\" 200 0 0" ∷ [])) ≡ Ok (given_parts (None ∷ None ∷ Some (at 0x200 0 0) ∷ []) unstored None ∷ []) }
+    ensures stored { sparse (three_parts ∷ three_parts ∷ []) (lines (codes "P \"B\" 501 50 5 at 8000" ∷ codes "C \"B\" after 50 5 at after" ∷ [])) ≡ Ok (given_parts (None ∷ Some (at 0x510 0x50 5) ∷ Some (at 0x523 0x50 5) ∷ []) (None ∷ Some 0x800F ∷ Some 0x8022 ∷ []) None ∷ given_parts (None ∷ Some (at 0x520 0x50 5) ∷ Some (at 0x527 0x50 5) ∷ []) (None ∷ Some 0x801F ∷ Some 0x8026 ∷ []) None ∷ []) }
+    ensures stored_after_run { sparse (three_parts ∷ []) (lines (codes "P \"B\" 501 50 5" ∷ codes "C \"B\" 900 50 5 at after" ∷ [])) ≡ Ok (given_parts (None ∷ Some (at 0x510 0x50 5) ∷ Some (at 0x900 0x50 5) ∷ []) (None ∷ None ∷ Some 0x513 ∷ []) None ∷ []) }
+    ensures placed { sparse (three_parts ∷ three_parts ∷ []) (lines (codes "M #1" ∷ codes "S #2 2000 10 1" ∷ codes "C \"C\" 101 10 1" ∷ codes "S #3 30 10 1" ∷ [])) ≡ Ok (given_parts (Some (at 0x102 0x10 1) ∷ Some (at 0x2000 0x10 1) ∷ Some (at 0x30 0x10 1) ∷ []) unstored None ∷ given_parts (Some (at 0x108 0x10 1) ∷ Some (at 0x110 0x10 1) ∷ None ∷ []) unstored None ∷ []) }
+    ensures shared { sparse (three_parts ∷ []) (lines (codes "P \"A\" \"B\" 200 20 2" ∷ codes "M #1" ∷ codes "S #1 300 20 2" ∷ codes "S #2 310 shared" ∷ [])) ≡ Err (Line 4 why.Unshared) }
+    ensures frames { sparse (three_parts ∷ three_parts ∷ []) (lines (codes "M #2" ∷ codes "G \"B\" 70 7" ∷ codes "F \"B\" 500 50" ∷ [])) ≡ Ok (given_parts (None ∷ None ∷ None ∷ []) unstored (Some (Some (frame 0x500 0x50))) ∷ given_parts (None ∷ None ∷ None ∷ []) unstored (Some (Some (frame 0x70 7))) ∷ []) }
+{}
+
+/// Such lines at fault: no module has the class, the name or the group; nothing is before; segments do not fit where they run, with real-mode frames, or where they
+/// are stored; and a line for a segment or a group that has its place or its frame.
+pub fn lines_for_all_modules_at_fault()
+    ensures class { sparse (three_parts ∷ []) (codes "C \"A\" 0 0 0") ≡ Err (Line 1 why.Unknown) }
+    ensures name { sparse (three_parts ∷ []) (codes "P \"B\" \"B\" 0 0 0") ≡ Err (Line 1 why.Unknown) }
+    ensures group { sparse (three_parts ∷ []) (codes "F \"A\" 0 0") ≡ Err (Line 1 why.Unknown) }
+    ensures after { sparse (three_parts ∷ []) (codes "C \"C\" after 0 0") ≡ Err (Line 1 why.NothingBefore) }
+    ensures at_after { sparse (three_parts ∷ []) (lines (codes "M #1" ∷ codes "S #3 0 0 0" ∷ codes "C \"C\" 0 0 0 at after" ∷ [])) ≡ Err (Line 3 why.NothingBefore) }
+    ensures run { sparse (three_parts ∷ []) (codes "P \"A\" \"B\" FFFFFFFD 0 0") ≡ Err (Line 1 why.NoRoom) }
+    ensures run_last { sparse (three_parts ∷ []) (lines (codes "P \"A\" \"B\" FFFFFFFC 0 0" ∷ codes "P \"A\" after 0 0" ∷ [])) ≡ Err (Line 2 why.NoRoom) }
+    ensures real { sparse (three_parts ∷ []) (codes "P \"A\" \"B\" FFFFD real") ≡ Err (Line 1 why.NoRoom) }
+    ensures stored { sparse (three_parts ∷ []) (codes "P \"B\" 501 50 5 at FFFFFFEF") ≡ Err (Line 1 why.NoRoom) }
+    ensures twice { sparse (three_parts ∷ []) (lines (codes "C \"B\" 0 0 0" ∷ codes "M #1" ∷ codes "S #3 0 0 0" ∷ [])) ≡ Err (Line 3 why.Twice) }
+    ensures framed { sparse (three_parts ∷ []) (lines (codes "F \"B\" 0 0" ∷ codes "M #1" ∷ codes "G #1 0 0" ∷ [])) ≡ Err (Line 3 why.Twice) }
 {}

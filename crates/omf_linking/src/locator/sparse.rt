@@ -136,6 +136,13 @@ impl Sparse {
         entry_of(&self.segments, usize::from(index))?
     }
 
+    /// Returns the frame of the group with this index, from 1, if it is given one: `Some(None)` is that of the lowest member.
+    pub(crate) fn group(&self, index: u16) -> Option<Option<Frame>>
+        ensures { result ≡ option_and_then (λ f. f) (entry self.now.groups index) }
+    {
+        entry_of(&self.groups, usize::from(index))?
+    }
+
     /// Returns the place of the external with this index, from 1, if it is given one.
     pub fn external(&self, index: u16) -> Option<Placed>
         ensures { result ≡ option_and_then (λ p. p) (entry self.now.externals index) }

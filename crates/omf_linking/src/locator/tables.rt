@@ -146,7 +146,7 @@ impl KeyTable {
 }
 
 /// Returns the number of a key, if it is one of 1 to `count`.
-fn numbered(number: u32, count: u32) -> Result<u32, LineFault>
+pub(crate) fn numbered(number: u32, count: u32) -> Result<u32, LineFault>
     ensures { result ≡ the_one (filter (λ i. number == i) (count_from 1 count)) }
 {
     if number >= 1 && number <= count {

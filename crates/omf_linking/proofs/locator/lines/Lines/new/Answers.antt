@@ -15,4 +15,6 @@ returns c =
       current_is = refl;
       given_is = sym (append-nil given) ∙ ap (λ ms. given ++ map (sparse_of []) (enumerate_from j ms)) (sym (none-left c.args.modules.now j c.loop-module-test.false)) ∙ c.loop-module.invariant;
       titles_are = c.new-2.ensures (typed_modules c.args.modules.now);
+      end_is = refl;
+      end_low = tt;
     }

@@ -1,4 +1,4 @@
-use Rattle.std.proofs.Common.{◌≡◌, ◌<◌, ◌∙◌, List, ℕ, length, refl, sym, subst, true, false, arith}
+use Rattle.std.proofs.Common.{◌≡◌, ◌<◌, ◌∷◌, [], ◌∙◌, List, ℕ, length, refl, sym, subst, true, false, arith}
 use Rattle.std.specs.Prelude.{◌==◌, filter_map, slice_get, Some, Ok}
 use Rattle.std.specs.List.{list_any}
 use Rattle.std.proofs.lemmas.Option.{same_Some}
@@ -44,4 +44,4 @@ returns c items at =
     let has : list_any (λ (i : ℕ). i == j) (filter_map opened items) ≡ false = sym (at.opened_is j) ∙ was_none _ _ c.in_ok-insert.ensures.added c.if-not-branch.false in
     let here : slice_get ms j ≡ Some (recs (records_in c.index-modules-at.result.bytes)) = next_module c.args.modules.now j c.index-modules-at.result c.index-modules-at.is c.if-at-modules.false in
     let own = λ (m : List Rec) (found : slice_get ms j ≡ Some m). subst (λ (x : List Rec). AreEntryKeys x c.in_ok-keys.keys) (same_Some (recs (records_in c.index-modules-at.result.bytes)) m (sym here ∙ found)) c.in_ok-keys.ensures in
-    (Opened j, opens_first ms items (key_seen c.args.key) j named has, more_opened ms c.args.self.now _ items j c.in_ok-keys.keys at c.in_ok-insert.ensures.updates own refl refl refl refl)
+    (Opened j ∷ [], opens_first ms items (key_seen c.args.key) j named has, more_opened ms c.args.self.now _ items j c.in_ok-keys.keys at c.in_ok-insert.ensures.updates own refl refl refl refl refl)
