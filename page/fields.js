@@ -109,7 +109,7 @@ function recordPlaces(type, cursor, wide, end) {
 const SIZES = { "low-byte": 1, offset16: 2, base: 2, "pointer16:16": 4, "high-byte": 1, "loader-offset16": 2, offset32: 4, "pointer16:32": 6,
   "loader-offset32": 4 };
 const FRAME = new Set(["number", "start", "items", "within", "record"]);
-const QUOTED = new Set(["name", "text", "public", "alias", "substitute", "version", "meaning", "looks-like"]);
+const QUOTED = new Set(["name", "text", "public", "external", "alias", "substitute", "version", "meaning", "looks-like"]);
 const NAME_ESCAPES = /[^\x20-\x7E]|["\\]/g;
 
 // A name as omf-dump shows it.
@@ -176,7 +176,6 @@ function recordTree(bytes, from, to, dump, dataAt) {
 // One line for a record: its fields as in omf-dump's text, without their data.
 function recordSummary(dump, wide) {
   if ("refused" in dump) return `refused ${dump.refused} ${dump.reason}`;
-  if (dump.unjudged) return `length ${hex(dump.length, 4)}H  unjudged`;
   const words = [];
   for (const [key, value] of Object.entries(dump)) {
     if (FRAME.has(key) || key === "type" || key === "checksum" || key === "data" || key === "left-out" || value === false) continue;

@@ -170,7 +170,7 @@ def keys(tab, tries, folder):
     tab.press("n")
     tries.see("key n", tab.value(at), 3)
     row = tab.value("(() => { const i = page.tree.indexOf(4); page.tree.choose(i); return document.getElementById('row' + i).innerText; })()")
-    tries.see("the record after the fault", "8A MODEND length 0001H  unjudged" in row, True)
+    tries.see("the record after the fault", "8A MODEND unjudged  flags 00H" in row, True)
 
 
 def copied(tab, tries, folder):

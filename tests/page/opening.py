@@ -120,9 +120,9 @@ def refused(tab, tries, name, data, line):
     tries.see(f"{name}: the record at fault is chosen", tab.value("page.tree.rowAt(page.tree.at).record"), record)
     tries.see(f"{name}: records of the tree", tab.value("page.look.dump.starts.length - 1"), len(lines))
     own = re.split("^module ", printed("omf_dump", [], data).decode(), flags=re.M)[0]
-    after = [it.split() for it in own.splitlines() if it.endswith(" unjudged")]
+    after = [it.split()[:4] for it in own.splitlines() if "  unjudged" in it]
     rows = tab.value("[...page.look.records.keys()].slice(0, -1).filter(it => page.look.isUnjudged(it)).map(it => page.tree.make(page.tree.indexOf(it)).textContent)")
-    tries.see(f"{name}: records after the fault", [re.sub(r"\b([0-9A-F]{4})H\b", r"\1", it).lstrip("▸▾").split() for it in rows], after)
+    tries.see(f"{name}: records after the fault", [it.lstrip("▸▾").split()[:4] for it in rows], after)
 
 
 def shown_name(name):

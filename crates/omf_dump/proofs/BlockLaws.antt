@@ -1,10 +1,10 @@
 -- The blocks of an LIDATA, one after another.
-use Rattle.std.proofs.Common.{◌≡◌, ℕ, zero, suc, ◌+◌, ◌-◌, ◌<◌, ◌≤◌, List, [], ◌∷◌, ◌++◌, length, drop, Bool, true, false, refl, sym, ap, ap₂, ◌∙◌, arith}
+use Rattle.std.proofs.Common.{◌≡◌, ℕ, zero, suc, ◌+◌, ◌-◌, ◌<◌, List, [], ◌∷◌, ◌++◌, length, drop, Bool, false, refl, sym, ap, ap₂, ◌∙◌, arith}
 use Rattle.std.specs.Prelude.{Option, Some, None, is_some, if◌then◌else◌}
 use Rattle.omf_frame.specs.declared.kinds.Width.{Width}
 use Rattle.omf_frame.specs.declared.kinds.Width.TheVariants.{Bits16, Bits32}
 use Rattle.omf_dump.specs.Blocks.{Front, after_block, block_fields, block_front, block_item, blocks_from, front_of, not_ended}
-use Rattle.omf_dump.specs.Fields.{Field, Item}
+use Rattle.omf_dump.specs.Fields.{Item}
 use Rattle.omf_dump.specs.Render.{fields_text, item_end, item_start, items_text}
 use Rattle.omf_dump.specs.declared.format.Format.{Format}
 use Rattle.omf_dump.proofs.ItemLaws.{item_written}

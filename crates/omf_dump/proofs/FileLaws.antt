@@ -1,5 +1,5 @@
 -- The modules of a file, one after another.
-use Rattle.std.proofs.Common.{◌≡◌, ℕ, suc, ◌+◌, ◌-◌, ◌<◌, List, [], ◌∷◌, ◌++◌, length, drop, Bool, true, false, refl, sym, ap, ap₂, subst, ◌∙◌, arith, append_assoc, length-append}
+use Rattle.std.proofs.Common.{◌≡◌, ℕ, suc, ◌+◌, ◌-◌, List, [], ◌∷◌, ◌++◌, length, drop, Bool, true, false, refl, sym, ap, subst, ◌∙◌, arith, length-append}
 use Rattle.std.specs.Prelude.{flat_map, ◌||◌, Option}
 use Rattle.std.specs.Io.KnownBytes.{Appends}
 use Rattle.std.specs.List.{list_any}
@@ -7,7 +7,7 @@ use Rattle.std.proofs.KnownBytes.{Appends-trans}
 use Rattle.std.proofs.lemmas.List.{append-nil}
 use Rattle.omf_frame.specs.Framing.{is_header}
 use Rattle.omf_dump.specs.Later.{front_kind}
-use Rattle.omf_dump.specs.Library.{AreNext, IsFileText, IsLeftShown, IsModuleText, IsNextShown, Member, Shows, after_member, end_at, first_end, left_text, module_title}
+use Rattle.omf_dump.specs.Library.{AreNext, IsFileText, IsLeftShown, IsModuleText, IsNextShown, Member, Shows, after_member, end_at, first_end, module_title}
 use Rattle.omf_dump.specs.declared.format.Mode.{Mode}
 use Rattle.omf_dump.proofs.LibraryLaws.{any_more, texts_more}
 

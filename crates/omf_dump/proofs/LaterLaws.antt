@@ -5,21 +5,24 @@ use Rattle.std.proofs.lemmas.Bool.{leb-true}
 use Rattle.omf_frame.specs.Framing.{after_front, is_end, is_whole, record_len, stated_length}
 use Rattle.omf_frame.specs.Types.{type_of}
 use Rattle.omf_dump.specs.Inner.Later.{following}
-use Rattle.omf_dump.specs.Later.{front_kind, goes_on, is_listed, later_from, later_text, unjudged_text}
+use Rattle.omf_dump.specs.Later.{faulty_record, front_kind, goes_on, is_listed, kept_record, later_from, later_text, lost_by, lost_with, unjudged_text}
 use Rattle.omf_dump.specs.Library.{after_member}
-use Rattle.omf_dump.specs.declared.format.Format.{Format}
+use Rattle.omf_dump.specs.declared.format.Style.{Style}
+use Rattle.omf_dump.specs.declared.known.Known.{Known}
+use Rattle.omf_dump.specs.declared.lost.Lost.{Lost}
+use Rattle.omf_records.specs.Values.{Rec}
 use Rattle.std.specs.Prelude.{Option}
 use Rattle.std.specs.Io.KnownBytes.{Appends}
 use Rattle.std.proofs.KnownBytes.{Appends-nil, Appends-trans}
 use Rattle.std.proofs.lemmas.List.{append-nil}
-use Rattle.omf_dump.specs.Inner.Walking.{IsSent}
+use Rattle.omf_dump.specs.Inner.Walking.{Holds, IsSent}
 use Rattle.omf_dump.proofs.StreamLaws.{IsPart}
 
-by_true : {A : Type 0} (b : Bool) (x y : A) → b ≡ true → cond b x y ≡ x
+pub by_true : {A : Type 0} (b : Bool) (x y : A) → b ≡ true → cond b x y ≡ x
 by_true true x y e = refl
 by_true false x y e = absurd cc
 
-by_false : {A : Type 0} (b : Bool) (x y : A) → b ≡ false → cond b x y ≡ y
+pub by_false : {A : Type 0} (b : Bool) (x y : A) → b ≡ false → cond b x y ≡ y
 by_false true x y e = absurd cc
 by_false false x y e = refl
 
@@ -28,12 +31,12 @@ both true b e = e
 both false b e = absurd cc
 
 -- bytes that belong to the record before
-skipped : (f : Format) (number start n : ℕ) (bytes : List ℕ) → later_from f number start n bytes ≡ later_from f number (start + n) 0 (drop n bytes)
-skipped f number start zero bytes = let e : start ≡ start + 0 = omega arith in ap (λ (s : ℕ). later_from f number s 0 bytes) e
-skipped f number start (suc n) [] = refl
-skipped f number start (suc n) (b ∷ bytes) =
+skipped : (f : Style) (before : List Rec) (lost : Lost) (number start n : ℕ) (bytes : List ℕ) → later_from f before lost number start n bytes ≡ later_from f before lost number (start + n) 0 (drop n bytes)
+skipped f before lost number start zero bytes = let e : start ≡ start + 0 = omega arith in ap (λ (s : ℕ). later_from f before lost number s 0 bytes) e
+skipped f before lost number start (suc n) [] = refl
+skipped f before lost number start (suc n) (b ∷ bytes) =
     let e : start + 1 + n ≡ start + suc n = omega arith in
-    skipped f number (start + 1) n bytes ∙ ap (λ (s : ℕ). later_from f number s 0 (drop n bytes)) e
+    skipped f before lost number (start + 1) n bytes ∙ ap (λ (s : ℕ). later_from f before lost number s 0 (drop n bytes)) e
 
 -- a whole record fits
 pub listed_fits : (bytes : List ℕ) → is_listed bytes ≡ true → 3 + stated_length bytes ≤ length bytes
@@ -80,31 +83,36 @@ following_fits (t ∷ lo ∷ hi ∷ rest) e =
     let left = length-drop (lo + 256 * hi) rest in
     omega (arith, fits, most, left)
 
-ended : (f : Format) (number start : ℕ) (b : Bool) (more : List ℕ) (rest : List ℕ) → more ≡ later_from f number start 0 rest → cond b [] more ≡ later_from f number start 0 (cond b [] rest)
-ended f number start true more rest e = refl
-ended f number start false more rest e = e
+ended : (f : Style) (before : List Rec) (lost : Lost) (number start : ℕ) (b : Bool) (more : List ℕ) (rest : List ℕ) → more ≡ later_from f before lost number start 0 rest
+    → cond b [] more ≡ later_from f before lost number start 0 (cond b [] rest)
+ended f before lost number start true more rest e = refl
+ended f before lost number start false more rest e = e
 
 -- a record, and those that follow it
-pub next_later : (f : Format) (number start : ℕ) (bytes : List ℕ) → is_listed bytes ≡ true
-    → later_from f number start 0 bytes ≡ unjudged_text f number start bytes ++ later_from f (number + 1) (start + (3 + stated_length bytes)) 0 (following bytes)
-next_later f number start [] e = absurd cc
-next_later f number start (t ∷ []) e = let w = both (is_some (type_of t)) false e in absurd cc
-next_later f number start (t ∷ lo ∷ []) e = let w = both (is_some (type_of t)) false e in absurd cc
-next_later f number start (t ∷ lo ∷ hi ∷ rest) e =
+pub next_later : (f : Style) (before : List Rec) (lost : Lost) (number start : ℕ) (bytes : List ℕ) → is_listed bytes ≡ true
+    → later_from f before lost number start 0 bytes
+    ≡ unjudged_text f before lost number start bytes ++ later_from f (before ++ kept_record lost bytes ∷ []) (lost_by lost bytes) (number + 1) (start + (3 + stated_length bytes)) 0 (following bytes)
+next_later f before lost number start [] e = absurd cc
+next_later f before lost number start (t ∷ []) e = let w = both (is_some (type_of t)) false e in absurd cc
+next_later f before lost number start (t ∷ lo ∷ []) e = let w = both (is_some (type_of t)) false e in absurd cc
+next_later f before lost number start (t ∷ lo ∷ hi ∷ rest) e =
     let k : ℕ = lo + 256 * hi in
+    let all : List ℕ = t ∷ lo ∷ hi ∷ rest in
+    let kept : List Rec = before ++ kept_record lost all ∷ [] in
+    let gone : Lost = lost_by lost all in
     let size : 3 + k - 1 ≡ suc (suc k) = omega arith in
     let at : start + 1 + 1 + 1 + k ≡ start + (3 + k) = omega arith in
-    let more : later_from f (number + 1) (start + 1) (3 + k - 1) (lo ∷ hi ∷ rest) ≡ later_from f (number + 1) (start + (3 + k)) 0 (drop k rest) =
-    ap (λ (n : ℕ). later_from f (number + 1) (start + 1) n (lo ∷ hi ∷ rest)) size
-    ∙ skipped f (number + 1) (start + 1 + 1 + 1) k rest
-    ∙ ap (λ (s : ℕ). later_from f (number + 1) s 0 (drop k rest)) at in
-    by_true (is_listed (t ∷ lo ∷ hi ∷ rest)) _ [] e
-    ∙ ap (λ (x : List ℕ). unjudged_text f number start (t ∷ lo ∷ hi ∷ rest) ++ x) (ended f (number + 1) (start + (3 + k)) (is_end t) _ (drop k rest) more)
+    let more : later_from f kept gone (number + 1) (start + 1) (3 + k - 1) (lo ∷ hi ∷ rest) ≡ later_from f kept gone (number + 1) (start + (3 + k)) 0 (drop k rest) =
+    ap (λ (n : ℕ). later_from f kept gone (number + 1) (start + 1) n (lo ∷ hi ∷ rest)) size
+    ∙ skipped f kept gone (number + 1) (start + 1 + 1 + 1) k rest
+    ∙ ap (λ (s : ℕ). later_from f kept gone (number + 1) s 0 (drop k rest)) at in
+    by_true (is_listed all) _ [] e
+    ∙ ap (λ (x : List ℕ). unjudged_text f before lost number start all ++ x) (ended f kept gone (number + 1) (start + (3 + k)) (is_end t) _ (drop k rest) more)
 
 -- no record follows
-pub none_later : (f : Format) (number start : ℕ) (bytes : List ℕ) → is_listed bytes ≡ false → later_from f number start 0 bytes ≡ []
-none_later f number start [] e = refl
-none_later f number start (t ∷ bytes) e = by_false (is_listed (t ∷ bytes)) _ [] e
+pub none_later : (f : Style) (before : List Rec) (lost : Lost) (number start : ℕ) (bytes : List ℕ) → is_listed bytes ≡ false → later_from f before lost number start 0 bytes ≡ []
+none_later f before lost number start [] e = refl
+none_later f before lost number start (t ∷ bytes) e = by_false (is_listed (t ∷ bytes)) _ [] e
 
 -- ---- the text of these records goes out in pieces
 
@@ -141,15 +149,30 @@ both_left false b e = absurd cc
 pub goes_whole : (number : ℕ) (bytes : List ℕ) → goes_on number bytes ≡ true → 3 + stated_length bytes ≤ length bytes
 goes_whole number bytes e = whole_fits bytes (both_left (is_whole bytes) _ e)
 
-pub later_is : (f : Format) (number start : ℕ) (bytes : List ℕ) → goes_on number bytes ≡ true
-    → later_text f number start bytes ≡ later_from f (number + 1) (start + (3 + stated_length bytes)) 0 (drop (3 + stated_length bytes) bytes)
-later_is f number start bytes e =
+pub later_is : (f : Style) (before : List Rec) (number start : ℕ) (bytes : List ℕ) → goes_on number bytes ≡ true
+    → later_text f before number start bytes
+    ≡ later_from f (before ++ faulty_record bytes ∷ []) (lost_with bytes) (number + 1) (start + (3 + stated_length bytes)) 0 (drop (3 + stated_length bytes) bytes)
+later_is f before number start bytes e =
     let fits = goes_whole number bytes e in
     by_true (goes_on number bytes) _ [] e
-    ∙ ap₂ (λ (n : ℕ) (bs : List ℕ). later_from f (number + 1) (start + n) 0 bs) (record_len_is bytes fits) (sym (after_is bytes fits))
+    ∙ ap₂ (λ (n : ℕ) (bs : List ℕ). later_from f (before ++ faulty_record bytes ∷ []) (lost_with bytes) (number + 1) (start + n) 0 bs) (record_len_is bytes fits) (sym (after_is bytes fits))
 
-pub none_follows : (f : Format) (number start : ℕ) (bytes : List ℕ) → goes_on number bytes ≡ false → later_text f number start bytes ≡ []
-none_follows f number start bytes e = by_false (goes_on number bytes) _ [] e
+pub none_follows : (f : Style) (before : List Rec) (number start : ℕ) (bytes : List ℕ) → goes_on number bytes ≡ false → later_text f before number start bytes ≡ []
+none_follows f before number start bytes e = by_false (goes_on number bytes) _ [] e
+
+-- nothing more, and nothing was sent
+pub nothing_sent : (old : Option (List ℕ)) (text more : List ℕ) → more ≡ [] → IsSent old old (text ++ more) text
+nothing_sent old text more e = record {
+  front = [];
+  whole = ap (λ (t : List ℕ). text ++ t) e ∙ append-nil text;
+  written = Appends-nil old;
+}
+
+-- what is sent and kept of the records from one on, after these records
+pub record Follows (f : Style) (old now : Option (List ℕ)) (whole : List ℕ) (known : Known) (lost : Lost) (number start : ℕ) (left kept : List ℕ) : Type 0 where
+  pub before : List Rec
+  pub holds : Holds known before
+  pub sent : IsSent old now whole (kept ++ later_from f before lost number start 0 left)
 
 -- ---- the bytes after a member
 
@@ -176,11 +199,3 @@ front_shorter [] h = absurd (omega (arith, h))
 front_shorter (t ∷ []) h = omega arith
 front_shorter (t ∷ lo ∷ []) h = omega arith
 front_shorter (t ∷ lo ∷ hi ∷ rest) h = let left = length-drop (lo + 256 * hi) rest in omega (arith, left)
-
--- nothing follows, and nothing was sent
-pub nothing_sent : (old : Option (List ℕ)) (f : Format) (number start : ℕ) (text bytes : List ℕ) → goes_on number bytes ≡ false → IsSent old old (text ++ later_text f number start bytes) text
-nothing_sent old f number start text bytes e = record {
-  front = [];
-  whole = ap (λ (t : List ℕ). text ++ t) (none_follows f number start bytes e) ∙ append-nil text;
-  written = Appends-nil old;
-}

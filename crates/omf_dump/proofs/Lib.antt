@@ -16,4 +16,5 @@ pub mod RowLaws
 pub mod StreamLaws
 pub mod SubrecordLaws
 pub mod TextLaws
+pub mod UnjudgedLaws
 pub mod WalkLaws

@@ -1,10 +1,10 @@
 -- The lines of members, one after another.
-use Rattle.std.proofs.Common.{◌≡◌, ℕ, ◌+◌, ◌-◌, ◌<◌, ◌≤◌, arith, length, take, drop, get_or, List, [], ◌∷◌, ◌++◌, Bool, true, false, refl, sym, ap, ap₂, subst, ◌∙◌, append_assoc}
+use Rattle.std.proofs.Common.{◌≡◌, ℕ, ◌+◌, ◌-◌, ◌<◌, ◌≤◌, arith, length, take, drop, get_or, List, [], ◌∷◌, ◌++◌, Bool, true, false, refl, sym, ap, subst, ◌∙◌, append_assoc}
 use Rattle.std.specs.Prelude.{◌||◌, Option, Result}
 use Rattle.std.specs.Io.KnownBytes.{Appends}
 use Rattle.std.proofs.KnownBytes.{Appends-nil, Appends-trans}
 use Rattle.std.proofs.lemmas.List.{append-nil, take_all}
-use Rattle.omf_library.specs.Library.{HasHeader, page_size}
+use Rattle.omf_library.specs.Library.{page_size}
 use Rattle.omf_library.specs.Spans.{AreSpansIn}
 use Rattle.omf_library.specs.declared.spans.Span.{Span}
 use Rattle.omf_library.specs.declared.spans.SpanFault.{SpanFault}

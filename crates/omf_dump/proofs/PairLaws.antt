@@ -2,7 +2,7 @@
 use Rattle.std.proofs.Common.{◌≡◌, ℕ, ◌+◌, ◌-◌, ◌*◌, List, [], ◌∷◌, ◌++◌, drop, Bool, true, false, cond, refl, sym, ap, ap₂, ◌∙◌}
 use Rattle.std.specs.Prelude.{nat_lt, not, Option, Some, None, unwrap_or}
 use Rattle.omf_dump.specs.Comments.{front_index, pair_item, pair_items}
-use Rattle.omf_dump.specs.Fields.{Field, Item}
+use Rattle.omf_dump.specs.Fields.{Item}
 use Rattle.omf_dump.specs.Known.{Tables}
 use Rattle.omf_dump.specs.Render.{fields_text, item_end, item_start, items_text}
 use Rattle.omf_dump.specs.declared.format.Format.{Format}

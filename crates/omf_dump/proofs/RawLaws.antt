@@ -1,5 +1,5 @@
 -- The items of a record by its bytes alone, one after another.
-use Rattle.std.proofs.Common.{◌≡◌, ℕ, zero, suc, ◌+◌, ◌-◌, ◌<◌, ◌≤◌, List, [], ◌∷◌, ◌++◌, length, drop, Bool, true, false, refl, sym, ap, ap₂, ◌∙◌, arith}
+use Rattle.std.proofs.Common.{◌≡◌, ℕ, zero, suc, ◌+◌, ◌-◌, ◌<◌, List, [], ◌∷◌, ◌++◌, length, drop, Bool, false, refl, sym, ap, ap₂, ◌∙◌, arith}
 use Rattle.omf_frame.specs.declared.kinds.RecordType.{RecordType}
 use Rattle.omf_frame.specs.declared.kinds.Width.{Width}
 use Rattle.omf_dump.specs.Fields.{Item, item}

@@ -1,7 +1,7 @@
 -- A text that goes to a writer in pieces.
-use Rattle.std.proofs.Common.{◌≡◌, ℕ, List, [], ◌++◌, Result, Ok, Err, sym, ap, subst, ◌∙◌, append_assoc}
+use Rattle.std.proofs.Common.{◌≡◌, ℕ, List, [], ◌++◌, Result, Ok, Err, refl, sym, ap, subst, ◌∙◌, append_assoc}
 use Rattle.std.specs.Prelude.{Option}
-use Rattle.std.proofs.KnownBytes.{Appends-trans}
+use Rattle.std.proofs.KnownBytes.{Appends-nil, Appends-trans}
 use Rattle.std.specs.Io.KnownBytes.{Appends}
 use Rattle.omf_frame.specs.Bytes.{with_before}
 use Rattle.omf_frame.specs.Device.{Writes}
@@ -18,6 +18,10 @@ sent_on mid new front kept made shown left is s = append_assoc front s.front lef
 -- a front of the text is written
 abbrev pub IsPart : Option (List ℕ) → Option (List ℕ) → List ℕ → Type 0
 IsPart old new text = (front : List ℕ) × (back : List ℕ) × (text ≡ front ++ back) × Appends old new front
+
+-- nothing is written
+pub none_sent : (old : Option (List ℕ)) (text : List ℕ) → IsPart old old text
+none_sent old text = ([], text, refl, Appends-nil old)
 
 -- the walk ended while some of it was kept
 pub halted : (f : Style) (records : List Raw) (known : Known) (number start : ℕ) (left : List ℕ) (old new : Option (List ℕ)) (front kept : List ℕ) → Appends old new front

@@ -98,6 +98,17 @@ all_walked f records known number start left old now none w =
     no_records [] e = refl
     no_records (r ∷ rs) e = let sum : length (raw_bytes r ++ flat_map raw_bytes rs) ≡ length (raw_bytes r) + length (flat_map raw_bytes rs) = length-append (raw_bytes r) (flat_map raw_bytes rs) in absurd (omega (arith, e, sum))
 
+-- and what is kept is what all of them give
+pub all_held : (f : Style) (records : List Raw) (known : Known) (number start : ℕ) (left old now : List ℕ) → length left ≡ 0 → IsWalked f records known number start left old now → Holds known (recs records)
+all_held f records known number start left old now none w =
+    let empty : w.after ≡ [] = no_records w.after (sym (ap length w.spelled) ∙ none) in
+    let all : records ≡ w.before = w.all ∙ ap (λ (rs : List Raw). w.before ++ rs) empty ∙ append-nil w.before in
+    subst (λ (rs : List Raw). Holds known (recs rs)) (sym all) w.holds
+  where
+    no_records : (rs : List Raw) → length (flat_map raw_bytes rs) ≡ 0 → rs ≡ []
+    no_records [] e = refl
+    no_records (r ∷ rs) e = let sum : length (raw_bytes r ++ flat_map raw_bytes rs) ≡ length (raw_bytes r) + length (flat_map raw_bytes rs) = length-append (raw_bytes r) (flat_map raw_bytes rs) in absurd (omega (arith, e, sum))
+
 -- at the start
 pub walk_begins : (f : Style) (records : List Raw) (known : Known) (bytes old : List ℕ) → AreRecords bytes records → Holds known [] → IsWalked f records known 0 0 bytes old old
 walk_begins f records known bytes old are h = record { before = []; after = records; all = refl; spelled = are.spelled; number = refl; start = refl; holds = h; written = refl }

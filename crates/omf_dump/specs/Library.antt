@@ -9,7 +9,7 @@ use Rattle.omf_frame.specs.declared.fault.Reason.{Reason}
 use Rattle.omf_frame.specs.declared.kinds.Width.TheVariants.{Bits32}
 use Rattle.omf_image.specs.Limits.{profile_limits}
 use Rattle.omf_check.specs.Refusal.{IsRefused}
-use Rattle.omf_check.specs.WellFormed.{IsAccepted}
+use Rattle.omf_check.specs.WellFormed.{IsAccepted, recs}
 use Rattle.omf_library.specs.Library.{HasHeader, library_end, next_page, page_size}
 use Rattle.omf_dump.specs.Comments.{counted, name_before}
 use Rattle.omf_dump.specs.Dump.{dump_text}
@@ -27,7 +27,7 @@ use Rattle.omf_dump.specs.declared.spot.Spot.{Spot}
 abbrev pub IsModuleText : Mode → List ℕ → Bool → List ℕ → Type 0
 IsModuleText m input false text = (records : List Raw) × IsAccepted m.profile profile_limits input records × (text ≡ dump_text m.style records)
 IsModuleText m input true text = (why : Reason) × (at : Place) × (r : IsRefused m.profile profile_limits input why at)
-    × (text ≡ dump_text m.style r.before ++ refusal_text m.style.format at why (drop at.start input))
+    × (text ≡ dump_text m.style r.before ++ refusal_text m.style (recs r.before) at why (drop at.start input))
 
 -- The bytes after the member at the front, which ends at its first MODEND, by the lengths of its records alone. The first `skipped` bytes are
 -- those of the record before.

@@ -1,6 +1,6 @@
 -- The names of a module, a line each, in the order of its records (TIS OMF 1.1, "EXTDEF", "PUBDEF", "COMDEF", "COMENT" and the local forms of these; which kind a
 -- name is, and the text, are this profile's rules).
-use Rattle.std.specs.Prelude.{◌≡◌, ℕ, ◌+◌, ◌*◌, List, [], ◌∷◌, ◌++◌, length, map, flat_map, Bool, true, false, ◌==◌, Option, Some, None, option_and_then, option_to_list, eqb, codes, decimal, if◌then◌else◌}
+use Rattle.std.specs.Prelude.{◌≡◌, ℕ, ◌+◌, List, [], ◌∷◌, ◌++◌, length, map, flat_map, Bool, true, false, ◌==◌, Option, Some, None, option_to_list, eqb, codes, decimal, if◌then◌else◌}
 use Rattle.std.specs.List.{ends_with}
 use Rattle.omf_frame.specs.Bytes.{is_one_of}
 use Rattle.omf_frame.specs.Framing.{Raw}

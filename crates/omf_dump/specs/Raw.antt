@@ -10,7 +10,7 @@ use Rattle.omf_dump.specs.Fields.{Number, Hex, Word, Characters, Bytes, Named, M
 use Rattle.omf_dump.specs.Known.{Tables, name_entry, segment_entry, group_entry, external_entry}
 use Rattle.omf_dump.specs.Layouts.{head_steps, item_steps, row}
 use Rattle.omf_dump.specs.Render.{digits}
-use Rattle.omf_dump.specs.Words.{class_word, location_word, word_in}
+use Rattle.omf_dump.specs.Words.{class_word, library_end, location_word, word_in}
 use Rattle.omf_dump.specs.declared.step.Kind.{Kind}
 use Rattle.omf_dump.specs.declared.step.Kind.TheVariants as kind
 use Rattle.omf_dump.specs.declared.step.Step.{Step}
@@ -323,10 +323,14 @@ type_shown t w kind bytes = record {
   block = rest_block kind (3 + head_size w kind bytes) (drop (head_size w kind bytes) bytes);
 }
 
+-- The type with the fields of a record; the end of a library has none.
+abbrev pub fields_type : ℕ → Option RecordType
+fields_type kind = if kind == library_end then None else type_of kind
+
 -- All that is shown of contents that are not read. Contents of an unknown type are bytes.
 abbrev pub shown_if : Tables → Width → Option RecordType → List ℕ → Shown
 shown_if t w None bytes = with_block [] 3 bytes
 shown_if t w (Some kind) bytes = type_shown t w kind bytes
 
 abbrev pub raw_shown : Tables → ℕ → List ℕ → Shown
-raw_shown t kind bytes = shown_if t (width_of kind) (type_of kind) bytes
+raw_shown t kind bytes = shown_if t (width_of kind) (fields_type kind) bytes

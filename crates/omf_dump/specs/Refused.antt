@@ -5,6 +5,7 @@ use Rattle.omf_frame.specs.Framing.{present}
 use Rattle.omf_frame.specs.declared.kinds.Width.TheVariants.{Bits32}
 use Rattle.omf_frame.specs.declared.fault.Place.{Place}
 use Rattle.omf_frame.specs.declared.fault.Reason.{Reason}
+use Rattle.omf_records.specs.Values.{Rec}
 use Rattle.omf_library.specs.Library.{is_page_size, library_header, page_size}
 use Rattle.omf_dump.specs.Fields.{Number, Hex, Word, Characters, Field, field}
 use Rattle.omf_dump.specs.Later.{later_text}
@@ -12,6 +13,7 @@ use Rattle.omf_dump.specs.Looks.{is_foreign, looks_like}
 use Rattle.omf_dump.specs.Render.{bytes_block, digits, fields_text, kind_head, line_end, place_head, record_end, rows}
 use Rattle.omf_dump.specs.Words.{type_word}
 use Rattle.omf_dump.specs.declared.format.Format.{Format}
+use Rattle.omf_dump.specs.declared.format.Style.{Style}
 use Rattle.omf_dump.specs.declared.format.Format.TheVariants as format
 
 -- The byte at the fault, if it is present.
@@ -85,6 +87,6 @@ refused_line f at why rest = place_head f at.number at.start ++ (kind_if f rest
 abbrev pub refused_record : Format → Place → Reason → List ℕ → List ℕ
 refused_record f at why rest = refused_line f at why rest ++ (line_end f ++ (refused_bytes f at.within (present rest) ++ record_end f))
 
--- The record at fault, and then the records that follow it, unjudged.
-abbrev pub refusal_text : Format → Place → Reason → List ℕ → List ℕ
-refusal_text f at why rest = refused_record f at why rest ++ later_text f at.number at.start rest
+-- The record at fault, after these records, and then the records that follow it, unjudged.
+abbrev pub refusal_text : Style → List Rec → Place → Reason → List ℕ → List ℕ
+refusal_text style before at why rest = refused_record style.format at why rest ++ later_text style before at.number at.start rest

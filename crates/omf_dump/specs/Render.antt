@@ -1,5 +1,5 @@
 -- The two renderings of what is shown, text and JSON (this profile's rule).
-use Rattle.std.specs.Prelude.{ℕ, zero, suc, ◌+◌, ◌-◌, ◌*◌, ◌/◌, List, [], ◌∷◌, ◌++◌, length, flat_map, map, take, drop, replicate, Bool, true, false, Option, Some, None, ◌==◌, ◌&&◌, nat_le, nat_lt, codes, decimal, if◌then◌else◌}
+use Rattle.std.specs.Prelude.{ℕ, ◌+◌, ◌-◌, ◌*◌, ◌/◌, List, [], ◌∷◌, ◌++◌, length, flat_map, map, take, drop, replicate, Bool, true, false, Option, Some, None, ◌==◌, ◌&&◌, nat_le, nat_lt, codes, decimal, if◌then◌else◌}
 use Rattle.std.specs.List.{range_with_len}
 use Rattle.omf_frame.specs.Types.{width_bytes}
 use Rattle.omf_frame.specs.declared.kinds.Width.{Width}

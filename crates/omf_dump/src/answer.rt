@@ -1,23 +1,27 @@
 //! The dump of an input.
 
-ghost use Rattle.std.specs.Prelude.{◌≡◌, ◌<◌, ◌+◌, ◌^◌, ◌++◌, IfOk, drop, length};
+ghost use Rattle.std.specs.Prelude.{◌<◌, ◌+◌, ◌^◌, ◌++◌, IfOk, List, drop, length};
 ghost use Rattle.omf_frame.specs.Device.{Writes};
 ghost use Rattle.omf_image.specs.Limits.{profile_limits};
 ghost use Rattle.omf_check.specs.Module.{records_in};
 ghost use Rattle.omf_check.specs.Refusal.{IsRefused};
+ghost use Rattle.omf_check.specs.WellFormed.{recs};
 ghost use Rattle.omf_check.specs.declared.profile.Profile.{Profile};
+ghost use Rattle.omf_records.specs.Values.{Rec};
 ghost use Rattle.omf_dump.specs.Dump.{dump_text};
+ghost use Rattle.omf_dump.specs.Inner.Walking.{Holds};
 ghost use Rattle.omf_dump.specs.Library.{IsModuleText, IsShown, Shows};
 ghost use Rattle.omf_dump.specs.Refused.{refusal_text};
 
 use crate::fault::DumpFault;
 use crate::file::show_file;
-use crate::format::{Format, Mode, Style};
-use crate::later::put_later;
+use crate::format::{Mode, Style};
+use crate::known::Known;
+use crate::later::{Fault, put_later};
 use crate::library::show_library;
 use crate::output::send;
 use crate::refused::show_refusal;
-use crate::walk::dump;
+use crate::walk::{dump, nothing_known};
 use omf_check::{CheckFault, Checked, check};
 use omf_frame::{Bytes, Place, Reason, Sink};
 use omf_library::read_header;
@@ -33,26 +37,27 @@ fn dump_module<K: Sink>(
     ensures { Writes (K.seen writer.old).bytes (K.seen writer.new).bytes result (dump_text style (records_in checked.now.bytes)) }
 {
     let _count = checked.record_count();
-    dump(alloc, writer, style, checked.bytes())
+    let mut known = nothing_known(alloc);
+    dump(alloc, writer, style, &mut known, checked.bytes())
 }
 
-/// Writes the record at fault, and those after it.
-fn dump_fault<K: Sink>(
+/// Writes the record at fault, and those after it, by what the records before give.
+fn dump_fault<'a, K: Sink>(
     alloc: Global,
     writer: &mut K,
-    format: Format,
-    fault: (Reason, Place),
-    rest: &[u8],
+    style: Style,
+    known: Known<'a>,
+    fault: Fault<'a>,
 ) -> Result<(), DumpFault>
-    requires { fault.1.start + length rest.now < 2 ^ 63 }
-    ensures { Writes (K.seen writer.old).bytes (K.seen writer.new).bytes result (refusal_text format fault.1 fault.0 rest.now) }
+    requires { fault.place.start + length fault.rest.now < 2 ^ 63 }
+    ensures { (before : List Rec) → Holds known.entry before → Writes (K.seen writer.old).bytes (K.seen writer.new).bytes result (refusal_text style before fault.entry.place fault.entry.reason fault.entry.rest.now) }
 {
-    let (reason, place) = fault;
     let mut text = Vec::new(alloc);
-    let Ok(()) = show_refusal(&mut text, format, place, reason, rest) else {
+    let format = style.format;
+    let Ok(()) = show_refusal(&mut text, format, fault.place, fault.reason, fault.rest) else {
         return Err(DumpFault::Memory);
     };
-    put_later(writer, &mut text, format, place, rest)?;
+    put_later(writer, &mut text, style, known, fault)?;
     send(writer, &text)
 }
 
@@ -65,12 +70,18 @@ fn dump_refused<K: Sink>(
     fault: (Reason, Place),
 ) -> Result<(), DumpFault>
     requires { (profile : Profile) × IsRefused profile profile_limits input.now fault.0 fault.1 }
-    ensures { (profile : Profile) (r : IsRefused profile profile_limits input.now fault.0 fault.1) → Writes (K.seen writer.old).bytes (K.seen writer.new).bytes result (dump_text style r.before ++ refusal_text style.format fault.1 fault.0 (drop fault.1.start input.now)) }
+    ensures { (profile : Profile) (r : IsRefused profile profile_limits input.now fault.0 fault.1) → Writes (K.seen writer.old).bytes (K.seen writer.new).bytes result (dump_text style r.before ++ refusal_text style (recs r.before) fault.1 fault.0 (drop fault.1.start input.now)) }
 {
-    let (_reason, place) = fault;
+    let (reason, place) = fault;
     let (front, rest) = input.split_at(place.start as usize);
-    dump(alloc, writer, style, front)?;
-    dump_fault(alloc, writer, style.format, fault, rest)
+    let mut known = nothing_known(alloc);
+    dump(alloc, writer, style, &mut known, front)?;
+    let fault = Fault {
+        reason,
+        place,
+        rest,
+    };
+    dump_fault(alloc, writer, style, known, fault)
 }
 
 /// Writes what is shown of bytes as a module: each record of the module that they begin with; or, if they are refused, the records before the fault,

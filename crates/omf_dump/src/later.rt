@@ -1,23 +1,33 @@
-//! The records after a record at fault, by their framing alone.
+//! The record at fault and the records after it, as far as they can be read. They are not judged.
 
-ghost use Rattle.std.specs.Prelude.{◌≡◌, ◌≤◌, ◌<◌, ◌+◌, ◌-◌, ◌++◌, ◌^◌, codes, length, true};
+ghost use Rattle.std.specs.Prelude.{◌≡◌, ◌≤◌, ◌<◌, ◌+◌, ◌++◌, ◌∷◌, ◌^◌, IsTrue, List, OnOk, [], length, true};
 ghost use Rattle.omf_frame.specs.Bytes.{AddsText};
-ghost use Rattle.omf_frame.specs.Framing.{after_front, is_end, is_whole, record_len, stated_length};
-ghost use Rattle.omf_dump.specs.Inner.Later.{following};
-ghost use Rattle.omf_dump.specs.Inner.Walking.{Passes};
-ghost use Rattle.omf_dump.specs.Later.{front_kind, goes_on, is_listed, later_from, later_text, unjudged_fields, unjudged_text};
+ghost use Rattle.omf_frame.specs.Framing.{after_front, is_end, is_taken, is_whole, record_len, stated_length};
+ghost use Rattle.omf_frame.specs.Types.{type_of};
+ghost use Rattle.omf_records.specs.Inner.Reading.{contents_or, read_body};
+ghost use Rattle.omf_records.specs.Values.{Rec};
+ghost use Rattle.omf_dump.specs.Inner.Later.{following, unjudged_shown};
+ghost use Rattle.omf_dump.specs.Inner.Showing.{Keeps, shown_by};
+ghost use Rattle.omf_dump.specs.Inner.Walking.{Holds, Passes};
+ghost use Rattle.omf_dump.specs.Later.{body_of, checksum_at, checksum_if, front_kind, goes_on, has_data_if, is_listed, is_lost_if, is_plain, kept_contents, kept_record, later_from, later_text, lose_if, lost_after, lost_by, none_lost, stand_in, unjudged_contents, unjudged_head, unjudged_text};
 ghost use Rattle.omf_dump.specs.Library.{after_member};
-ghost use Rattle.omf_dump.specs.Render.{fields_text, head_text, line_end, record_end};
+ghost use Rattle.omf_dump.specs.Raw.{raw_shown};
+ghost use Rattle.omf_dump.specs.Render.{fields_text, head_text, shown_text};
 
-use crate::contents::put_length;
 use crate::fault::DumpFault;
-use crate::field::flag;
-use crate::format::Format;
-use crate::item::{close_record, end_fields, put_kind_head, put_number_head};
+use crate::field::{flag, small};
+use crate::format::{Format, Style};
+use crate::item::{put_kind_head, put_number_head};
+use crate::known::Known;
+use crate::library::front_contents;
 use crate::looks::is_foreign;
+use crate::lost::{Lost, has_data, is_lost, lose};
 use crate::output::send_piece;
 use crate::part::after;
-use omf_frame::{Place, RecordType, Sink, Width};
+use crate::raw::show_raw;
+use crate::record::show_contents;
+use omf_frame::{Place, RawRecord, Reason, RecordType, Sink, Width};
+use omf_records::view;
 use std::alloc::AllocError;
 
 /// Bytes of an input, with the number and the offset of the record that they begin with.
@@ -112,48 +122,256 @@ pub(crate) fn after_member(bytes: &[u8]) -> &[u8]
     left
 }
 
-/// The fields of a record that is not judged.
-fn put_unjudged_fields(text: &mut Vec<u8>, format: Format, length: usize) -> Result<(), AllocError>
-    ensures { AddsText result text.old.items text.new.items (fields_text format (unjudged_fields length)) }
+/// A record at fault, which is at the front of the bytes, and why.
+#[derive(Clone, Copy)]
+pub(crate) struct Fault<'a> {
+    pub reason: Reason,
+    pub place: Place,
+    pub rest: &'a [u8],
+}
+
+/// What the records so far give, and what they leave unknown.
+#[derive(Drop)]
+pub(crate) struct State<'a> {
+    pub known: Known<'a>,
+    pub lost: Lost,
+}
+
+impl Lost {
+    /// Nothing is lost.
+    pub(crate) fn none() -> Lost
+        ensures { result ≡ none_lost }
+    {
+        Lost {
+            names: false,
+            segments: false,
+            groups: false,
+            externals: false,
+            threads: false,
+        }
+    }
+}
+
+/// Whether records of a type go by something that is lost.
+fn is_lost_if(lost: Lost, kind: Option<RecordType>) -> bool
+    ensures { result ≡ is_lost_if lost kind }
 {
-    put_length(text, format, Width::Bits16, length as u64)?;
+    match kind {
+        Some(kind) => is_lost(lost, kind),
+        None => false,
+    }
+}
+
+/// What is lost after a record of a type that was not read.
+fn lose_if(lost: Lost, kind: Option<RecordType>) -> Lost
+    ensures { result ≡ lose_if lost kind }
+{
+    match kind {
+        Some(kind) => lose(lost, kind),
+        None => lost,
+    }
+}
+
+/// Whether a record of a type has data.
+fn has_data_if(kind: Option<RecordType>) -> bool
+    ensures { result ≡ has_data_if kind }
+{
+    match kind {
+        Some(kind) => has_data(kind),
+        None => false,
+    }
+}
+
+/// Whether a module may have records of this type.
+fn is_taken(kind: u8) -> bool
+    ensures { result ≡ is_taken kind }
+{
+    matches!(
+        kind,
+        0x80 | 0x82
+            | 0x88
+            | 0x8A
+            | 0x8B
+            | 0x8C
+            | 0x90
+            | 0x91
+            | 0x96
+            | 0x98
+            | 0x99
+            | 0x9A
+            | 0x9C
+            | 0x9D
+            | 0xA0
+            | 0xA1
+            | 0xA2
+            | 0xA3
+            | 0xB0
+            | 0xB4
+            | 0xB5
+            | 0xB6
+            | 0xB7
+            | 0xB8
+            | 0xCA
+            | 0x8E
+            | 0x94
+            | 0x95
+            | 0xC4
+            | 0xC5
+            | 0xC6
+            | 0xCC
+    )
+}
+
+/// Whether a module may have records of this type, and what these go by is known.
+fn is_plain(lost: Lost, kind: u8) -> bool
+    ensures { result ≡ is_plain lost kind }
+{
+    is_taken(kind) && !is_lost_if(lost, RecordType::of(kind))
+}
+
+/// Forgets what a record of this type would have given, which was not read.
+fn forget(state: &mut State<'_>, kind: u8, body: &[u8])
+    ensures keeps { Keeps state.old.known (stand_in kind body.now) state.new.known }
+    ensures lost { state.new.lost ≡ lose_if state.old.lost (type_of kind) }
+{
+    let kind = RecordType::of(kind);
+    if has_data_if(kind) {
+        state.known.fixed = None;
+    }
+    state.lost = lose_if(state.lost, kind);
+}
+
+/// The contents of a record by its bytes alone.
+fn show_opaque(
+    text: &mut Vec<u8>,
+    style: Style,
+    state: &mut State<'_>,
+    kind: u8,
+    body: &[u8],
+) -> Result<(), AllocError>
+    ensures text { AddsText result text.old.items text.new.items (shown_text style (raw_shown state.old.known.tables kind body.now)) }
+    ensures keeps { OnOk result (Keeps state.old.known (stand_in kind body.now) state.new.known) }
+    ensures lost { OnOk result (state.new.lost ≡ lose_if state.old.lost (type_of kind)) }
+{
+    show_raw(text, style, &state.known.tables, kind, body)?;
+    forget(state, kind, body);
+    Ok(())
+}
+
+/// The contents of a record of a type that a module may have, if its layout has no fault; else its fields by its bytes alone.
+fn show_plain<'a>(
+    text: &mut Vec<u8>,
+    style: Style,
+    state: &mut State<'a>,
+    raw: RawRecord<'a>,
+) -> Result<(), AllocError>
+    requires plain { is_plain state.old.lost raw.kind ≡ true }
+    requires taken { IsTrue (is_taken raw.kind) }
+    requires short { length raw.body.now ≤ 65534 }
+    ensures text { AddsText result text.old.items text.new.items (shown_text style (unjudged_shown state.old.known state.old.lost raw.entry.kind raw.entry.body.now)) }
+    ensures keeps { OnOk result (Keeps state.old.known (kept_contents state.old.lost raw.entry.kind raw.entry.body.now) state.new.known) }
+    ensures lost { OnOk result (state.new.lost ≡ lost_after state.old.lost raw.entry.kind raw.entry.body.now) }
+{
+    match view(raw) {
+        Ok(rec) => show_contents(text, style, &mut state.known, Width::of(raw.kind), &rec),
+        Err(_) => show_opaque(text, style, state, raw.kind, raw.body),
+    }
+}
+
+/// The contents of a record that is not judged. Keeps what they give later records.
+fn show_unjudged<'a>(
+    text: &mut Vec<u8>,
+    style: Style,
+    state: &mut State<'a>,
+    raw: RawRecord<'a>,
+) -> Result<(), AllocError>
+    requires { length raw.body.now ≤ 65534 }
+    ensures text { AddsText result text.old.items text.new.items (shown_text style (unjudged_shown state.old.known state.old.lost raw.entry.kind raw.entry.body.now)) }
+    ensures keeps { OnOk result (Keeps state.old.known (kept_contents state.old.lost raw.entry.kind raw.entry.body.now) state.new.known) }
+    ensures lost { OnOk result (state.new.lost ≡ lost_after state.old.lost raw.entry.kind raw.entry.body.now) }
+{
+    if is_plain(state.lost, raw.kind) {
+        show_plain(text, style, state, raw)
+    } else {
+        show_opaque(text, style, state, raw.kind, raw.body)
+    }
+}
+
+/// The checksum byte, if it is there.
+fn put_checksum(text: &mut Vec<u8>, format: Format, bytes: &[u8]) -> Result<(), AllocError>
+    ensures { AddsText result text.old.items text.new.items (fields_text format (checksum_at bytes.now)) }
+{
+    match bytes {
+        [] => Ok(()),
+        [sum, ..] => small(text, format, "checksum", *sum),
+    }
+}
+
+/// The checksum byte of the record at the front, if it is there.
+fn put_checksum_if(text: &mut Vec<u8>, format: Format, bytes: &[u8]) -> Result<(), AllocError>
+    ensures { AddsText result text.old.items text.new.items (fields_text format (checksum_if bytes.now)) }
+{
+    let length = stated_length(bytes);
+    if length == 0 {
+        return Ok(());
+    }
+    put_checksum(text, format, after(2 + length, bytes))
+}
+
+/// The head of a record that is not judged.
+fn put_unjudged_head(text: &mut Vec<u8>, format: Format, rest: Rest<'_>) -> Result<(), AllocError>
+    ensures { AddsText result text.old.items text.new.items (unjudged_head format rest.entry.number rest.entry.start rest.entry.bytes.now) }
+{
+    put_number_head(text, format, rest.number, rest.start)?;
+    put_kind_head(text, format, front_kind(rest.bytes))?;
+    put_checksum_if(text, format, rest.bytes)?;
     flag(text, format, "unjudged", true)
 }
 
-/// A record that is not judged.
-fn put_unjudged(
+/// A record that is not judged. Keeps what it gives later records.
+fn put_unjudged<'a>(
     text: &mut Vec<u8>,
-    format: Format,
-    number: u64,
-    start: u64,
-    bytes: &[u8],
+    style: Style,
+    state: &mut State<'a>,
+    rest: Rest<'a>,
 ) -> Result<(), AllocError>
-    ensures { AddsText result text.old.items text.new.items (unjudged_text format number start bytes.now) }
+    ensures text { (before : List Rec) → Holds state.old.known before → AddsText result text.old.items text.new.items (unjudged_text style before state.old.lost rest.entry.number rest.entry.start rest.entry.bytes.now) }
+    ensures holds { (before : List Rec) → Holds state.old.known before → OnOk result (Holds state.new.known (before ++ kept_record state.old.lost rest.entry.bytes.now ∷ [])) }
+    ensures lost { OnOk result (state.new.lost ≡ lost_by state.old.lost rest.entry.bytes.now) }
 {
-    put_number_head(text, format, number, start)?;
-    put_kind_head(text, format, front_kind(bytes))?;
-    put_unjudged_fields(text, format, stated_length(bytes).saturating_sub(1))?;
-    end_fields(text, format)?;
-    close_record(text, format)
+    let raw = RawRecord {
+        kind: front_kind(rest.bytes),
+        body: front_contents(rest.bytes),
+        number: 0,
+        start: 0,
+    };
+    put_unjudged_head(text, style.format, rest)?;
+    show_unjudged(text, style, state, raw)
 }
 
 /// Writes the records from an offset on, as far as they are whole and of known types, up to the first MODEND. The end of it is left in `text`.
 #[tactic(auto, using(crate::proofs::LaterLaws::listed_fits, crate::proofs::LaterLaws::following_fits))]
-fn put_from<K: Sink>(
+fn put_from<'a, K: Sink>(
     writer: &mut K,
     text: &mut Vec<u8>,
-    format: Format,
-    rest: Rest<'_>,
+    style: Style,
+    state: &mut State<'a>,
+    rest: Rest<'a>,
 ) -> Result<(), DumpFault>
     requires number { rest.number + length rest.bytes.now < 2 ^ 64 }
     requires start { rest.start + length rest.bytes.now < 2 ^ 64 }
-    ensures { Passes (K.seen writer.old).bytes (K.seen writer.new).bytes result (text.old.items ++ later_from format rest.entry.number rest.entry.start 0 rest.entry.bytes.now) text.new.items }
+    ensures { (before : List Rec) → Holds state.old.known before → Passes (K.seen writer.old).bytes (K.seen writer.new).bytes result (text.old.items ++ later_from style before state.old.lost rest.entry.number rest.entry.start 0 rest.entry.bytes.now) text.new.items }
 {
     let mut number = rest.number;
     let mut start = rest.start;
     let mut left = rest.bytes;
     while is_listed(left) {
-        let Ok(()) = put_unjudged(text, format, number, start, left) else {
+        let here = Rest {
+            number,
+            start,
+            bytes: left,
+        };
+        let Ok(()) = put_unjudged(text, style, state, here) else {
             return Err(DumpFault::Memory);
         };
         send_piece(writer, text)?;
@@ -171,18 +389,20 @@ fn goes_on(number: u32, bytes: &[u8]) -> bool
     is_whole(bytes) && !is_end(front_kind(bytes)) && !is_foreign(number, bytes)
 }
 
-/// Writes the records that follow the one at fault, which is at the front and has this number and offset. The end of it is left in `text`.
-#[tactic(auto, using(crate::proofs::LaterLaws::goes_whole, crate::proofs::LaterLaws::later_is, crate::proofs::LaterLaws::nothing_sent))]
-pub(crate) fn put_later<K: Sink>(
+/// Writes the records that follow the one at fault, which is at the front of `bytes` and has this place. The end of it is left in `text`.
+#[tactic(auto, using(crate::proofs::LaterLaws::goes_whole))]
+pub(crate) fn put_later<'a, K: Sink>(
     writer: &mut K,
     text: &mut Vec<u8>,
-    format: Format,
-    place: Place,
-    bytes: &[u8],
+    style: Style,
+    known: Known<'a>,
+    fault: Fault<'a>,
 ) -> Result<(), DumpFault>
-    requires { place.start + length bytes.now < 2 ^ 63 }
-    ensures { Passes (K.seen writer.old).bytes (K.seen writer.new).bytes result (text.old.items ++ later_text format place.number place.start bytes.now) text.new.items }
+    requires { fault.place.start + length fault.rest.now < 2 ^ 63 }
+    ensures { (before : List Rec) → Holds known.entry before → Passes (K.seen writer.old).bytes (K.seen writer.new).bytes result (text.old.items ++ later_text style before fault.entry.place.number fault.entry.place.start fault.entry.rest.now) text.new.items }
 {
+    let place = fault.place;
+    let bytes = fault.rest;
     if !goes_on(place.number, bytes) {
         return Ok(());
     }
@@ -192,5 +412,10 @@ pub(crate) fn put_later<K: Sink>(
         start: place.start + size as u64,
         bytes: bytes.split_at(size).1,
     };
-    put_from(writer, text, format, rest)
+    let mut state = State {
+        known,
+        lost: Lost::none(),
+    };
+    forget(&mut state, front_kind(bytes), front_contents(bytes));
+    put_from(writer, text, style, &mut state, rest)
 }

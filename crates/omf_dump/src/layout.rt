@@ -29,6 +29,7 @@ pub(crate) fn name(step: Step) -> &'static str
         Step::Class | Step::CommentClass => "class",
         Step::Overlay => "overlay",
         Step::TypeIndex => "type",
+        Step::HeadType => "type-index",
         Step::Line => "line",
         Step::Vendor => "vendor",
         Step::Value => "value",
@@ -81,7 +82,7 @@ pub(crate) fn kind(step: Step) -> Kind
             Kind::Counted,
         Step::Version => Kind::Version,
         Step::NameIndex | Step::Class | Step::Overlay | Step::PublicIndex => Kind::Name,
-        Step::TypeIndex | Step::ElementType => Kind::Type,
+        Step::TypeIndex | Step::HeadType | Step::ElementType => Kind::Type,
         Step::Line | Step::Vendor | Step::DictionaryBlocks => Kind::Decimal,
         Step::Offset | Step::Value | Step::Length | Step::Displacement => Kind::Wide,
         Step::Dictionary => Kind::Long,
@@ -126,6 +127,7 @@ pub(crate) fn when(step: Step) -> When
         | Step::Overlay
         | Step::PublicIndex
         | Step::TypeIndex
+        | Step::HeadType
         | Step::Line
         | Step::Vendor
         | Step::Offset
@@ -208,7 +210,7 @@ pub(crate) fn head_steps(kind: RecordType) -> &'static [Step]
             Step::Selection,
             Step::ComdatAlign,
             Step::Offset,
-            Step::TypeIndex,
+            Step::HeadType,
             Step::ExplicitGroup,
             Step::ExplicitSegment,
             Step::Frame,

@@ -35,7 +35,8 @@ fn next_page(page: usize, at: usize) -> usize
 
 /// The contents of the record at the front, as far as they are present.
 pub(crate) fn front_contents(bytes: &[u8]) -> &[u8]
-    ensures { result.now ≡ (front_record bytes.now).body }
+    ensures value { result.now ≡ (front_record bytes.now).body }
+    ensures short { length result.now ≤ 65534 }
 {
     match bytes {
         [_, low, high, rest @ ..] => {

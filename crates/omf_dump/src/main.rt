@@ -29,6 +29,7 @@ mod layout;
 mod library;
 mod listing;
 mod looks;
+mod lost;
 mod naming;
 mod options;
 mod output;

@@ -2,7 +2,7 @@
 
 ghost use Rattle.std.specs.Prelude.{◌≡◌, ◌+◌, ◌-◌, ◌++◌, ◌≤◌, ◌<◌, ◌^◌, [], IfOk, None, Some, length, true};
 ghost use Rattle.omf_frame.specs.Bytes.{AddsText};
-ghost use Rattle.omf_dump.specs.Raw.{cut_fields, fix_frame, fix_target, has_blocks, has_bytes, head_fields, head_size, item_fields, item_size, items_from, left_if, raw_shown, rest_block, rest_items, step_fields, steps_fields, steps_size, type_shown, value_fields};
+ghost use Rattle.omf_dump.specs.Raw.{cut_fields, fields_type, fix_frame, fix_target, has_blocks, has_bytes, head_fields, head_size, item_fields, item_size, items_from, left_if, raw_shown, rest_block, rest_items, step_fields, steps_fields, steps_size, type_shown, value_fields};
 ghost use Rattle.omf_dump.specs.Blocks.{blocks_from};
 ghost use Rattle.omf_dump.specs.Render.{closing, fields_text, items_text, shown_text};
 
@@ -328,6 +328,19 @@ fn show_type(
     put_rest(text, view, kind, 3 + size as u64, after(size, value))
 }
 
+/// The end of a library.
+const LIBRARY_END: u8 = 0xF1;
+
+/// The type with the fields of a record; the end of a library has none.
+fn fields_type(kind: u8) -> Option<RecordType>
+    ensures { result ≡ fields_type kind }
+{
+    if kind == LIBRARY_END {
+        return None;
+    }
+    RecordType::of(kind)
+}
+
 /// A record with this type byte, by its bytes alone.
 pub(crate) fn show_raw(
     text: &mut Vec<u8>,
@@ -343,7 +356,7 @@ pub(crate) fn show_raw(
         width: Width::of(kind),
         tables,
     };
-    match RecordType::of(kind) {
+    match fields_type(kind) {
         Some(kind) => show_type(text, &view, kind, value),
         None => close_block(text, style, 3, value),
     }

@@ -229,7 +229,7 @@ fn show_start(
 }
 
 /// The contents of a record, 32-bit or 16-bit. Keeps what they give later records.
-fn show_contents<'a>(
+pub(crate) fn show_contents<'a>(
     text: &mut Vec<u8>,
     style: Style,
     known: &mut Known<'a>,

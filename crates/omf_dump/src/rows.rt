@@ -33,10 +33,10 @@ pub fn left_out_bytes()
 
 /// Records at fault: a wrong checksum and the records after it, no record, a file that is no module.
 pub fn refusals()
-    ensures checksum { refusal_text format.Text (place 3 23 10) reason.Checksum (drop 23 wrong_checksum) ≡ lines (codes "3 00000017 A0 LEDATA  refused 6  reason Checksum  within 10  byte 10  meaning \"the record's checksum is wrong\"" ∷ codes "    00000000 A0 08 00 01 00 00 B8 00 00 90 10                 ..........." ∷ codes "                                           ^^ +10" ∷ codes "4 00000022 9C FIXUPP  length 0005  unjudged" ∷ codes "5 0000002B 8A MODEND  length 0001  unjudged" ∷ []) }
-    ensures end { refusal_text format.Text (place 1 6 0) reason.NoEnd [] ≡ lines (codes "1 00000006  refused 1  reason NoEnd  within 0  meaning \"the input ends before a MODEND\"" ∷ []) }
-    ensures empty { refusal_text format.Json (place 0 0 0) reason.NoEnd [] ≡ lines (codes "{\"number\":0,\"start\":0,\"refused\":1,\"reason\":\"NoEnd\",\"within\":0,\"meaning\":\"the input ends before a MODEND\",\"looks-like\":\"an empty file\",\"data\":\"\"}" ∷ []) }
-    ensures program { refusal_text format.Text (place 0 0 0) reason.UnknownType (0x4D ∷ 0x5A ∷ []) ≡ lines (codes "0 00000000 4D   refused 3  reason UnknownType  within 0  byte 4D  meaning \"the record's type is unknown\"  looks-like \"a program (MZ)\"" ∷ codes "    00000000 4D 5A                                            MZ" ∷ codes "             ^^ +0" ∷ []) }
+    ensures checksum { refusal_text text [] (place 3 23 10) reason.Checksum (drop 23 wrong_checksum) ≡ lines (codes "3 00000017 A0 LEDATA  refused 6  reason Checksum  within 10  byte 10  meaning \"the record's checksum is wrong\"" ∷ codes "    00000000 A0 08 00 01 00 00 B8 00 00 90 10                 ..........." ∷ codes "                                           ^^ +10" ∷ codes "4 00000022 9C FIXUPP  checksum 93  unjudged" ∷ codes "    +3  at 0001  bytes []  location offset16  target segment 1  frame segment 1" ∷ codes "5 0000002B 8A MODEND  checksum 74  unjudged  flags 00" ∷ []) }
+    ensures end { refusal_text text [] (place 1 6 0) reason.NoEnd [] ≡ lines (codes "1 00000006  refused 1  reason NoEnd  within 0  meaning \"the input ends before a MODEND\"" ∷ []) }
+    ensures empty { refusal_text json [] (place 0 0 0) reason.NoEnd [] ≡ lines (codes "{\"number\":0,\"start\":0,\"refused\":1,\"reason\":\"NoEnd\",\"within\":0,\"meaning\":\"the input ends before a MODEND\",\"looks-like\":\"an empty file\",\"data\":\"\"}" ∷ []) }
+    ensures program { refusal_text text [] (place 0 0 0) reason.UnknownType (0x4D ∷ 0x5A ∷ []) ≡ lines (codes "0 00000000 4D   refused 3  reason UnknownType  within 0  byte 4D  meaning \"the record's type is unknown\"  looks-like \"a program (MZ)\"" ∷ codes "    00000000 4D 5A                                            MZ" ∷ codes "             ^^ +0" ∷ []) }
 {}
 
 /// What files look like.

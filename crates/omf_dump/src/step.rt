@@ -94,6 +94,7 @@ pub enum Step {
     Overlay,
     PublicIndex,
     TypeIndex,
+    HeadType,
     Line,
     Vendor,
     Offset,

@@ -1,9 +1,10 @@
 //! The records of a module one after another.
 
-ghost use Rattle.std.specs.Prelude.{◌≡◌, ◌++◌, [], List};
+ghost use Rattle.std.specs.Prelude.{◌≡◌, [], List, OnOk};
 ghost use Rattle.omf_frame.specs.Device.{Writes};
 ghost use Rattle.omf_frame.specs.Framing.{Raw, front_record, present};
 ghost use Rattle.omf_check.specs.Listed.{StartsWithRecord};
+ghost use Rattle.omf_check.specs.WellFormed.{recs};
 ghost use Rattle.omf_dump.specs.Dump.{AreRecords, dump_text};
 ghost use Rattle.omf_dump.specs.Inner.Walking.{Holds, Passes};
 
@@ -41,7 +42,8 @@ fn show_records<'a, K: Sink>(
     requires records { (records : List Raw) × AreRecords bytes.now records }
     requires start { Holds known.old [] }
     requires empty { text.old.items ≡ [] }
-    ensures { (records : List Raw) → AreRecords bytes.entry.now records → Passes (K.seen writer.old).bytes (K.seen writer.new).bytes result (dump_text style records) text.new.items }
+    ensures text { (records : List Raw) → AreRecords bytes.entry.now records → Passes (K.seen writer.old).bytes (K.seen writer.new).bytes result (dump_text style records) text.new.items }
+    ensures holds { (records : List Raw) → AreRecords bytes.entry.now records → OnOk result (Holds known.new (recs records)) }
 {
     let mut left = bytes;
     let mut number: u32 = 0;
@@ -65,26 +67,35 @@ fn show_records<'a, K: Sink>(
     Ok(())
 }
 
-/// Writes what is shown of the records of `bytes`, in order, none left out.
+/// What no records give.
+pub(crate) fn nothing_known<'a>(alloc: Global) -> Known<'a>
+    ensures { Holds result [] }
+{
+    Known {
+        tables: Tables::new(alloc),
+        threads: Threads::new(),
+        fixed: None,
+    }
+}
+
+/// Writes what is shown of the records of `bytes`, in order, none left out. Keeps what they give later records.
 ///
 /// # Errors
 ///
 /// `Memory` if memory ran out, `Write` if the writer failed. What is written is then a beginning of the text.
-pub fn dump<K: Sink>(
+pub fn dump<'a, K: Sink>(
     alloc: Global,
     writer: &mut K,
     style: Style,
-    bytes: &[u8],
+    known: &mut Known<'a>,
+    bytes: &'a [u8],
 ) -> Result<(), DumpFault>
-    requires { (records : List Raw) × AreRecords bytes.now records }
-    ensures { (records : List Raw) → AreRecords bytes.now records → Writes (K.seen writer.old).bytes (K.seen writer.new).bytes result (dump_text style records) }
+    requires records { (records : List Raw) × AreRecords bytes.now records }
+    requires start { Holds known.old [] }
+    ensures text { (records : List Raw) → AreRecords bytes.entry.now records → Writes (K.seen writer.old).bytes (K.seen writer.new).bytes result (dump_text style records) }
+    ensures holds { (records : List Raw) → AreRecords bytes.entry.now records → OnOk result (Holds known.new (recs records)) }
 {
-    let mut known = Known {
-        tables: Tables::new(alloc),
-        threads: Threads::new(),
-        fixed: None,
-    };
     let mut text = Vec::new(alloc);
-    show_records(writer, &mut text, style, &mut known, bytes)?;
+    show_records(writer, &mut text, style, known, bytes)?;
     send(writer, &text)
 }

@@ -1,12 +1,15 @@
-use Rattle.std.proofs.Common.{◌≡◌, ◌+◌, ◌≤◌, ◌++◌, length}
-use Rattle.omf_dump.specs.Inner.Walking.{IsSent}
+use Rattle.std.proofs.Common.{◌+◌, ◌≤◌, ◌++◌, List, length}
+use Rattle.omf_records.specs.Values.{Rec}
+use Rattle.omf_dump.specs.Inner.Walking.{Holds}
 use Rattle.omf_dump.specs.Later.{later_from}
+use Rattle.omf_dump.proofs.LaterLaws.{Follows}
 use Rattle.omf_dump.proofs.later.put_from.Given as goal
 
 -- what is kept, and the records that are left, are the rest of the text
 abbrev pub invariant-loop-left : goal.invariant-loop-left
 invariant-loop-left g l = record {
-  streamed : IsSent (g.K.Sink.seen l.initial.writer).bytes (g.K.Sink.seen l.writer).bytes (l.initial.text.items ++ later_from l.format l.rest.number l.rest.start 0 l.rest.bytes.now) (l.text.items ++ later_from l.format l.number l.start 0 l.left);
+  streamed : (before : List Rec) → Holds l.initial.state.known before → Follows l.style (g.K.Sink.seen l.initial.writer).bytes (g.K.Sink.seen l.writer).bytes
+      (l.initial.text.items ++ later_from l.style before l.initial.state.lost l.rest.number l.rest.start 0 l.rest.bytes.now) l.state.known l.state.lost l.number l.start l.left l.text.items;
   count : l.number + length l.left ≤ l.rest.number + length l.rest.bytes.now;
   ends : l.start + length l.left ≤ l.rest.start + length l.rest.bytes.now;
 }

@@ -1,5 +1,5 @@
-use Rattle.std.proofs.Common.{◌≡◌, ◌+◌, length, ap, arith}
-use Rattle.omf_dump.proofs.ListingLaws.{all_left, empty, front, last_turn, turn}
+use Rattle.std.proofs.Common.{length, ap, arith}
+use Rattle.omf_dump.proofs.ListingLaws.{empty, front, last_turn, turn}
 use Rattle.omf_dump.proofs.listing.show_members.Goals as goal
 
 pub loop-rest-preserved : goal.loop-rest-preserved

@@ -1,4 +1,4 @@
-use Rattle.std.proofs.Common.{List, ℕ, ◌∙◌, ◌+◌, ◌++◌, ap, subst, arith}
+use Rattle.std.proofs.Common.{List, ℕ, ◌∙◌, ◌+◌, ap, subst, arith}
 use Rattle.std.specs.Io.KnownBytes.{Appends}
 use Rattle.omf_dump.specs.Names.{row_line}
 use Rattle.omf_dump.proofs.NamingLaws.{counted_more, counted_none, has_room, left_of, written_all, written_more, written_none}

@@ -1,4 +1,3 @@
-use Rattle.std.specs.Prelude.{List}
 use Rattle.omf_dump.specs.Names.{row_line}
 use Rattle.omf_dump.proofs.NamingLaws.{AreCounted, AreWritten}
 use Rattle.omf_dump.proofs.naming.show_rows.Given as goal

@@ -1,11 +1,11 @@
-use Rattle.std.proofs.Common.{◌≡◌, ℕ, ◌+◌, ◌<◌, List, [], ◌++◌, length, sym, subst, ap, ◌∙◌, arith, append_assoc}
+use Rattle.std.proofs.Common.{◌≡◌, ℕ, ◌<◌, List, [], ◌++◌, length, sym, subst, ap, ◌∙◌, arith, append_assoc}
 use Rattle.std.proofs.KnownBytes.{Appends-nil, Appends-trans}
 use Rattle.std.proofs.lemmas.Bool.Decides.{nat_tests}
 use Rattle.std.proofs.lemmas.Result.{err_from_is_err_and}
 use Rattle.omf_check.proofs.ListedLaws.{front_short, front_taken}
 use Rattle.omf_dump.specs.Inner.Walking.{IsWalked}
 use Rattle.omf_dump.proofs.StreamLaws.{halted, sent_on, stopped}
-use Rattle.omf_dump.proofs.WalkLaws.{all_walked, begins, counted, moved_on, next_of, rest_is, shown_next, walk_begins}
+use Rattle.omf_dump.proofs.WalkLaws.{all_held, all_walked, begins, counted, moved_on, next_of, rest_is, shown_next, walk_begins}
 use Rattle.omf_dump.proofs.walk.show_records.Goals as goal
 
 pub loop-left-init : goal.loop-left-init
@@ -55,12 +55,12 @@ overflow_add-number g c =
     let few = counted c.args.style c.args.bytes.now records c.loop-left.known c.loop-left.number c.loop-left.start c.loop-left.left.now [] (c.loop-left.invariant.streamed.front ++ c.loop-left.text.items) are n in
     omega arith
 
-pub returns-in_default : goal.returns-in_default
-returns-in_default g c = λ records are. halted c.args.style records c.loop-left.known c.loop-left.number c.loop-left.start c.loop-left.left.now (g.K.Sink.seen c.args.writer.now).bytes (g.K.Sink.seen c.loop-left.writer).bytes
+pub returns-in_default-clause-text : goal.returns-in_default-clause-text
+returns-in_default-clause-text g c = λ records are. halted c.args.style records c.loop-left.known c.loop-left.number c.loop-left.start c.loop-left.left.now (g.K.Sink.seen c.args.writer.now).bytes (g.K.Sink.seen c.loop-left.writer).bytes
     c.loop-left.invariant.streamed.front c.loop-left.text.items c.loop-left.invariant.streamed.written (c.loop-left.invariant.streamed.walked records are)
 
-pub returns-in_err-send_piece : goal.returns-in_err-send_piece
-returns-in_err-send_piece g c = λ records are.
+pub returns-in_err-send_piece-clause-text : goal.returns-in_err-send_piece-clause-text
+returns-in_err-send_piece-clause-text g c = λ records are.
     let some : 0 < length c.loop-left.left.now = grind (arith, nat_tests) in
     let p = err_from_is_err_and c.from_residual.result c.from_residual.ensures.1 in
     let front = c.loop-left.invariant.streamed.front in
@@ -105,10 +105,14 @@ loop-left-smaller g c =
     let rest = c.split_record.ensures.rest ∙ rest_is c.args.style records c.loop-left.known c.loop-left.number c.loop-left.start c.loop-left.left.now [] (c.loop-left.invariant.streamed.front ++ c.loop-left.text.items) n in
     (moved_on c.loop-left.left.now c.split_record.result.1.now n.one n.after n.spelled rest).0
 
-pub returns : goal.returns
-returns g c = λ records are. record {
+pub returns-clause-text : goal.returns-clause-text
+returns-clause-text g c = λ records are. record {
   front = c.loop-left.invariant.streamed.front;
   whole = sym (all_walked c.args.style records c.loop-left.known c.loop-left.number c.loop-left.start c.loop-left.left.now [] (c.loop-left.invariant.streamed.front ++ c.loop-left.text.items) (grind (arith, nat_tests))
       (c.loop-left.invariant.streamed.walked records are));
   written = c.loop-left.invariant.streamed.written;
 }
+
+pub returns-clause-holds : goal.returns-clause-holds
+returns-clause-holds g c = λ records are.
+    all_held c.args.style records c.loop-left.known c.loop-left.number c.loop-left.start c.loop-left.left.now [] (c.loop-left.invariant.streamed.front ++ c.loop-left.text.items) (grind (arith, nat_tests)) (c.loop-left.invariant.streamed.walked records are)
