@@ -25,6 +25,10 @@ TEXTS = {
     "bin.rsp": "bin --base 7C00\n--size\t200 -t 'program.link'\r\n\"start.obj\" say.obj mark.obj", "marked.link": 'M "start.asm"\nS "text" 0x7C00 0X0 00H\n', "front.rsp": b"\xEF\xBB\xBFbin --base 7C00 --size 200 -t program.link start.obj say.obj mark.obj", "wrong.rsp": "--base 7G00", "dash.rsp": "--verdict -- -x.obj",
 }
 
+# Files of two modules, and one with something else after a module.
+SAY = (ROOT / "examples/link/say.obj").read_bytes()
+TEXTS |= {"twice.obj": SAY + bytes(3) + SAY, "second.obj": SAY + (ROOT / "examples/reasons/06-Checksum.omf").read_bytes(), "tail.obj": SAY + b"\x1A\x1Aend"}
+
 # The text of examples/link, with one part of "shared" in another frame.
 TEXTS["frames.link"] = 'S "shared" 7C9E 7C80 7C8'.join((ROOT / "examples/link/program.link").read_text(encoding="utf-8").rsplit('S "shared" 7C9E 7C90 7C9', 1))
 

@@ -7,11 +7,12 @@ use crate::members::{Verdict, judge};
 use crate::names::is_same_name;
 use crate::shown::{Stop, Told, send_bytes};
 use crate::text::put_reason;
-use omf_check::Profile;
+use omf_check::{Checked, Profile};
 use omf_frame::Sink;
 use omf_host::{Status, Written, put_name, put_quoted, read_input, write_new};
 use omf_library::{Defined, Kind, MakeFault, Part, make};
-use std::alloc::AllocError;
+use omf_linking::{LinkFault, file_modules};
+use std::alloc::{AllocError, Global};
 use std::fmt::Write;
 
 /// The first byte of a library.
@@ -77,7 +78,77 @@ fn push_library(
     }
 }
 
-/// Appends the module of a file, or the members of a library; or a line, if it is neither or could not be read.
+/// Returns what a module of a file is called: the file's name; with the module's number, from 1, if the file has several.
+fn module_name(alloc: Global, file: &str, number: Option<usize>) -> Result<String, AllocError> {
+    match number {
+        Some(before) => {
+            let number = usize::saturating_add(before, 1);
+            format!(in alloc; "{file} module {number}")
+        }
+        None => format!(in alloc; "{file}"),
+    }
+}
+
+/// Appends the modules of a file.
+fn push_all(
+    alloc: Global,
+    given: &mut Given,
+    file: &str,
+    modules: &[Checked],
+) -> Result<(), AllocError> {
+    let is_one = modules.len() == 1;
+    for (before, module) in modules.iter().enumerate() {
+        let number = if is_one { None } else { Some(before) };
+        given.parts.push(Part::new(alloc, module)?)?;
+        given.names.push(module_name(alloc, file, number)?)?;
+    }
+    Ok(())
+}
+
+/// Appends the line of a module of a file that is refused: its number, from 0.
+fn put_refused_in(
+    told: &mut Told<'_>,
+    file: &str,
+    module: u32,
+    why: &Verdict,
+) -> Result<(), AllocError> {
+    let alloc = *told.faults.allocator();
+    let number = if module == 0 {
+        None
+    } else {
+        Some(module as usize)
+    };
+    let name = module_name(alloc, file, number)?;
+    put_refused(told, name.as_str(), why)
+}
+
+/// Appends the modules of a file; or a line, if one of them is refused, or something else than padding is left after them.
+fn push_modules(
+    told: &mut Told<'_>,
+    given: &mut Given,
+    profile: Profile,
+    file: &str,
+    bytes: &[u8],
+) -> Result<(), AllocError> {
+    let alloc = *told.faults.allocator();
+    match file_modules(alloc, profile, bytes) {
+        Ok(modules) => push_all(alloc, given, file, modules.as_slice()),
+        Err(
+            LinkFault::Refused {
+                module,
+                reason,
+                place,
+            },
+        ) => put_refused_in(told, file, module, &Verdict::Refused { reason, place }),
+        Err(LinkFault::NoText(at)) => {
+            let why = format!(in alloc; "neither a module nor padding at {at}")?;
+            told.refuse(file, why.as_str())
+        }
+        Err(_) => Err(AllocError),
+    }
+}
+
+/// Appends the modules of a file, or the members of a library; or a line, if it is neither or could not be read.
 fn push_file(
     rt: &HostRuntime,
     told: &mut Told<'_>,
@@ -92,8 +163,7 @@ fn push_file(
     if bytes.first() == Some(&LIBRARY_HEADER) {
         return push_library(told, given, profile, name, &bytes);
     }
-    let name = format!(in rt.alloc(); "{name}")?;
-    push_module(told, given, profile, name, &bytes)
+    push_modules(told, given, profile, name, &bytes)
 }
 
 /// Appends the name of a part.
