@@ -58,6 +58,8 @@ told_alone ms at line why.NoModule read known = refl
 told_alone ms at line why.Unknown read known = absurd (known refl)
 told_alone ms at line why.Several read known = refl
 told_alone ms at line why.Twice read known = refl
+told_alone ms at line why.NothingBefore read known = refl
+told_alone ms at line why.NoRoom read known = refl
 told_alone ms at line why.Unshared read known = refl
 
 -- ---- the bytes of lines

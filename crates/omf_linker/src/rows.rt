@@ -78,7 +78,7 @@ pub fn near_names()
 /// The lines of a fault of a line of a text. What is wrong with it follows from the line, and from the `M` line before it.
 pub fn text_fault_lines()
     ensures number { text_lines [] (codes "M \"A\"\nS \"T\" 1G 0 0\n") 2 why.NotUnderstood ≡ codes "line 2: expected S KEY ADDRESS (BASE SELECTOR|real|shared) [at STORED]\n  S \"T\" 1G 0 0\n" }
-    ensures letter { text_lines [] (codes "Q\r\n") 1 why.NotUnderstood ≡ codes "line 1: expected M, S, G, X or ;\n  Q\n" }
+    ensures letter { text_lines [] (codes "Q\r\n") 1 why.NotUnderstood ≡ codes "line 1: expected M, S, G, X, C, P, F or ;\n  Q\n" }
     ensures foreign { text_lines [] (codes "M \"" ++ 0x84 ∷ codes "\"") 1 why.NotUnderstood ≡ codes "line 1: a byte that is not ASCII\n  M \"\\x84\"\n" }
     ensures before { text_lines [] (codes "S \"T\" 0 0 0") 1 why.NoModule ≡ codes "line 1: no M line before it for segment \"T\"\n  S \"T\" 0 0 0\n" }
     ensures unknown { text_lines [] (codes "; one\nM \"A\"\nG \"D\" real\n") 3 why.Unknown ≡ codes "line 3: no group \"D\" in module \"A\"\n  G \"D\" real\n" }
@@ -86,6 +86,13 @@ pub fn text_fault_lines()
     ensures several { text_lines [] (codes "M \"A\"\nS \"T\" \"C\" 0 0 0") 2 why.Several ≡ codes "line 2: more than one segment \"T\" \"C\" in module \"A\"\n  S \"T\" \"C\" 0 0 0\n" }
     ensures again { text_lines [] (codes "M #1\nX #1 0 0 0\nM \"B\"\nX \"f\" 0 0 0\nX \"f\" 1 0 0") 5 why.Twice ≡ codes "line 5: a second line for external \"f\" in module \"B\"\n  X \"f\" 1 0 0\n" }
     ensures unshared { text_lines [] (codes "M #1\nG #1 shared") 2 why.Unshared ≡ codes "line 2: no line before it gives the frame of group #1 in module #1\n  G #1 shared\n" }
+    ensures of_class { text_lines [] (codes "C \"CODE\" 500\n") 1 why.NotUnderstood ≡ codes "line 1: expected C \"CLASS\" (ADDRESS|after) (BASE SELECTOR|real) [at (STORED|after)]\n  C \"CODE\" 500\n" }
+    ensures of_name { text_lines [] (codes "P #1 500 real") 1 why.NotUnderstood ≡ codes "line 1: expected P \"NAME\" [\"CLASS\"] (ADDRESS|after) (BASE SELECTOR|real) [at (STORED|after)]\n  P #1 500 real\n" }
+    ensures of_groups { text_lines [] (codes "F \"G\" real") 1 why.NotUnderstood ≡ codes "line 1: expected F \"NAME\" BASE SELECTOR\n  F \"G\" real\n" }
+    ensures no_class { text_lines [] (codes "C \"CODE\" 0 0 0") 1 why.Unknown ≡ codes "line 1: no class \"CODE\"\n  C \"CODE\" 0 0 0\n" }
+    ensures nothing_before { text_lines [] (codes "P \"T\" \"C\" after 0 0") 1 why.NothingBefore ≡ codes "line 1: no C or P line before it for segment \"T\" \"C\"\n  P \"T\" \"C\" after 0 0\n" }
+    ensures no_room { text_lines [] (codes "M #1\nP \"T\" FFFF0 real") 2 why.NoRoom ≡ codes "line 2: no room for segment \"T\"\n  P \"T\" FFFF0 real\n" }
+    ensures no_group { text_lines [] (codes "F \"G\" 0 0") 1 why.Unknown ≡ codes "line 1: no group \"G\"\n  F \"G\" 0 0\n" }
 {}
 
 /// The line of each fault that is about no module and its parts, and about no line of a text. Modules are counted from 1. Another fault has lines of its own.

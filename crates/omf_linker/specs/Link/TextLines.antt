@@ -8,9 +8,9 @@ use Rattle.omf_placement.specs.Quoted.{hex, quoted}
 use Rattle.omf_reloc.specs.declared.fault.Kind.{Kind}
 use Rattle.omf_reloc.specs.declared.fault.Kind.TheVariants as kinds
 use Rattle.omf_linking.specs.Locator.Items.{told_kind}
-use Rattle.omf_linking.specs.Locator.KeyForms.{key_texts, key_words, module_texts}
+use Rattle.omf_linking.specs.Locator.KeyForms.{class_texts, key_texts, key_words, module_texts}
 use Rattle.omf_linking.specs.Locator.Keys.{module_name}
-use Rattle.omf_linking.specs.Locator.LinkEntries.{Key, Named, OfClass, Numbered, LinkEntry, Blank, Opens, Gives, is_printed, link_entry_on}
+use Rattle.omf_linking.specs.Locator.LinkEntries.{Key, Named, OfClass, Numbered, LinkEntry, Blank, Opens, Gives, Lays, Frames, Parts, ClassParts, NameParts, NamedParts, is_printed, link_entry_on}
 use Rattle.omf_linking.specs.declared.locator.fault.LineFault.{LineFault}
 use Rattle.omf_linking.specs.declared.locator.fault.LineFault.TheVariants as why
 use Rattle.omf_linking.specs.declared.locator.forms.KeyForm.TheVariants as form
@@ -47,10 +47,22 @@ abbrev pub in_module : Option Key → List ℕ
 in_module None = []
 in_module (Some k) = codes " in module " ++ key_words k
 
--- A module, or an entry of the module of the last `M` line; each by its key, as the text has it.
+-- The segments of a class or a name, as the text has these.
+abbrev pub parts_key : Parts → List ℕ
+parts_key (ClassParts c) = key_words (Named c)
+parts_key (NameParts n) = key_words (Named n)
+parts_key (NamedParts n c) = key_words (OfClass n c)
+
+abbrev pub parts_kind : Parts → List ℕ
+parts_kind (ClassParts c) = codes "class "
+parts_kind ps = codes "segment "
+
+-- A module, or an entry of the module of the last `M` line; each by its key, as the text has it. Or segments or groups of all modules.
 abbrev pub subject : Option Key → Option LinkEntry → List ℕ
 subject at (Some (Opens k)) = codes "module " ++ key_words k
 subject at (Some (Gives k t)) = kind_words (told_kind t) ++ key_words k ++ in_module at
+subject at (Some (Lays ps s)) = parts_kind ps ++ parts_key ps
+subject at (Some (Frames n f)) = codes "group " ++ key_words (Named n)
 subject at _ = []
 
 -- ---- the near name
@@ -74,16 +86,32 @@ entry_keys (Some m) kind (Named n) = key_texts m kind form.Name
 entry_keys (Some m) kind (OfClass n c) = key_texts m kind form.OfClass
 entry_keys (Some m) kind (Numbered i) = []
 
+-- The classes, names, or names and classes of a module's segments; those of the segments, and the names of the groups, of all modules.
+abbrev pub parts_in : Parts → List Rec → List (List ℕ)
+parts_in (ClassParts c) m = class_texts m
+parts_in (NameParts n) m = key_texts m kinds.Segment form.Name
+parts_in (NamedParts n c) m = key_texts m kinds.Segment form.OfClass
+
+abbrev pub parts_like : Parts → List (List Rec) → List (List ℕ)
+parts_like ps ms = flat_map (parts_in ps) ms
+
+abbrev pub groups_in : List (List Rec) → List (List ℕ)
+groups_in ms = flat_map (λ m. key_texts m kinds.Group form.Name) ms
+
 -- What an entry of a line could name.
 abbrev pub keys_like : List (List Rec) → Option Key → LinkEntry → List (List ℕ)
 keys_like ms at (Opens (Named n)) = module_texts ms
 keys_like ms at (Opens k) = []
 keys_like ms at (Gives k t) = entry_keys (opened ms at) (told_kind t) k
+keys_like ms at (Lays ps s) = parts_like ps ms
+keys_like ms at (Frames n f) = groups_in ms
 keys_like ms at Blank = []
 
 abbrev pub key_of : LinkEntry → List ℕ
 key_of (Opens k) = key_words k
 key_of (Gives k t) = key_words k
+key_of (Lays ps s) = parts_key ps
+key_of (Frames n f) = key_words (Named n)
 key_of Blank = []
 
 abbrev pub there : Option (List ℕ) → List ℕ
@@ -97,15 +125,18 @@ near_words ms at (Some e) = there (near_name (key_of e) (keys_like ms at e))
 
 -- ---- what is wrong
 
--- What a line could be, by its first letter: M (77), S (83), G (71) or X (88).
+-- What a line could be, by its first letter: M (77), S (83), G (71), X (88), C (67), P (80) or F (70).
 abbrev pub expected : List ℕ → List ℕ
-expected [] = codes "M, S, G, X or ;"
+expected [] = codes "M, S, G, X, C, P, F or ;"
 expected (c ∷ cs) =
     if c == 77 then codes "M KEY"
     else if c == 83 then codes "S KEY ADDRESS (BASE SELECTOR|real|shared) [at STORED]"
     else if c == 71 then codes "G KEY (BASE SELECTOR|real|shared)"
     else if c == 88 then codes "X KEY ADDRESS (BASE SELECTOR|real)"
-    else codes "M, S, G, X or ;"
+    else if c == 67 then codes "C \"CLASS\" (ADDRESS|after) (BASE SELECTOR|real) [at (STORED|after)]"
+    else if c == 80 then codes "P \"NAME\" [\"CLASS\"] (ADDRESS|after) (BASE SELECTOR|real) [at (STORED|after)]"
+    else if c == 70 then codes "F \"NAME\" BASE SELECTOR"
+    else codes "M, S, G, X, C, P, F or ;"
 
 -- A byte before the first semicolon (59) is above 7FH.
 abbrev pub is_foreign : List ℕ → Bool
@@ -122,6 +153,8 @@ why_words why.Unknown = codes "no "
 why_words why.Several = codes "more than one "
 why_words why.Twice = codes "a second line for "
 why_words why.Unshared = codes "no line before it gives the frame of "
+why_words why.NothingBefore = codes "no C or P line before it for "
+why_words why.NoRoom = codes "no room for "
 
 abbrev pub what : List (List Rec) → Option Key → List ℕ → LineFault → List ℕ
 what ms at line why.NotUnderstood = misread line

@@ -1,19 +1,21 @@
 //! The lines of a fault in a link text: the number of its line and what is wrong with it, and the line itself.
 
-ghost use Rattle.std.specs.Prelude.{◌≡◌, ◌++◌, IfOk, flat_map, map, option_map, string_bytes, take};
+ghost use Rattle.std.specs.Prelude.{◌≡◌, ◌++◌, IfOk, OnOk, flat_map, map, option_map, string_bytes, take};
 ghost use Rattle.omf_check.specs.Module.{recs_of, typed_modules};
 ghost use Rattle.omf_frame.specs.Bytes.{AddsText};
-ghost use Rattle.omf_linking.specs.Inner.LineParsing.{key_seen, seen, told_seen};
+ghost use Rattle.omf_linking.specs.Inner.LineParsing.{key_seen, parts_seen, seen, told_seen};
 ghost use Rattle.omf_linking.specs.Locator.Items.{told_kind};
 ghost use Rattle.omf_linking.specs.Locator.KeyForms.{key_words};
 ghost use Rattle.omf_linking.specs.Locator.LinkEntries.{is_printed};
-ghost use Rattle.omf_linker.specs.Link.TextLines.{entry_keys, expected, in_module, is_foreign, key_of, keys_like, kind_words, line_at, misread, near_words, opened, opened_by_name, opening_before, opening_on, quoted_key, shown_byte, shown_line, subject, text_lines, there, what, why_words};
+ghost use Rattle.omf_linker.specs.Link.TextLines.{entry_keys, expected, groups_in, in_module, is_foreign, key_of, keys_like, kind_words, line_at, misread, near_words, opened, opened_by_name, opening_before, opening_on, parts_in, parts_key, parts_kind, parts_like, quoted_key, shown_byte, shown_line, subject, text_lines, there, what, why_words};
 
 use crate::link::near::near_name;
 use omf_check::Checked;
 use omf_host::{put_byte, put_decimal};
-use omf_linking::locator::forms::{KeyForm, key_texts, module_texts};
-use omf_linking::locator::{Key, LineFault, LinkEntry, Target, Told, link_entry_on, module_name};
+use omf_linking::locator::forms::{KeyForm, class_texts, key_texts, module_texts};
+use omf_linking::locator::{
+    Key, LineFault, LinkEntry, Parts, Target, Told, link_entry_on, module_name,
+};
 use omf_placement::cut::cut;
 use omf_placement::said_by;
 use omf_reloc::Kind;
@@ -135,7 +137,29 @@ fn put_in_module(text: &mut Vec<u8>, opening: Option<Key<'_>>) -> Result<(), All
     }
 }
 
-/// Appends what a line is for: a module, or an entry of one.
+/// The word for segments of a class or of a name.
+fn parts_kind(parts: Parts<'_>) -> &'static str
+    ensures { result.now ≡ parts_kind (parts_seen parts.entry) }
+{
+    match parts {
+        Parts::OfClass(_) => "class ",
+        Parts::OfName(_) => "segment ",
+        Parts::OfBoth(_, _) => "segment ",
+    }
+}
+
+/// Appends the class or the name of segments, as a line has it.
+fn put_parts(text: &mut Vec<u8>, parts: Parts<'_>) -> Result<(), AllocError>
+    ensures { AddsText result text.old.items text.new.items (parts_key (parts_seen parts.entry)) }
+{
+    match parts {
+        Parts::OfClass(class) => put_key(text, Key::Named(class)),
+        Parts::OfName(name) => put_key(text, Key::Named(name)),
+        Parts::OfBoth(name, class) => put_key(text, Key::OfClass(name, class)),
+    }
+}
+
+/// Appends what a line is for: a module, or an entry of one; or segments or groups of all modules.
 fn put_subject(
     text: &mut Vec<u8>,
     opening: Option<Key<'_>>,
@@ -152,6 +176,14 @@ fn put_subject(
             text.extend_from_slice(kind_words(told_kind(told)).as_bytes())?;
             put_key(text, key)?;
             put_in_module(text, opening)
+        }
+        Some(LinkEntry::Lays(parts, _)) => {
+            text.extend_from_slice(parts_kind(parts).as_bytes())?;
+            put_parts(text, parts)
+        }
+        Some(LinkEntry::Frames(name, _)) => {
+            text.extend_from_slice(b"group ")?;
+            put_key(text, Key::Named(name))
         }
         Some(LinkEntry::Blank) => Ok(()),
         None => Ok(()),
@@ -215,7 +247,55 @@ fn entry_keys(
     }
 }
 
-/// What an entry of a line could name: the keys of the modules, or of the entries of its module, in the form of its key.
+/// Adds texts.
+fn add_texts(texts: &mut Vec<String>, more: Vec<String>) -> Result<(), AllocError>
+    ensures { OnOk result (map string_bytes texts.new.items ≡ map string_bytes texts.old.items ++ map string_bytes more.items) }
+{
+    for text in more {
+        texts.push(text)?;
+    }
+    Ok(())
+}
+
+/// The classes, names, or names and classes of a module's segments.
+fn parts_in(alloc: Global, module: &Checked, parts: Parts<'_>) -> Result<Vec<String>, AllocError>
+    ensures { IfOk result (λ v. map string_bytes v.items ≡ parts_in (parts_seen parts.entry) (recs_of «module».now.bytes)) }
+{
+    match parts {
+        Parts::OfClass(_) => class_texts(alloc, module),
+        Parts::OfName(_) => key_texts(alloc, module, Kind::Segment, KeyForm::Name),
+        Parts::OfBoth(_, _) => key_texts(alloc, module, Kind::Segment, KeyForm::OfClass),
+    }
+}
+
+/// The same of all modules.
+fn parts_like(
+    alloc: Global,
+    modules: &[Checked],
+    parts: Parts<'_>,
+) -> Result<Vec<String>, AllocError>
+    ensures { IfOk result (λ v. map string_bytes v.items ≡ parts_like (parts_seen parts.entry) (typed_modules modules.now)) }
+{
+    let mut texts = Vec::new(alloc);
+    for module in modules {
+        add_texts(&mut texts, parts_in(alloc, module, parts)?)?;
+    }
+    Ok(texts)
+}
+
+/// The names of the groups of all modules.
+fn groups_in(alloc: Global, modules: &[Checked]) -> Result<Vec<String>, AllocError>
+    ensures { IfOk result (λ v. map string_bytes v.items ≡ groups_in (typed_modules modules.now)) }
+{
+    let mut texts = Vec::new(alloc);
+    for module in modules {
+        let names = key_texts(alloc, module, Kind::Group, KeyForm::Name)?;
+        add_texts(&mut texts, names)?;
+    }
+    Ok(texts)
+}
+
+/// What an entry of a line could name: the keys of the modules, or of the entries of its module or of all modules, in the form of its key.
 fn keys_like(
     alloc: Global,
     modules: &[Checked],
@@ -232,6 +312,8 @@ fn keys_like(
             let module = opened(alloc, modules, opening)?;
             entry_keys(alloc, module, told_kind(told), key)
         }
+        LinkEntry::Lays(parts, _) => parts_like(alloc, modules, parts),
+        LinkEntry::Frames(_, _) => groups_in(alloc, modules),
         LinkEntry::Blank => Ok(Vec::new(alloc)),
     }
 }
@@ -244,6 +326,8 @@ fn key_of(alloc: Global, entry: LinkEntry<'_>) -> Result<Vec<u8>, AllocError>
     match entry {
         LinkEntry::Opens(key) => put_key(&mut text, key)?,
         LinkEntry::Gives(key, _) => put_key(&mut text, key)?,
+        LinkEntry::Lays(parts, _) => put_parts(&mut text, parts)?,
+        LinkEntry::Frames(name, _) => put_key(&mut text, Key::Named(name))?,
         LinkEntry::Blank => {}
     }
     Ok(text)
@@ -289,7 +373,12 @@ fn expected(said: &[u8]) -> &'static str
         [b'S', ..] => "S KEY ADDRESS (BASE SELECTOR|real|shared) [at STORED]",
         [b'G', ..] => "G KEY (BASE SELECTOR|real|shared)",
         [b'X', ..] => "X KEY ADDRESS (BASE SELECTOR|real)",
-        _ => "M, S, G, X or ;",
+        [b'C', ..] => { "C \"CLASS\" (ADDRESS|after) (BASE SELECTOR|real) [at (STORED|after)]" }
+        [b'P', ..] => {
+            "P \"NAME\" [\"CLASS\"] (ADDRESS|after) (BASE SELECTOR|real) [at (STORED|after)]"
+        }
+        [b'F', ..] => "F \"NAME\" BASE SELECTOR",
+        _ => "M, S, G, X, C, P, F or ;",
     }
 }
 
@@ -322,6 +411,8 @@ fn why_words(why: LineFault) -> &'static str
         LineFault::Several => "more than one ",
         LineFault::Twice => "a second line for ",
         LineFault::Unshared => "no line before it gives the frame of ",
+        LineFault::NothingBefore => "no C or P line before it for ",
+        LineFault::NoRoom => "no room for ",
     }
 }
 

@@ -37,3 +37,31 @@ returns-clause-again c = refl
 pub returns-clause-unshared : goal.returns-clause-unshared
 unfolding digits
 returns-clause-unshared c = refl
+
+pub returns-clause-of_class : goal.returns-clause-of_class
+unfolding digits
+returns-clause-of_class c = refl
+
+pub returns-clause-of_name : goal.returns-clause-of_name
+unfolding digits
+returns-clause-of_name c = refl
+
+pub returns-clause-of_groups : goal.returns-clause-of_groups
+unfolding digits
+returns-clause-of_groups c = refl
+
+pub returns-clause-no_class : goal.returns-clause-no_class
+unfolding digits
+returns-clause-no_class c = refl
+
+pub returns-clause-nothing_before : goal.returns-clause-nothing_before
+unfolding digits
+returns-clause-nothing_before c = refl
+
+pub returns-clause-no_room : goal.returns-clause-no_room
+unfolding digits
+returns-clause-no_room c = refl
+
+pub returns-clause-no_group : goal.returns-clause-no_group
+unfolding digits
+returns-clause-no_group c = refl
