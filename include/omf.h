@@ -346,7 +346,7 @@ struct omf_answer omf_library_find(const uint8_t *bytes, size_t length, const ui
  * with their addresses, by names (docs/ADDRESSES.md). Hands out the memory of `size` addresses from `base` on, `fill` where the modules have no byte.
  * Returns OMF_DONE, OMF_NOT_LINKED, OMF_ROOM, OMF_MEMORY; OMF_REFUSED or OMF_REACH with the module in `record_count`; or OMF_LINE with `line` and in
  * `reason` why: 1 not understood, 2 no M line before it, 3 names nothing, 4 names more than one, 5 a second line for the same, 6 no line before
- * it gives the frame. */
+ * it gives the frame, 7 no C or P line before it, 8 no room. */
 struct omf_answer omf_link_image(const uint8_t *input, size_t length, uint32_t base, uint32_t size, uint8_t fill, uint8_t *out, size_t room);
 
 /* A file of a program: modules one after another, or a library (its first byte is F0H), of which the members take part that are needed. The lines of

@@ -630,7 +630,7 @@ class Library:
 
 
 _LINES = {1: "not understood", 2: "no M line before it", 3: "names nothing", 4: "names more than one", 5: "a second line for the same",
-          6: "no line before it gives the frame"}
+          6: "no line before it gives the frame", 7: "no C or P line before it", 8: "no room"}
 _LINKS = {
     1: "no module and no text at {0.size}", 2: "no modules", 3: "module {0.record_count} external {0.index} is not defined",
     4: "module {0.record_count} external {0.index} is defined twice", 5: "module {0.record_count} external {0.index} has its public at 2^32 or more",

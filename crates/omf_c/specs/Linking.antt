@@ -31,6 +31,8 @@ why_number why.Unknown = 3
 why_number why.Several = 4
 why_number why.Twice = 5
 why_number why.Unshared = 6
+why_number why.NothingBefore = 7
+why_number why.NoRoom = 8
 
 -- An external without a place; modules count from 0.
 abbrev pub of_derive : DeriveFault → Answer

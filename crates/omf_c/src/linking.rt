@@ -41,6 +41,8 @@ fn why_number(why: LineFault) -> u32
         LineFault::Several => 4,
         LineFault::Twice => 5,
         LineFault::Unshared => 6,
+        LineFault::NothingBefore => 7,
+        LineFault::NoRoom => 8,
     }
 }
 
