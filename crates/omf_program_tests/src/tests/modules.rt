@@ -191,6 +191,36 @@ pub fn pair() -> &'static Plan {
     &PAIR
 }
 
+/// The same modules, each with a group of its segment, and the text that lays their segments and places their groups by one name.
+static PAIR_BY_NAME: Plan = Plan {
+    name: "two modules by a name",
+    records: &[
+        HEADER,
+        NAMES,
+        SEGMENT,
+        GROUP,
+        EXTERNAL,
+        DATA,
+        "9C 05 00 C4 01 56 01 43",
+        END,
+        HEADER,
+        NAMES,
+        SEGMENT,
+        GROUP,
+        PUBLIC,
+        END,
+    ],
+    placement: "P \"T\" 10020 10000 1000 at 20000\nF \"T\" 10000 1000\n",
+    canonical: &[],
+    images: &[],
+    start: None,
+};
+
+/// The plan of two modules by a name.
+pub fn pair_by_name() -> &'static Plan {
+    &PAIR_BY_NAME
+}
+
 /// A plan with its module.
 #[derive(Drop)]
 pub struct Sample {

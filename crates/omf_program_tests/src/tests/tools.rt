@@ -1,6 +1,6 @@
 //! The programs, with arguments and inputs on which they end with the status 0.
 
-use super::modules::{Plan, bytes_of, pair, plans};
+use super::modules::{Plan, bytes_of, pair, pair_by_name, plans};
 use omf_cmd::{Gathered, Omf, run_on};
 use omf_frame::{Bytes, Sink, Source};
 use omf_linker::link::Link;
@@ -166,7 +166,7 @@ fn push_jobs(alloc: Global, all: &mut Vec<Line>) -> Result<(), AllocError> {
     Ok(())
 }
 
-/// `omf` with each job on each module, `omf-place` on the first, and `omf-link` on two.
+/// `omf` with each job on each module, `omf-place` on the first, and `omf-link` on two, in two ways.
 pub fn lines(alloc: Global) -> Result<Vec<Line>, AllocError> {
     let mut all = Vec::new(alloc);
     push_jobs(alloc, &mut all)?;
@@ -174,5 +174,6 @@ pub fn lines(alloc: Global) -> Result<Vec<Line>, AllocError> {
         push_lines(alloc, &mut all, &PLACES, plan)?;
     }
     push_lines(alloc, &mut all, &LINKS, pair())?;
+    push_lines(alloc, &mut all, &LINKS, pair_by_name())?;
     Ok(all)
 }
