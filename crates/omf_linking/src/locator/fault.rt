@@ -21,7 +21,7 @@ pub enum LineFault {
     Twice,
     /// It shares a frame, and no line before it gives one to its name.
     Unshared,
-    /// It says `after`, and no line before it lays segments of a class or a name.
+    /// It is for segments `after` others, and no line before it is for segments of a class or a name.
     NothingBefore,
     /// The segments that it lays do not fit: below 2^20 with real-mode frames, else below 2^32; where they are stored below 2^32.
     NoRoom,

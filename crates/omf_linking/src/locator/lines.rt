@@ -154,7 +154,7 @@ impl Lines {
         Ok(())
     }
 
-    /// Gives an entry of a module what a line says.
+    /// Gives an entry of a module what a line has for it.
     fn settle(
         &mut self,
         modules: &[Checked],

@@ -38,7 +38,7 @@ pub fn lines_for_all_modules()
     ensures frame { link_entry_on (codes "F \"DGROUP\" 500 50") ≡ Some (Frames (codes "DGROUP") (frame 0x500 0x50)) }
 {}
 
-/// Lines for all modules that are no entry: a number as a key, a class with a name before it, a name that says where groups are stored, words that are missing,
+/// Lines for all modules that are no entry: a number as a key, a class with a name before it, words that are missing,
 /// too many or in another order, and a frame of lowest members.
 pub fn lines_for_none()
     ensures class_number { link_entry_on (codes "C #1 500 50 5") ≡ None }
@@ -108,9 +108,9 @@ pub fn what_texts_give()
     ensures no_entry { sparse (three_segments ∷ []) (lines (codes "M #2" ∷ codes "q" ∷ [])) ≡ Err (Line 2 why.NotUnderstood) }
 {}
 
-/// Segments that lines for all modules lay. Those of class C, from 101H on: both of A at words, then both of B at paragraphs; after them, from 123H on, those of class
-/// B. With real-mode frames those of name A: two of class C in one frame, and two of class B in the next. An absolute address is kept as a distance where they are
-/// stored. A segment that has a place is not laid again.
+/// Places that lines for all modules give. Those of class C, from 101H on: both of A at words, then both of B at paragraphs; after them, from 123H on, those of class
+/// B. With real-mode frames those of name A: two of class C in one frame, and two of class B in the next. Where they are stored, segments keep their distances from the
+/// line's address. A segment that has a place gets no other.
 pub fn what_lines_for_all_modules_give()
     ensures class { sparse (three_parts ∷ three_parts ∷ []) (lines (codes "C \"C\" 101 10 1" ∷ codes "C \"B\" after 20 2" ∷ [])) ≡ Ok (given_parts (Some (at 0x102 0x10 1) ∷ Some (at 0x110 0x10 1) ∷ Some (at 0x123 0x20 2) ∷ []) unstored None ∷ given_parts (Some (at 0x108 0x10 1) ∷ Some (at 0x120 0x10 1) ∷ Some (at 0x127 0x20 2) ∷ []) unstored None ∷ []) }
     ensures real { sparse (three_parts ∷ three_parts ∷ []) (lines (codes "P \"A\" 12345 real" ∷ [])) ≡ Ok (given_parts (Some (at 0x12346 0x12340 0x1234) ∷ None ∷ Some (at 0x12351 0x12350 0x1235) ∷ []) unstored None ∷ given_parts (Some (at 0x1234C 0x12340 0x1234) ∷ None ∷ Some (at 0x12355 0x12350 0x1235) ∷ []) unstored None ∷ []) }

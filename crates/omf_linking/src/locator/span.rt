@@ -11,7 +11,7 @@ pub enum Where {
     After,
 }
 
-/// What a line says of the segments that it lays.
+/// Where a line lays segments, as its words have it.
 #[derive(Clone, Copy)]
 pub struct Span {
     /// From where on they run.
