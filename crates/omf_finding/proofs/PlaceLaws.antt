@@ -36,7 +36,7 @@ offset-as sorted key first i at e =
     let same : at ≡ offset-from sorted key first i = omega (arith, window) in
     e ∙ ap Some same
 
-pub windows-at : (program sorted : List ℕ) → AreWindows program sorted → (key first n : ℕ) → ((i : ℕ) → i < n → offset_in sorted (first + i) key ≡ Some (offset-from sorted key first i)) → AreAt program key n
+pub windows-at : {kept : ℕ → Bool} (program sorted : List ℕ) → AreWindows kept program sorted → (key first n : ℕ) → ((i : ℕ) → i < n → offset_in sorted (first + i) key ≡ Some (offset-from sorted key first i)) → AreAt program key n
 windows-at program sorted windows key first n each = record {
   at = offset-from sorted key first;
   rising = λ i j less low. offsets-rise sorted key windows.increases (first + i) (first + j) (offset-from sorted key first i) (offset-from sorted key first j) (omega (arith, less)) (each i (omega (arith, less, low))) (each j low);
@@ -52,7 +52,7 @@ pub record IsShownAt (sorted : List ℕ) (base : ℕ) (r : Rare) (first : ℕ) (
   pub place : address + r.offset ≡ base + at
   pub tries : try k ≡ tried.Place address
 
-module _ (byte : ℕ → Option PatternByte) (is : List Interval) (are : AreIntervals byte is) (program : List ℕ) (base : ℕ) (sorted : List ℕ) (windows : AreWindows program sorted) (r : Rare) (rare : IsRareOf is r) (first : ℕ) (begun : IsFirst sorted r.key first) where
+module _ (byte : ℕ → Option PatternByte) (is : List Interval) (are : AreIntervals byte is) (program : List ℕ) (base : ℕ) (kept : ℕ → Bool) (sorted : List ℕ) (windows : AreWindows kept program sorted) (r : Rare) (is-kept : kept r.key ≡ true) (rare : IsRareOf is r) (first : ℕ) (begun : IsFirst sorted r.key first) where
   abbrev test : ℕ → Bool
   test = is_at program base is
 
@@ -84,7 +84,7 @@ module _ (byte : ℕ → Option PatternByte) (is : List Interval) (are : AreInte
       let inside = seen.inside in
       let at = address + r.offset - base in
       let short : at < 2 ^ 32 = omega (arith, above, inside, fits) in
-      let found = windows.has at r.key inside short seen.window in
+      let found = windows.has at r.key inside short seen.window is-kept in
       let k = found.0 in
       let window = r.key * 2 ^ 32 + at in
       let value : get_or sorted k 0 ≡ window = window-again sorted k window found.1 found.2 in

@@ -8,7 +8,7 @@ use Rattle.omf_finding.specs.Fours.{AreAt, four, four_closed}
 use Rattle.omf_finding.specs.Near.{IsTried}
 use Rattle.omf_finding.specs.Run.{closed_byte}
 use Rattle.omf_finding.specs.Inner.Nearing.{Adds, IsShownBy, IsShownIn, IsShownOf}
-use Rattle.omf_finding.specs.Inner.Shaping.{AreIntervals, AreWindows, IsInterval, IsWithin, address_for, front, key_at, offset_in}
+use Rattle.omf_finding.specs.Inner.Shaping.{AreIntervals, AreWindows, IsInterval, IsWithin, address_for, front, is_kept, key_at, offset_in}
 use Rattle.omf_finding.specs.Inner.Walking.{byte_with}
 use Rattle.omf_finding.specs.declared.patterning.Interval.{Interval}
 use Rattle.omf_finding.specs.declared.patterning.PatternByte.{PatternByte}
@@ -46,7 +46,7 @@ pub record IsOfWindow (sorted : List ℕ) (base key offset first j address : ℕ
 abbrev pub IsOfWindows : List ℕ → ℕ → ℕ → ℕ → ℕ → ℕ → ℕ → Type 0
 IsOfWindows sorted base key offset first k address = (j : ℕ) × (j < k) × IsOfWindow sorted base key offset first j address
 
-module _ (program sorted : List ℕ) (windows : AreWindows program sorted) (base key offset first : ℕ) (begun : IsFirst sorted key first) where
+module _ (program sorted : List ℕ) (windows : AreWindows (is_kept []) program sorted) (base key offset first : ℕ) (begun : IsFirst sorted key first) where
   abbrev Shown : ℕ → Type 0
   Shown address = IsShownBy program base key offset address
 
@@ -81,7 +81,7 @@ module _ (program sorted : List ℕ) (windows : AreWindows program sorted) (base
       let inside = front-low program h.at key h.there in
       let fits = h.low in
       let short : h.at < 2 ^ 32 = omega (arith, fits) in
-      let found = windows.has h.at key inside short h.there in
+      let found = windows.has h.at key inside short h.there refl in
       let n = found.0 in
       let value = window-again sorted n (key * 2 ^ 32 + h.at) found.1 found.2 in
       let from = range-begins sorted key first begun n h.at value in

@@ -14,31 +14,44 @@ use Rattle.std.proofs.lemmas.List.Sorted.{Contains-permutation, IsPermutation-sy
 use Rattle.std.proofs.lemmas.Map.Keys.{IsDistinct-IsPermutation, IsStrictlyIncreasing-from_distinct}
 use Rattle.std.proofs.lemmas.Map.Made.{IsDistinct-from_AllPairs}
 use Rattle.std.proofs.lemmas.Option.{cond_some, slice_get_within, slice_get-get_or, get_or_from_slice_get}
-use Rattle.omf_finding.specs.Inner.Shaping.{AreWindows, HasPlaces, HasWindows, IsWindow, OnlyWindows, address_for, front, offset_in, offset_with, tried_at, tried_with, window_at}
+use Rattle.omf_finding.specs.Inner.Shaping.{AreWindows, HasPlaces, HasWindows, IsWindow, OnlyWindows, address_for, front, if_kept, offset_in, offset_with, tried_at, tried_with, window_at}
 use Rattle.omf_finding.specs.declared.shapes.Tried.{Tried}
 use Rattle.omf_finding.specs.declared.shapes.Tried.TheVariants as tried
 
 -- ---- the windows so far
 
-pub windows-none : (program windows : List ℕ) → HasWindows program windows 0
-windows-none program windows at key low = absurd (omega (arith, low))
+pub windows-none : (kept : ℕ → Bool) (program windows : List ℕ) → HasWindows kept program windows 0
+windows-none kept program windows at key low = absurd (omega (arith, low))
 
--- the offset is past 2^32, or has no window
-pub windows-same : (program windows : List ℕ) (n : ℕ) → ((key : ℕ) → n < 2 ^ 32 → front (drop n program) ≡ Some key → ⊥) → HasWindows program windows n → HasWindows program windows (n + 1)
-windows-same program windows n none h at key low short e = elim (leb_tells (at + 1) n) [
-  | inl t ↦ h at key (omega (arith, t.1)) short e
+-- the offset is past 2^32, or has no window that is kept
+pub windows-same : (kept : ℕ → Bool) (program windows : List ℕ) (n : ℕ) → ((key : ℕ) → n < 2 ^ 32 → front (drop n program) ≡ Some key → kept key ≡ true → ⊥) → HasWindows kept program windows n → HasWindows kept program windows (n + 1)
+windows-same kept program windows n none h at key low short e k = elim (leb_tells (at + 1) n) [
+  | inl t ↦ h at key (omega (arith, t.1)) short e k
   | inr t ↦
       let same : at ≡ n = omega (arith, t.1, low) in
-      absurd (none key (subst (λ (k : ℕ). k < 2 ^ 32) same short) (subst (λ (k : ℕ). front (drop k program) ≡ Some key) same e))
+      absurd (none key (subst (λ (k : ℕ). k < 2 ^ 32) same short) (subst (λ (k : ℕ). front (drop k program) ≡ Some key) same e) k)
 ]
 
-pub windows-more : (program windows new : List ℕ) (n window : ℕ) → window_at program n ≡ Some window → new ≡ windows ++ window ∷ [] → HasWindows program windows n → HasWindows program new (n + 1)
-windows-more program windows new n window w e h = subst (λ (xs : List ℕ). HasWindows program xs (n + 1)) (sym e) (λ at key low short f. elim (leb_tells (at + 1) n) [
-  | inl t ↦ Contains-append_left windows (window ∷ []) (key * 2 ^ 32 + at) (h at key (omega (arith, t.1)) short f)
+pub windows-past : (kept : ℕ → Bool) (program windows : List ℕ) (n : ℕ) → 2 ^ 32 ≤ n → HasWindows kept program windows n → HasWindows kept program windows (n + 1)
+windows-past kept program windows n far = windows-same kept program windows n (λ key short e k. omega (arith, far, short))
+
+-- a window that is kept
+kept-is : (kept : ℕ → Bool) (program : List ℕ) (n key : ℕ) → front (drop n program) ≡ Some key → kept key ≡ true → window_at kept program n ≡ Some (key * 2 ^ 32 + n)
+kept-is kept program n key e k =
+    ap (λ (o : Option ℕ). option_map (λ (x : ℕ). x * 2 ^ 32 + n) (option_and_then (if_kept kept) o)) e ∙ ap (λ (b : Bool). option_map (λ (x : ℕ). x * 2 ^ 32 + n) (if b then Some key else None)) k
+
+pub windows-left : (kept : ℕ → Bool) (program windows : List ℕ) (n : ℕ) → window_at kept program n ≡ None → HasWindows kept program windows n → HasWindows kept program windows (n + 1)
+windows-left kept program windows n none = windows-same kept program windows n missing
+  where
+    missing : (key : ℕ) → n < 2 ^ 32 → front (drop n program) ≡ Some key → kept key ≡ true → ⊥
+    missing key short e k = let wrong : None ≡ Some (key * 2 ^ 32 + n) = sym none ∙ kept-is kept program n key e k in cc
+
+pub windows-more : (kept : ℕ → Bool) (program windows new : List ℕ) (n window : ℕ) → window_at kept program n ≡ Some window → new ≡ windows ++ window ∷ [] → HasWindows kept program windows n → HasWindows kept program new (n + 1)
+windows-more kept program windows new n window w e h = subst (λ (xs : List ℕ). HasWindows kept program xs (n + 1)) (sym e) (λ at key low short f k. elim (leb_tells (at + 1) n) [
+  | inl t ↦ Contains-append_left windows (window ∷ []) (key * 2 ^ 32 + at) (h at key (omega (arith, t.1)) short f k)
   | inr t ↦
       let same : at ≡ n = omega (arith, t.1, low) in
-      let shown : window_at program at ≡ Some (key * 2 ^ 32 + at) = ap (option_map (λ (k : ℕ). k * 2 ^ 32 + at)) f in
-      let both : Some (key * 2 ^ 32 + at) ≡ Some window = sym shown ∙ ap (window_at program) same ∙ w in
+      let both : Some (key * 2 ^ 32 + at) ≡ Some window = sym (kept-is kept program at key f k) ∙ ap (window_at kept program) same ∙ w in
       let one : window ≡ key * 2 ^ 32 + at = cc in
       subst (Contains (windows ++ window ∷ [])) one (Contains-push windows window)
 ])
@@ -64,12 +77,16 @@ rises-push xs y h last k low = pairs-push (λ a b. a < b) xs y (AllPairs-from_in
 window-wider : (program : List ℕ) (n window : ℕ) → IsWindow program n window → IsWindow program (n + 1) window
 window-wider program n window h = record { at = h.at; key = h.key; before = let b = h.before in omega (arith, b); low = h.low; there = h.there; is = h.is }
 
-window-is : (program : List ℕ) (n window : ℕ) → window_at program n ≡ Some window → (key : ℕ) × (front (drop n program) ≡ Some key) × (window ≡ key * 2 ^ 32 + n)
-window-is program n window e = by (front (drop n program)) refl e
+window-is : (kept : ℕ → Bool) (program : List ℕ) (n window : ℕ) → window_at kept program n ≡ Some window → (key : ℕ) × (front (drop n program) ≡ Some key) × (window ≡ key * 2 ^ 32 + n)
+window-is kept program n window e = by (front (drop n program)) refl e
   where
-    by : (o : Option ℕ) → front (drop n program) ≡ o → option_map (λ (key : ℕ). key * 2 ^ 32 + n) o ≡ Some window → (key : ℕ) × (front (drop n program) ≡ Some key) × (window ≡ key * 2 ^ 32 + n)
+    some : (b : Bool) (key : ℕ) → option_map (λ (x : ℕ). x * 2 ^ 32 + n) (if b then Some key else None) ≡ Some window → window ≡ key * 2 ^ 32 + n
+    some true key e = let q : key * 2 ^ 32 + n ≡ window = cc in sym q
+    some false key e = absurd cc
+
+    by : (o : Option ℕ) → front (drop n program) ≡ o → option_map (λ (key : ℕ). key * 2 ^ 32 + n) (option_and_then (if_kept kept) o) ≡ Some window → (key : ℕ) × (front (drop n program) ≡ Some key) × (window ≡ key * 2 ^ 32 + n)
     by None f e = absurd cc
-    by (Some key) f e = (key, f, let q : key * 2 ^ 32 + n ≡ window = cc in sym q)
+    by (Some key) f e = (key, f, some (kept key) key e)
 
 pub only-none : (program : List ℕ) → OnlyWindows program [] 0
 only-none program = record { each = λ w c. absurd (omega (arith, c.1)); distinct = λ i j d less inside. absurd (omega (arith, inside)) }
@@ -77,9 +94,9 @@ only-none program = record { each = λ w c. absurd (omega (arith, c.1)); distinc
 pub only-same : (program windows : List ℕ) (n : ℕ) → OnlyWindows program windows n → OnlyWindows program windows (n + 1)
 only-same program windows n h = record { each = λ w c. window-wider program n w (h.each w c); distinct = h.distinct }
 
-pub only-more : (program windows new : List ℕ) (n window : ℕ) → n < 2 ^ 32 → window_at program n ≡ Some window → new ≡ windows ++ window ∷ [] → OnlyWindows program windows n → OnlyWindows program new (n + 1)
-only-more program windows new n window short w e h =
-    let made = window-is program n window w in
+pub only-more : (kept : ℕ → Bool) (program windows new : List ℕ) (n window : ℕ) → n < 2 ^ 32 → window_at kept program n ≡ Some window → new ≡ windows ++ window ∷ [] → OnlyWindows program windows n → OnlyWindows program new (n + 1)
+only-more kept program windows new n window short w e h =
+    let made = window-is kept program n window w in
     let one : IsWindow program (n + 1) window = record { at = n; key = made.0; before = omega arith; low = short; there = made.1; is = made.2 } in
     subst (λ (xs : List ℕ). OnlyWindows program xs (n + 1)) (sym e) (record {
       each = λ v c. elim (Contains-push_cases windows window v c) [ inl d ↦ window-wider program n v (h.each v d) | inr q ↦ subst (IsWindow program (n + 1)) q one ];
@@ -93,8 +110,8 @@ windows-increase windows sorted moved rises apart =
 pub only-moved : (program windows sorted : List ℕ) (n : ℕ) → IsPermutation windows sorted → OnlyWindows program windows n → (w : ℕ) → Contains sorted w → IsWindow program n w
 only-moved program windows sorted n moved h w c = h.each w (Contains-permutation sorted windows w (IsPermutation-sym windows sorted moved) c)
 
-pub windows-moved : (program windows sorted : List ℕ) (n : ℕ) → IsPermutation windows sorted → HasWindows program windows n → HasWindows program sorted n
-windows-moved program windows sorted n moved h at key low short e = Contains-permutation windows sorted (key * 2 ^ 32 + at) moved (h at key low short e)
+pub windows-moved : (kept : ℕ → Bool) (program windows sorted : List ℕ) (n : ℕ) → IsPermutation windows sorted → HasWindows kept program windows n → HasWindows kept program sorted n
+windows-moved kept program windows sorted n moved h at key low short e k = Contains-permutation windows sorted (key * 2 ^ 32 + at) moved (h at key low short e k)
 
 -- ---- the offset of a window
 
@@ -148,7 +165,7 @@ offsets-rise sorted key increases j k a b less e f =
     omega (arith, order, x, y)
 
 -- a program has the number at a window's offset
-pub offset-there : (program sorted : List ℕ) → AreWindows program sorted → (key number at : ℕ) → offset_in sorted number key ≡ Some at → front (drop at program) ≡ Some key
+pub offset-there : {kept : ℕ → Bool} (program sorted : List ℕ) → AreWindows kept program sorted → (key number at : ℕ) → offset_in sorted number key ≡ Some at → front (drop at program) ≡ Some key
 offset-there program sorted windows key number at e =
     let one = offset-found sorted key number at e in
     let w = windows.each (get_or sorted number 0) (Contains-get_or sorted number 0 one.within) in

@@ -21,6 +21,7 @@ mod settling;
 mod shapes;
 mod singles;
 mod straying;
+mod wanting;
 mod windows;
 
 pub use closed::ClosedByte;

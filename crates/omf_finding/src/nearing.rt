@@ -1,10 +1,10 @@
 //! Segments that are nearly in a program.
 
-ghost use Rattle.std.specs.Prelude.{◌≡◌, ◌++◌, ◌^◌, ◌+◌, ◌≤◌, ℕ, All, Contains, IfOk, Option, OnOk, length, option_to_list};
+ghost use Rattle.std.specs.Prelude.{◌≡◌, ◌++◌, [], ◌^◌, ◌+◌, ◌≤◌, ℕ, All, Contains, IfOk, Option, OnOk, length, option_to_list};
 ghost use Rattle.std.specs.List.{AllZip};
 ghost use Rattle.omf_finding.specs.Near.{AreNear, HasNear, differences, differing};
 ghost use Rattle.omf_finding.specs.Inner.Nearing.{Adds, AreNearOf, IsBest, IsNearOf, IsShownBy, IsShownIn, IsShownOf, better, few_differences, one_more};
-ghost use Rattle.omf_finding.specs.Inner.Shaping.{AreIntervals, AreWindows, IsMarked, IsWhole};
+ghost use Rattle.omf_finding.specs.Inner.Shaping.{AreIntervals, AreWindows, IsMarked, IsWhole, is_kept};
 ghost use Rattle.omf_finding.specs.Inner.Walking.{byte_in};
 ghost use Rattle.omf_finding.specs.declared.patterning.PatternByte.{PatternByte};
 
@@ -13,7 +13,7 @@ use crate::found::segment_count;
 use crate::patterning::{Interval, Pattern, marked_pattern};
 use crate::program::Program;
 use crate::shapes::{Rare, address_for, count_closed, rare_at};
-use crate::windows::Windows;
+use crate::windows::{Counts, Windows};
 use omf_check::Checked;
 use std::alloc::{AllocError, Global};
 
@@ -162,13 +162,14 @@ fn push_address(addresses: &mut Vec<u32>, address: Option<u32>) -> Result<(), Al
 #[derive(Clone, Copy)]
 struct Indexed<'a> {
     program: &'a Program,
+    counts: &'a Counts,
     windows: &'a Windows,
 }
 
 impl<'a> Indexed<'a> {
     /// Appends the addresses at which a segment has these four closed bytes where the program has them; none if they are too common.
     fn push_shown(&self, addresses: &mut Vec<u32>, rare: Rare) -> Result<(), AllocError>
-        requires { AreWindows self.now.program.now.bytes.items self.now.windows.now.sorted.items }
+        requires { AreWindows (is_kept []) self.now.program.now.bytes.items self.now.windows.now.sorted.items }
         ensures { OnOk result (Adds (IsShownBy self.now.program.now.bytes.items self.now.program.now.base rare.key rare.offset) addresses.old.items addresses.new.items) }
     {
         let first = self.windows.first(rare.key);
@@ -190,13 +191,13 @@ impl<'a> Indexed<'a> {
         addresses: &mut Vec<u32>,
         interval: Interval<'_>,
     ) -> Result<(), AllocError>
-        requires windows { AreWindows self.now.program.now.bytes.items self.now.windows.now.sorted.items }
+        requires windows { AreWindows (is_kept []) self.now.program.now.bytes.items self.now.windows.now.sorted.items }
         requires same { length interval.marks.now ≡ length interval.values.now }
         requires within { interval.first + length interval.values.now ≤ 2 ^ 32 }
         ensures { OnOk result (Adds (IsShownIn self.now.program.now.bytes.items self.now.program.now.base interval.entry (length interval.entry.values.now)) addresses.old.items addresses.new.items) }
     {
         for at in 0..interval.values.len() {
-            if let Some(rare) = rare_at(self.windows, interval, at) {
+            if let Some(rare) = rare_at(self.counts, interval, at) {
                 self.push_shown(addresses, rare)?;
             }
         }
@@ -205,7 +206,7 @@ impl<'a> Indexed<'a> {
 
     /// The addresses at which a segment is tried.
     fn tried(&self, alloc: Global, intervals: &[Interval<'_>]) -> Result<Vec<u32>, AllocError>
-        requires windows { AreWindows self.now.program.now.bytes.items self.now.windows.now.sorted.items }
+        requires windows { AreWindows (is_kept []) self.now.program.now.bytes.items self.now.windows.now.sorted.items }
         requires whole { All IsWhole intervals.now }
         ensures { IfOk result (λ v. (a : ℕ) → IsShownOf self.now.program.now.bytes.items self.now.program.now.base intervals.now a → Contains v.items a) }
     {
@@ -224,7 +225,7 @@ impl<'a> Indexed<'a> {
         intervals: &[Interval<'_>],
         most: usize,
     ) -> Result<Option<Near>, AllocError>
-        requires windows { AreWindows self.now.program.now.bytes.items self.now.windows.now.sorted.items }
+        requires windows { AreWindows (is_kept []) self.now.program.now.bytes.items self.now.windows.now.sorted.items }
         requires whole { All IsWhole intervals.now }
         ensures { IfOk result (λ r. (byte : ℕ → Option PatternByte) → AreIntervals byte intervals.now → IsNearOf byte self.now.program.now most segment r) }
     {
@@ -252,7 +253,7 @@ impl<'a> Indexed<'a> {
         count: u16,
         most: usize,
     ) -> Result<Vec<Near>, AllocError>
-        requires windows { AreWindows self.now.program.now.bytes.items self.now.windows.now.sorted.items }
+        requires windows { AreWindows (is_kept []) self.now.program.now.bytes.items self.now.windows.now.sorted.items }
         requires marked { IsMarked pattern.now }
         ensures { IfOk result (λ v. AreNearOf (byte_in pattern.now) self.now.program.now most count v.items) }
     {
@@ -275,7 +276,7 @@ impl<'a> Indexed<'a> {
         module: &Checked,
         most: usize,
     ) -> Result<Vec<Near>, AllocError>
-        requires { AreWindows self.now.program.now.bytes.items self.now.windows.now.sorted.items }
+        requires { AreWindows (is_kept []) self.now.program.now.bytes.items self.now.windows.now.sorted.items }
         ensures { IfOk result (λ v. AreNear self.now.program.now most «module».now v.items) }
     {
         let count = segment_count(module);
@@ -309,9 +310,11 @@ pub fn nearest(
 ) -> Result<Vec<Vec<Near>>, AllocError>
     ensures { IfOk result (λ v. AllZip (HasNear program.now most) modules.now v.items) }
 {
-    let windows = Windows::of(alloc, &program.bytes)?;
+    let counts = Counts::none(alloc);
+    let windows = Windows::all(alloc, &program.bytes)?;
     let indexed = Indexed {
         program,
+        counts: &counts,
         windows: &windows,
     };
     let mut nears = Vec::new(alloc);

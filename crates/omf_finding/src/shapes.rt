@@ -4,13 +4,14 @@ ghost use Rattle.std.specs.Prelude.{◌≡◌, ◌⊎◌, ◌+◌, ◌++◌, ◌
 ghost use Rattle.std.specs.List.{AllZip};
 ghost use Rattle.omf_finding.specs.Finding.{IsCut};
 ghost use Rattle.omf_finding.specs.Inner.Walking.{byte_in};
-ghost use Rattle.omf_finding.specs.Inner.Shaping.{AreIntervals, ArePlaces, AreShapes, AreWindows, HasNone, HasShapes, HaveShapes, IsMarked, IsRareAt, IsRareIn, IsRareOf, IsShape, IsWhole, address_for, cell_agrees, cells_agree, closed_front, interval_agrees, is_at, key_at, offset_in, run_agrees, tried_with};
+ghost use Rattle.omf_finding.specs.Inner.Shaping.{AreIntervals, ArePlaces, AreShapes, AreWindows, HasNone, HasShapes, HaveShapes, IsMarked, IsRareAt, IsRareIn, IsRareOf, IsShape, IsWhole, address_for, cell_agrees, cells_agree, closed_front, interval_agrees, is_at, is_kept, key_at, offset_in, run_agrees, tried_with};
 ghost use Rattle.omf_finding.specs.declared.patterning.PatternByte.{PatternByte};
 
 use crate::closed::{ClosedByte, closed_bytes};
 use crate::patterning::{Interval, Pattern, marked_pattern};
 use crate::program::Program;
-use crate::windows::{Windows, front};
+use crate::wanting::wanted;
+use crate::windows::{Counts, Windows, front};
 use omf_check::Checked;
 use std::alloc::{AllocError, Global};
 
@@ -107,7 +108,7 @@ fn closed_front(values: &[u8], marks: &[u8]) -> Option<u32>
 }
 
 /// The four closed bytes in a row at an index of an interval, if there are any.
-pub(crate) fn rare_at(windows: &Windows, interval: Interval<'_>, at: usize) -> Option<Rare>
+pub(crate) fn rare_at(counts: &Counts, interval: Interval<'_>, at: usize) -> Option<Rare>
     requires same { length interval.marks.now ≡ length interval.values.now }
     requires within { interval.first + length interval.values.now ≤ 2 ^ 32 }
     requires low { at < length interval.values.now }
@@ -116,7 +117,7 @@ pub(crate) fn rare_at(windows: &Windows, interval: Interval<'_>, at: usize) -> O
 {
     match closed_front(&interval.values[at..], &interval.marks[at..]) {
         Some(key) => Some(Rare {
-            count: windows.count(key),
+            count: counts.count(key),
             key,
             offset: interval.first + at as u32,
         }),
@@ -125,7 +126,7 @@ pub(crate) fn rare_at(windows: &Windows, interval: Interval<'_>, at: usize) -> O
 }
 
 /// The rarest four closed bytes in a row of an interval.
-fn rarest_in(windows: &Windows, interval: Interval<'_>) -> Option<Rare>
+fn rarest_in(counts: &Counts, interval: Interval<'_>) -> Option<Rare>
     requires same { length interval.marks.now ≡ length interval.values.now }
     requires within { interval.first + length interval.values.now ≤ 2 ^ 32 }
     ensures some { IfSome result (IsRareIn interval.entry) }
@@ -133,20 +134,20 @@ fn rarest_in(windows: &Windows, interval: Interval<'_>) -> Option<Rare>
 {
     let mut rarest = None;
     for at in 0..interval.values.len() {
-        rarest = rarer(rarest, rare_at(windows, interval, at));
+        rarest = rarer(rarest, rare_at(counts, interval, at));
     }
     rarest
 }
 
 /// The rarest four closed bytes in a row of a segment.
-fn rarest_of(windows: &Windows, intervals: &[Interval<'_>]) -> Option<Rare>
+pub(crate) fn rarest_of(counts: &Counts, intervals: &[Interval<'_>]) -> Option<Rare>
     requires { All IsWhole intervals.now }
     ensures some { IfSome result (IsRareOf intervals.now) }
     ensures none { result ≡ None → All HasNone intervals.now }
 {
     let mut rarest = None;
     for interval in intervals {
-        rarest = rarer(rarest, rarest_in(windows, *interval));
+        rarest = rarer(rarest, rarest_in(counts, *interval));
     }
     rarest
 }
@@ -318,6 +319,7 @@ fn push_place(places: &mut Vec<u32>, address: u32, room: usize) -> Result<(), Al
 #[derive(Drop)]
 struct Indexed<'a> {
     program: &'a Program,
+    counts: &'a Counts,
     windows: Windows,
     /// The number of places that are listed of a segment at most.
     most: usize,
@@ -352,7 +354,8 @@ impl<'a> Indexed<'a> {
         intervals: &[Interval<'_>],
         rare: Rare,
     ) -> Result<(Vec<u32>, bool), AllocError>
-        requires windows { AreWindows self.now.program.now.bytes.items self.now.windows.sorted.items }
+        requires windows { AreWindows (is_kept self.now.windows.marks.items) self.now.program.now.bytes.items self.now.windows.sorted.items }
+        requires kept { is_kept self.now.windows.marks.items rare.key ≡ true }
         requires rare { IsRareOf intervals.now rare }
         ensures places { IfOk result (λ r. (byte : ℕ → Option PatternByte) → AreIntervals byte intervals.now → ArePlaces byte self.now.program.now.bytes.items self.now.program.now.base r.0.items r.1) }
         ensures cut { IfOk result (λ r. (byte : ℕ → Option PatternByte) → AreIntervals byte intervals.now → r.1 ≡ true → IsCut byte self.now.program.now.bytes.items self.now.program.now.base self.now.most r.0.items) }
@@ -375,6 +378,31 @@ impl<'a> Indexed<'a> {
         Ok((places, true))
     }
 
+    /// The same, also where its windows are not kept: then all are looked at.
+    fn places(
+        &self,
+        alloc: Global,
+        intervals: &[Interval<'_>],
+        rare: Rare,
+    ) -> Result<(Vec<u32>, bool), AllocError>
+        requires windows { AreWindows (is_kept self.now.windows.marks.items) self.now.program.now.bytes.items self.now.windows.sorted.items }
+        requires rare { IsRareOf intervals.now rare }
+        ensures places { IfOk result (λ r. (byte : ℕ → Option PatternByte) → AreIntervals byte intervals.now → ArePlaces byte self.now.program.now.bytes.items self.now.program.now.base r.0.items r.1) }
+        ensures cut { IfOk result (λ r. (byte : ℕ → Option PatternByte) → AreIntervals byte intervals.now → r.1 ≡ true → IsCut byte self.now.program.now.bytes.items self.now.program.now.base self.now.most r.0.items) }
+    {
+        if self.windows.has(rare.key) {
+            return self.places_of(alloc, intervals, rare);
+        }
+        let windows = Windows::all(alloc, &self.program.bytes)?;
+        let indexed = Indexed {
+            program: self.program,
+            counts: self.counts,
+            windows,
+            most: self.most,
+        };
+        indexed.places_of(alloc, intervals, rare)
+    }
+
     /// A segment of a module, with its places.
     fn shape(
         &self,
@@ -382,16 +410,16 @@ impl<'a> Indexed<'a> {
         segment: u16,
         intervals: &[Interval<'_>],
     ) -> Result<Shape, AllocError>
-        requires windows { AreWindows self.now.program.now.bytes.items self.now.windows.sorted.items }
+        requires windows { AreWindows (is_kept self.now.windows.marks.items) self.now.program.now.bytes.items self.now.windows.sorted.items }
         requires whole { All IsWhole intervals.now }
         ensures shape { IfOk result (λ s. (byte : ℕ → Option PatternByte) → AreIntervals byte intervals.now → IsShape byte self.now.program.now.bytes.items self.now.program.now.base self.now.most s) }
         ensures segment { IfOk result (λ s. s.segment ≡ segment) }
     {
         let (first, end) = extent(intervals);
         let closed = count_closed(intervals);
-        match rarest_of(&self.windows, intervals) {
+        match rarest_of(self.counts, intervals) {
             Some(rare) => {
-                let (places, more) = self.places_of(alloc, intervals, rare)?;
+                let (places, more) = self.places(alloc, intervals, rare)?;
                 let varied = varied_at(&places, intervals);
                 Ok(Shape {
                     segment,
@@ -429,7 +457,7 @@ impl<'a> Indexed<'a> {
         pattern: &Pattern,
         count: u16,
     ) -> Result<Vec<Shape>, AllocError>
-        requires windows { AreWindows self.now.program.now.bytes.items self.now.windows.sorted.items }
+        requires windows { AreWindows (is_kept self.now.windows.marks.items) self.now.program.now.bytes.items self.now.windows.sorted.items }
         requires marked { IsMarked pattern.now }
         ensures { IfOk result (λ v. AreShapes (byte_in pattern.now) self.now.program.now.bytes.items self.now.program.now.base self.now.most count v.items) }
     {
@@ -444,7 +472,7 @@ impl<'a> Indexed<'a> {
 
     /// The segments of a module.
     fn module_shapes(&self, alloc: Global, module: &Checked) -> Result<Vec<Shape>, AllocError>
-        requires { AreWindows self.now.program.now.bytes.items self.now.windows.sorted.items }
+        requires { AreWindows (is_kept self.now.windows.marks.items) self.now.program.now.bytes.items self.now.windows.sorted.items }
         ensures { IfOk result (λ v. HaveShapes self.now.program.now self.now.most «module».now v.items) }
     {
         let pattern = marked_pattern(alloc, module)?;
@@ -461,9 +489,12 @@ pub(crate) fn shapes_of(
 ) -> Result<Vec<Vec<Shape>>, AllocError>
     ensures { IfOk result (λ v. AllZip (HasShapes program.now most) modules.now v.items) }
 {
+    let counts = Counts::of(alloc, &program.bytes)?;
+    let marks = wanted(alloc, modules, program.bytes.len(), &counts)?;
     let indexed = Indexed {
         program,
-        windows: Windows::of(alloc, &program.bytes)?,
+        counts: &counts,
+        windows: Windows::of(alloc, &program.bytes, marks)?,
         most,
     };
     let mut shapes = Vec::with_capacity(alloc, modules.len())?;

@@ -1,29 +1,48 @@
 //! Where each four bytes are in a program.
 
-ghost use Rattle.std.specs.Prelude.{◌≡◌, ◌<◌, ◌≤◌, ◌+◌, ◌*◌, ◌^◌, ℕ, drop, length, get_or, slice_get, IfOk};
-ghost use Rattle.omf_finding.specs.Inner.Shaping.{AreWindows, HasWindows, OnlyWindows, front, offset_in, window_at};
+ghost use Rattle.std.specs.Prelude.{◌≡◌, ◌<◌, ◌≤◌, ◌+◌, ◌*◌, ◌^◌, [], ℕ, drop, length, get_or, slice_get, IfOk};
+ghost use Rattle.omf_finding.specs.Inner.Shaping.{AreWindows, HasWindows, OnlyWindows, bucket_of, front, is_kept, offset_in, window_at};
 ghost use Rattle.std.specs.List.Sorted.{IsNonDecreasing, IsPermutation};
 
 use std::alloc::{AllocError, Global};
 
-/// The number of counts.
-const BUCKETS: usize = 1 << 16;
+/// The number of buckets.
+pub(crate) const BUCKETS: usize = 1 << 18;
+
+/// The number of counts: one for four buckets.
+const COUNTS: usize = BUCKETS / 4;
 
 /// 2 to the power of 32.
 const STEP: u64 = 1 << 32;
+
+/// How many windows of four bytes a program has, about.
+#[derive(Drop)]
+pub(crate) struct Counts {
+    /// How many windows have bytes of each four buckets.
+    counts: Vec<u32>,
+}
 
 /// The windows of four bytes of a program.
 #[derive(Drop)]
 pub(crate) struct Windows {
     /// Each window's bytes, as a little-endian number, times 2^32, plus its offset; in ascending order.
     pub(crate) sorted: Vec<u64>,
-    /// How many windows have bytes of each bucket: a first guess of how rare a window is.
-    counts: Vec<u32>,
+    /// Of which buckets the windows are here; empty if they are of all.
+    pub(crate) marks: Vec<bool>,
 }
 
 /// The bucket of four bytes.
-fn bucket_of(key: u32) -> usize {
-    (key.wrapping_mul(2_654_435_761) >> 16) as usize
+pub(crate) fn bucket_of(key: u32) -> usize
+    ensures { result ≡ bucket_of key }
+{
+    (u64::from(key) * 2_654_435_761 % STEP / (1 << 14)) as usize
+}
+
+/// Whether the windows with these bytes are kept, where these buckets are marked.
+fn is_kept(marks: &[bool], key: u32) -> bool
+    ensures { result ≡ is_kept marks.now key }
+{
+    marks.get(bucket_of(key)).copied().unwrap_or(true)
 }
 
 /// The first four bytes as a little-endian number.
@@ -36,44 +55,43 @@ pub(crate) fn front(bytes: &[u8]) -> Option<u32>
     }
 }
 
-/// The window at an offset: its bytes and the offset in one number.
-fn window_at(program: &[u8], at: u32) -> Option<u64>
+/// The window at an offset, if it is kept: its bytes and the offset in one number.
+fn window_at(program: &[u8], marks: &[bool], at: u32) -> Option<u64>
     requires { at < length program.now }
-    ensures { result ≡ window_at program.now at }
+    ensures { result ≡ window_at (is_kept marks.now) program.now at }
 {
     match front(&program[at as usize..]) {
-        Some(key) => Some(u64::from(key) * STEP + u64::from(at)),
+        Some(key) => {
+            if is_kept(marks, key) {
+                Some(u64::from(key) * STEP + u64::from(at))
+            } else {
+                None
+            }
+        }
         None => None,
     }
 }
 
-/// The windows of a program, in ascending order of offset. Those from 2^32 on are left out.
-fn all_windows(alloc: Global, program: &[u8]) -> Result<Vec<u64>, AllocError>
-    ensures has { IfOk result (λ v. HasWindows program.now v.items (length program.now)) }
+/// The windows of a program that are kept, in ascending order of offset. Those from 2^32 on are left out. There is room for `room` of them at
+/// once.
+fn all_windows(
+    alloc: Global,
+    program: &[u8],
+    marks: &[bool],
+    room: usize,
+) -> Result<Vec<u64>, AllocError>
+    ensures has { IfOk result (λ v. HasWindows (is_kept marks.now) program.now v.items (length program.now)) }
     ensures only { IfOk result (λ v. OnlyWindows program.now v.items (length program.now)) }
 {
-    let mut windows = Vec::with_capacity(alloc, program.len())?;
+    let mut windows = Vec::with_capacity(alloc, room)?;
     for at in 0..program.len() {
         if let Ok(offset) = u32::try_from(at) {
-            if let Some(window) = window_at(program, offset) {
+            if let Some(window) = window_at(program, marks, offset) {
                 windows.push(window)?;
             }
         }
     }
     Ok(windows)
-}
-
-/// How many windows there are in each bucket.
-fn counts_of(alloc: Global, windows: &[u64]) -> Result<Vec<u32>, AllocError> {
-    let mut counts = vec![in alloc; 0; BUCKETS]?;
-    for window in windows {
-        if let Ok(key) = u32::try_from(*window / STEP) {
-            if let Some(count) = counts.get_mut(bucket_of(key)) {
-                *count = u32::saturating_add(*count, 1);
-            }
-        }
-    }
-    Ok(counts)
 }
 
 /// Numbers in ascending order.
@@ -101,19 +119,57 @@ fn window_after(windows: &[u64], first: usize, k: usize) -> Option<u64>
     windows_from(windows, first).get(k).copied()
 }
 
-impl Windows {
-    /// The windows of a program.
-    pub(crate) fn of(alloc: Global, program: &[u8]) -> Result<Windows, AllocError>
-        ensures { IfOk result (λ w. AreWindows program.now w.sorted.items) }
-    {
-        let sorted = ascending(all_windows(alloc, program)?);
-        let counts = counts_of(alloc, &sorted)?;
-        Ok(Windows { sorted, counts })
+impl Counts {
+    /// None are counted.
+    pub(crate) fn none(alloc: Global) -> Counts {
+        Counts {
+            counts: Vec::new(alloc),
+        }
+    }
+
+    /// Those of a program.
+    pub(crate) fn of(alloc: Global, program: &[u8]) -> Result<Counts, AllocError> {
+        let mut counts = vec![in alloc; 0; COUNTS]?;
+        for at in 0..program.len() {
+            if let Some(key) = front(&program[at..]) {
+                if let Some(count) = counts.get_mut(bucket_of(key) / 4) {
+                    *count = u32::saturating_add(*count, 1);
+                }
+            }
+        }
+        Ok(Counts { counts })
     }
 
     /// About how many windows have these bytes.
     pub(crate) fn count(&self, key: u32) -> u32 {
-        self.counts.get(bucket_of(key)).copied().unwrap_or(0)
+        self.counts.get(bucket_of(key) / 4).copied().unwrap_or(0)
+    }
+}
+
+impl Windows {
+    /// The windows of a program in the buckets that are marked.
+    pub(crate) fn of(alloc: Global, program: &[u8], marks: Vec<bool>) -> Result<Windows, AllocError>
+        ensures windows { IfOk result (λ w. AreWindows (is_kept w.marks.items) program.now w.sorted.items) }
+        ensures marks { IfOk result (λ w. w.marks.items ≡ marks.items) }
+    {
+        let room = if marks.is_empty() { program.len() } else { 0 };
+        let sorted = ascending(all_windows(alloc, program, &marks, room)?);
+        Ok(Windows { sorted, marks })
+    }
+
+    /// All windows of a program.
+    pub(crate) fn all(alloc: Global, program: &[u8]) -> Result<Windows, AllocError>
+        ensures windows { IfOk result (λ w. AreWindows (is_kept []) program.now w.sorted.items) }
+        ensures marks { IfOk result (λ w. w.marks.items ≡ []) }
+    {
+        Windows::of(alloc, program, Vec::new(alloc))
+    }
+
+    /// Whether all windows with these bytes are here.
+    pub(crate) fn has(&self, key: u32) -> bool
+        ensures { result ≡ is_kept self.now.marks.items key }
+    {
+        is_kept(&self.marks, key)
     }
 
     /// The number of the first window with these bytes, or of the one after it.

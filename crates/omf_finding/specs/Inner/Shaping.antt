@@ -1,5 +1,5 @@
 -- How the places of a segment are computed. Only private functions use these definitions.
-use Rattle.std.specs.Prelude.{◌≡◌, ◌<◌, ◌≤◌, ℕ, ◌+◌, ◌-◌, ◌*◌, ◌^◌, ◌==◌, ◌&&◌, ◌||◌, not, List, [], ◌∷◌, length, drop, Bool, true, false, nat_le, nat_lt, Option, Some, None, IsSome, IsNone, option_map, slice_get, Contains, ◌≢◌, if◌then◌else◌}
+use Rattle.std.specs.Prelude.{◌≡◌, ◌<◌, ◌≤◌, ℕ, ◌+◌, ◌-◌, ◌*◌, ◌/◌, ◌%◌, ◌^◌, ◌==◌, ◌&&◌, ◌||◌, not, List, [], ◌∷◌, length, drop, Bool, true, false, nat_le, nat_lt, Option, Some, None, IsSome, IsNone, option_map, unwrap_or, slice_get, Contains, ◌≢◌, if◌then◌else◌}
 use Rattle.std.specs.List.{AllPairs, list_all, zip}
 use Rattle.std.specs.List.Sorted.{IsNonDecreasing, IsStrictlyIncreasing}
 use Rattle.std.specs.Global.{Vec}
@@ -117,13 +117,24 @@ IsRareOf is r = (i : Interval) × Contains is i × IsRareIn i r
 
 -- ---- windows
 
--- The windows of the first n offsets of a program, each its number times 2^32, plus its offset.
-abbrev pub HasWindows : List ℕ → List ℕ → ℕ → Type 0
-HasWindows program windows n = (at key : ℕ) → at < n → at < 2 ^ 32 → front (drop at program) ≡ Some key → Contains windows (key * 2 ^ 32 + at)
+-- The bucket of four bytes.
+abbrev pub bucket_of : ℕ → ℕ
+bucket_of key = key * 2654435761 % 2 ^ 32 / 2 ^ 14
 
--- The window at an offset.
-abbrev pub window_at : List ℕ → ℕ → Option ℕ
-window_at program at = option_map (λ key. key * 2 ^ 32 + at) (front (drop at program))
+-- The windows of marked buckets are kept; if none is marked or not, all are.
+abbrev pub is_kept : List Bool → ℕ → Bool
+is_kept marks key = unwrap_or (slice_get marks (bucket_of key)) true
+
+-- Of the windows of the first n offsets of a program those that are kept, each its number times 2^32, plus its offset.
+abbrev pub HasWindows : (ℕ → Bool) → List ℕ → List ℕ → ℕ → Type 0
+HasWindows kept program windows n = (at key : ℕ) → at < n → at < 2 ^ 32 → front (drop at program) ≡ Some key → kept key ≡ true → Contains windows (key * 2 ^ 32 + at)
+
+abbrev pub if_kept : (ℕ → Bool) → ℕ → Option ℕ
+if_kept kept key = if kept key then Some key else None
+
+-- The window at an offset, if it is kept.
+abbrev pub window_at : (ℕ → Bool) → List ℕ → ℕ → Option ℕ
+window_at kept program at = option_map (λ key. key * 2 ^ 32 + at) (option_and_then (if_kept kept) (front (drop at program)))
 
 -- A window of the first n offsets of a program.
 pub record IsWindow (program : List ℕ) (n window : ℕ) : Type 0 where
@@ -139,8 +150,8 @@ pub record OnlyWindows (program windows : List ℕ) (n : ℕ) : Type 0 where
   pub each : (window : ℕ) → Contains windows window → IsWindow program n window
   pub distinct : AllPairs (λ x y. x ≢ y) windows
 
-pub record AreWindows (program sorted : List ℕ) : Type 0 where
-  pub has : HasWindows program sorted (length program)
+pub record AreWindows (kept : ℕ → Bool) (program sorted : List ℕ) : Type 0 where
+  pub has : HasWindows kept program sorted (length program)
   pub each : (window : ℕ) → Contains sorted window → IsWindow program (length program) window
   pub increases : IsStrictlyIncreasing sorted
   pub rises : IsNonDecreasing sorted

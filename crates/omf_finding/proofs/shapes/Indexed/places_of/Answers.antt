@@ -1,5 +1,5 @@
 use Rattle.std.proofs.Common.{rules, arith, ◌≡◌, ◌≤◌, ◌+◌, ◌++◌, ◌∷◌, [], length, sym, ap, subst}
-use Rattle.omf_finding.specs.Inner.Shaping.{is_at}
+use Rattle.omf_finding.specs.Inner.Shaping.{is_at, is_kept}
 use Rattle.omf_finding.proofs.PlaceLaws.{cut-common, cut-full, places-all, places-some}
 use Rattle.omf_finding.proofs.WindowLaws.{AreSoFar, places-more, places-same, tries-rise, trying}
 use Rattle.omf_finding.proofs.shapes.Indexed.places_of.Goals.{in-Other, in-Place+else-len-self+in_ok-push_place-in-Place}
@@ -9,14 +9,14 @@ pub returns-in-End-clause-places : goal.returns-in-End-clause-places
 returns-in-End-clause-places c =
     let self = c.args.self.now in
     let first = c.first-first.result in
-    λ byte are. places-all byte c.args.intervals.now are self.program.now.bytes.items self.program.now.base self.windows.sorted.items c.requires.windows c.args.rare c.requires.rare first
+    λ byte are. places-all byte c.args.intervals.now are self.program.now.bytes.items self.program.now.base (is_kept self.windows.marks.items) self.windows.sorted.items c.requires.windows c.args.rare c.requires.kept c.requires.rare first
     (record { before = c.first-first.ensures.before; after = c.first-first.ensures.after }) (first + c.loop-k.k) (sym c.in-End.ensures) c.loop-k.places.items c.loop-k.invariant
 
 pub returns-then-len-self-clause-places : goal.returns-then-len-self-clause-places
 returns-then-len-self-clause-places c =
     let self = c.args.self.now in
     let first = c.first-first.result in
-    λ byte are. places-some byte c.args.intervals.now are self.program.now.bytes.items self.program.now.base self.windows.sorted.items c.requires.windows c.args.rare c.requires.rare first
+    λ byte are. places-some byte c.args.intervals.now are self.program.now.bytes.items self.program.now.base (is_kept self.windows.marks.items) self.windows.sorted.items c.requires.windows c.args.rare c.requires.kept c.requires.rare first
     (record { before = c.first-first.ensures.before; after = c.first-first.ensures.after }) (first + c.loop-k.k) c.loop-k.places.items c.loop-k.invariant
 
 pub returns-then-len-self-clause-cut : goal.returns-then-len-self-clause-cut
@@ -24,7 +24,7 @@ returns-then-len-self-clause-cut c =
     let self = c.args.self.now in
     let first = c.first-first.result in
     let full : self.most ≤ length c.loop-k.places.items = omega (arith, c.if-len-self.true, c.len.ensures) in
-    λ byte are more. cut-full byte c.args.intervals.now are self.program.now.bytes.items self.program.now.base self.windows.sorted.items c.requires.windows c.args.rare c.requires.rare first
+    λ byte are more. cut-full byte c.args.intervals.now are self.program.now.bytes.items self.program.now.base (is_kept self.windows.marks.items) self.windows.sorted.items c.requires.windows c.args.rare c.requires.kept c.requires.rare first
     (record { before = c.first-first.ensures.before; after = c.first-first.ensures.after }) (first + c.loop-k.k) self.most c.in-Place.address c.loop-k.places.items (sym c.in-Place.ensures) full c.loop-k.invariant
 
 pub loop-k-preserved : goal.loop-k-preserved
@@ -50,7 +50,7 @@ pub returns-clause-places : goal.returns-clause-places
 returns-clause-places c =
     let self = c.args.self.now in
     let first = c.first-first.result in
-    λ byte are. places-some byte c.args.intervals.now are self.program.now.bytes.items self.program.now.base self.windows.sorted.items c.requires.windows c.args.rare c.requires.rare first
+    λ byte are. places-some byte c.args.intervals.now are self.program.now.bytes.items self.program.now.base (is_kept self.windows.marks.items) self.windows.sorted.items c.requires.windows c.args.rare c.requires.kept c.requires.rare first
     (record { before = c.first-first.ensures.before; after = c.first-first.ensures.after }) (first + c.loop-k.k) c.loop-k.places.items c.loop-k.invariant
 
 pub returns-clause-cut : goal.returns-clause-cut
@@ -58,5 +58,5 @@ returns-clause-cut c =
     let self = c.args.self.now in
     let first = c.first-first.result in
     let all : first + c.loop-k.k ≡ first + 64 = omega (arith, c.loop-k-test.false, c.loop-k.auto.k-end) in
-    λ byte are more. cut-common byte c.args.intervals.now are self.program.now.bytes.items self.program.now.base self.windows.sorted.items c.requires.windows c.args.rare c.requires.rare first
+    λ byte are more. cut-common byte c.args.intervals.now are self.program.now.bytes.items self.program.now.base (is_kept self.windows.marks.items) self.windows.sorted.items c.requires.windows c.args.rare c.requires.kept c.requires.rare first
     (record { before = c.first-first.ensures.before; after = c.first-first.ensures.after }) (first + c.loop-k.k) self.most all c.loop-k.places.items c.loop-k.invariant
