@@ -54,3 +54,29 @@ chunk-passed n vs ms ps own marks bytes others others_marks others_bytes known a
     cells-split n vs ms ps a b c
     ∙ ap (λ (t : Bool). t && cells_agree (drop n vs) (drop n ms) (drop n ps)) (sym front ∙ k)
     ∙ ap (λ (t : Bool). known && t) (sym back)
+
+-- ---- one after another
+
+-- the first n bytes of each, where one of them has no more
+pub cells-short : (n : ℕ) (vs ms ps : List ℕ) → (n < length vs → n < length ms → n < length ps → ⊥) → cells_agree (take n vs) (take n ms) (take n ps) ≡ cells_agree vs ms ps
+cells-short zero [] ms ps h = refl
+cells-short zero (v ∷ vs) [] ps h = refl
+cells-short zero (v ∷ vs) (m ∷ ms) [] h = refl
+cells-short zero (v ∷ vs) (m ∷ ms) (p ∷ ps) h = absurd (h (omega arith) (omega arith) (omega arith))
+cells-short (suc n) [] ms ps h = refl
+cells-short (suc n) (v ∷ vs) [] ps h = refl
+cells-short (suc n) (v ∷ vs) (m ∷ ms) [] h = refl
+cells-short (suc n) (v ∷ vs) (m ∷ ms) (p ∷ ps) h =
+    ap (λ (t : Bool). cell_agrees v m p && t) (cells-short n vs ms ps (λ a b c. h (omega (arith, a)) (omega (arith, b)) (omega (arith, c))))
+
+and-false : (b : Bool) → (b && false) ≡ false
+and-false true = refl
+and-false false = refl
+
+-- a byte differs
+pub cells-differ : (vs ms ps : List ℕ) (i d e f : ℕ) → i < length vs → i < length ms → i < length ps → cell_agrees (get_or vs i d) (get_or ms i e) (get_or ps i f) ≡ false → cells_agree vs ms ps ≡ false
+cells-differ vs ms ps i d e f a b c differs =
+    let before = cells_agree (take i vs) (take i ms) (take i ps) in
+    let others = cells_agree (drop (i + 1) vs) (drop (i + 1) ms) (drop (i + 1) ps) in
+    cells-split (i + 1) vs ms ps (omega (arith, a)) (omega (arith, b)) (omega (arith, c))
+    ∙ ap (λ (t : Bool). t && others) (cells-more vs ms ps i d e f a b c ∙ ap (λ (t : Bool). before && t) differs ∙ and-false before)

@@ -198,9 +198,7 @@ fn expanded(alloc: Global, blocks: Blocks<'_>) -> Result<Vec<u8>, AllocError>
 fn repeated(alloc: Global, byte: u8, count: usize) -> Result<Vec<u8>, AllocError>
     ensures { IfOk result (λ v. v.items ≡ replicate count byte) }
 {
-    let mut bytes = Vec::new(alloc);
-    bytes.resize(count, byte)?;
-    Ok(bytes)
+    vec![in alloc; byte; count]
 }
 
 impl Walk {

@@ -1,6 +1,6 @@
 //! The segments of modules, and the places of a program where their closed bytes are.
 
-ghost use Rattle.std.specs.Prelude.{◌≡◌, ◌⊎◌, ◌+◌, ◌++◌, ◌∷◌, [], ◌<◌, ◌≤◌, ◌^◌, ◌==◌, ℕ, All, length, not, true, Option, None, IfOk, IfSome, OnOk};
+ghost use Rattle.std.specs.Prelude.{◌≡◌, ◌⊎◌, ◌+◌, ◌++◌, ◌∷◌, [], ◌<◌, ◌≤◌, ◌^◌, ◌==◌, ℕ, All, length, false, not, true, Option, None, IfOk, IfSome, OnOk};
 ghost use Rattle.std.specs.List.{AllZip};
 ghost use Rattle.omf_finding.specs.Finding.{IsCut};
 ghost use Rattle.omf_finding.specs.Inner.Walking.{byte_in};
@@ -84,6 +84,16 @@ fn rarer(found: Option<Rare>, one: Option<Rare>) -> Option<Rare>
     }
 }
 
+/// Whether none is rarer, since no window has these four bytes.
+fn is_rarest(rare: Option<Rare>) -> bool
+    ensures { rare ≡ None → result ≡ false }
+{
+    match rare {
+        Some(rare) => rare.count == 0,
+        None => false,
+    }
+}
+
 /// A mark of a closed byte.
 fn is_closed(mark: u8) -> bool
     ensures { result ≡ not (mark == 1) }
@@ -135,6 +145,9 @@ fn rarest_in(counts: &Counts, interval: Interval<'_>) -> Option<Rare>
     let mut rarest = None;
     for at in 0..interval.values.len() {
         rarest = rarer(rarest, rare_at(counts, interval, at));
+        if is_rarest(rarest) {
+            return rarest;
+        }
     }
     rarest
 }
@@ -148,6 +161,9 @@ pub(crate) fn rarest_of(counts: &Counts, intervals: &[Interval<'_>]) -> Option<R
     let mut rarest = None;
     for interval in intervals {
         rarest = rarer(rarest, rarest_in(counts, *interval));
+        if is_rarest(rarest) {
+            return rarest;
+        }
     }
     rarest
 }
@@ -180,11 +196,13 @@ fn chunk_agrees(values: &[u8], marks: &[u8], program: &[u8]) -> bool
 fn few_agree(values: &[u8], marks: &[u8], program: &[u8]) -> bool
     ensures { result ≡ cells_agree values.now marks.now program.now }
 {
-    values
-        .iter()
-        .zip(marks)
-        .zip(program)
-        .all(|((value, mark), byte)| cell_agrees(*value, *mark, *byte))
+    let count = values.len().min(marks.len()).min(program.len());
+    for at in 0..count {
+        if !cell_agrees(values[at], marks[at], program[at]) {
+            return false;
+        }
+    }
+    true
 }
 
 /// Whether there are enough bytes of each to compare many at once.
