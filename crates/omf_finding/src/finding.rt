@@ -45,6 +45,8 @@ pub(crate) fn begun<'a>(
         names: Names::new(alloc),
         fixes: Vec::with_capacity(alloc, modules.len())?,
         groups: BTreeMap::new(alloc),
+        group_numbers: Vec::new(alloc),
+        first_groups: Vec::with_capacity(alloc, modules.len())?,
         frames: Vec::new(alloc),
         queue: Vec::new(alloc),
     };
@@ -99,15 +101,26 @@ impl<'a> Search<'a> {
 
     /// Adds the groups of a module, by name.
     fn add_groups(&mut self, module: &'a Checked) -> Result<(), AllocError> {
+        self.first_groups.push(self.group_numbers.len())?;
         for group in 1..=module.groups() {
-            if let Some(name) = group_name(module, group)
-                && self.groups.get(&NameKey::of(name.0)).is_none()
-            {
-                self.groups.insert(NameKey::of(name.0), self.frames.len())?;
-                self.frames.push(None)?;
-            }
+            let number = match group_name(module, group) {
+                Some(name) => Some(self.group_with(name.0)?),
+                None => None,
+            };
+            self.group_numbers.push(number)?;
         }
         Ok(())
+    }
+
+    /// The number of the groups with a name; a new one, if there is none yet.
+    fn group_with(&mut self, name: &'a [u8]) -> Result<usize, AllocError> {
+        if let Some(number) = self.groups.get(&NameKey::of(name)) {
+            return Ok(*number);
+        }
+        let number = self.frames.len();
+        self.groups.insert(NameKey::of(name), number)?;
+        self.frames.push(None)?;
+        Ok(number)
     }
 
     /// Puts the segment of a module's start at the program's start.

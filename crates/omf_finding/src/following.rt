@@ -1,7 +1,7 @@
 //! The search: from places that are sure by themselves along references to the end.
 
 use crate::fixes::{Fix, entry_with, fixes_of};
-use crate::names::{Definer, Names};
+use crate::names::{Definer, MOST_DEFINERS, Names};
 use crate::program::Program;
 use crate::sayings::{Sayings, outcomes};
 use crate::shapes::Shape;
@@ -57,6 +57,10 @@ pub(crate) struct Search<'a> {
     pub(crate) fixes: Vec<Option<Vec<Fix>>>,
     /// The number of each group, by name.
     pub(crate) groups: BTreeMap<NameKey<'a>, usize>,
+    /// The numbers of each module's groups, one module after another; `None` for one without a name.
+    pub(crate) group_numbers: Vec<Option<usize>>,
+    /// How many groups the modules before each module have.
+    pub(crate) first_groups: Vec<usize>,
     /// The selector of each group's frame, once it is known.
     pub(crate) frames: Vec<Option<u16>>,
     /// The segments whose references are to be followed.
@@ -163,9 +167,12 @@ impl<'a> Search<'a> {
 
     /// The number of a group of a module.
     fn group_number(&self, module: usize, group: u16) -> Option<usize> {
-        let checked = self.modules.get(module)?;
-        let key = NameKey::of(group_name(checked, group)?.0);
-        self.groups.get(&key).copied()
+        if group > self.modules.get(module)?.groups() {
+            return None;
+        }
+        let first = *self.first_groups.get(module)?;
+        let number = first.checked_add(usize::from(group.checked_sub(1)?))?;
+        *self.group_numbers.get(number)?
     }
 
     /// The greatest selector whose frame begins at or before an address.
@@ -627,7 +634,9 @@ impl<'a> Search<'a> {
         for (module, own) in shapes.iter().enumerate() {
             if self.has_place(module, own) {
                 self.note_singles(&mut sayings, module, own)?;
-                self.note_externals(&mut sayings, module)?;
+                if self.asks_for_unplaced(module) {
+                    self.note_externals(&mut sayings, module)?;
+                }
             }
         }
         self.take_places(&mut sayings)
@@ -651,6 +660,36 @@ impl<'a> Search<'a> {
             }
         }
         Ok(())
+    }
+
+    /// Whether a segment without a place defines an external of a module.
+    fn asks_for_unplaced(&self, module: usize) -> bool {
+        let Some(checked) = self.modules.get(module) else {
+            return false;
+        };
+        for before in 0..checked.externals() {
+            if let Some(name) = self.external_name(module, before.saturating_add(1))
+                && self.has_unplaced(name)
+            {
+                return true;
+            }
+        }
+        false
+    }
+
+    /// Whether a segment without a place defines a name.
+    fn has_unplaced(&self, name: &'a [u8]) -> bool {
+        let mut next = self.names.last(name);
+        for _ in 0..MOST_DEFINERS {
+            let Some(definer) = next else {
+                return false;
+            };
+            if self.place_of(definer.part).is_none() {
+                return true;
+            }
+            next = self.names.before(&definer);
+        }
+        false
     }
 
     /// Notes where the externals of a module are, by all its references together.

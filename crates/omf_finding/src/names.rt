@@ -6,7 +6,7 @@ use std::alloc::{AllocError, Global};
 use std::collections::BTreeMap;
 
 /// The number of publics of one name that are looked at.
-const MOST_DEFINERS: usize = 16;
+pub(crate) const MOST_DEFINERS: usize = 16;
 
 /// A public of a segment.
 #[derive(Clone, Copy, Debug, Drop)]
@@ -85,9 +85,15 @@ impl<'a> Names<'a> {
         Ok(())
     }
 
-    /// A public.
-    fn definer(&self, number: Option<usize>) -> Option<Definer> {
-        self.definers.get(number?).copied()
+    /// The last public with a name.
+    pub(crate) fn last(&self, name: &'a [u8]) -> Option<Definer> {
+        let number = *self.by_name.get(&NameKey::of(name))?;
+        self.definers.get(number).copied()
+    }
+
+    /// The public of the same name before another one.
+    pub(crate) fn before(&self, definer: &Definer) -> Option<Definer> {
+        self.definers.get(definer.before?).copied()
     }
 
     /// The publics with a name, the last first.
@@ -97,13 +103,17 @@ impl<'a> Names<'a> {
         name: &'a [u8],
     ) -> Result<Vec<Definer>, AllocError> {
         let mut found = Vec::new(alloc);
-        let mut number = self.by_name.get(&NameKey::of(name)).copied();
+        let mut next = self.last(name);
         for _ in 0..MOST_DEFINERS {
-            let Some(definer) = self.definer(number) else {
+            let Some(definer) = next else {
                 break;
             };
+            // Most names have one.
+            if found.is_empty() {
+                found.reserve_exact(1)?;
+            }
             found.push(definer)?;
-            number = definer.before;
+            next = self.before(&definer);
         }
         Ok(found)
     }
