@@ -43,7 +43,8 @@ pub(crate) fn begun<'a>(
         parts: Vec::with_capacity(alloc, modules.len())?,
         firsts: Vec::with_capacity(alloc, modules.len())?,
         names: Names::new(alloc),
-        fixes: Vec::with_capacity(alloc, modules.len())?,
+        fixes: Vec::new(alloc),
+        fix_numbers: Vec::with_capacity(alloc, modules.len())?,
         groups: BTreeMap::new(alloc),
         group_numbers: Vec::new(alloc),
         first_groups: Vec::with_capacity(alloc, modules.len())?,
@@ -85,7 +86,7 @@ impl<'a> Search<'a> {
         let number = u32::try_from(self.firsts.len()).unwrap_or(u32::MAX);
         let first = self.parts.len();
         self.firsts.push(first)?;
-        self.fixes.push(None)?;
+        self.fix_numbers.push(0)?;
         for segment in 1..=module.segments() {
             self.parts.push(Part {
                 module: number,
@@ -101,7 +102,8 @@ impl<'a> Search<'a> {
 
     /// Adds the groups of a module, by name.
     fn add_groups(&mut self, module: &'a Checked) -> Result<(), AllocError> {
-        self.first_groups.push(self.group_numbers.len())?;
+        let first = u32::try_from(self.group_numbers.len()).unwrap_or(u32::MAX);
+        self.first_groups.push(first)?;
         for group in 1..=module.groups() {
             let number = match group_name(module, group) {
                 Some(name) => Some(self.group_with(name.0)?),

@@ -54,13 +54,15 @@ pub(crate) struct Search<'a> {
     pub(crate) firsts: Vec<usize>,
     pub(crate) names: Names<'a>,
     /// The fixups of each module that has a place.
-    pub(crate) fixes: Vec<Option<Vec<Fix>>>,
+    pub(crate) fixes: Vec<Vec<Fix>>,
+    /// The number of each module's fixups among these, from 1; 0 where they are not read yet.
+    pub(crate) fix_numbers: Vec<u32>,
     /// The number of each group, by name.
     pub(crate) groups: BTreeMap<NameKey<'a>, usize>,
     /// The numbers of each module's groups, one module after another; `None` for one without a name.
     pub(crate) group_numbers: Vec<Option<usize>>,
     /// How many groups the modules before each module have.
-    pub(crate) first_groups: Vec<usize>,
+    pub(crate) first_groups: Vec<u32>,
     /// The selector of each group's frame, once it is known.
     pub(crate) frames: Vec<Option<u16>>,
     /// The segments whose references are to be followed.
@@ -171,7 +173,7 @@ impl<'a> Search<'a> {
             return None;
         }
         let first = *self.first_groups.get(module)?;
-        let number = first.checked_add(usize::from(group.checked_sub(1)?))?;
+        let number = (first as usize).checked_add(usize::from(group.checked_sub(1)?))?;
         *self.group_numbers.get(number)?
     }
 
@@ -479,31 +481,38 @@ impl<'a> Search<'a> {
 
     /// Reads the fixups of a module, unless they were.
     fn read_fixes(&mut self, module: usize) -> Result<(), AllocError> {
-        if let (Some(checked), Some(fixes)) = (
+        if let (Some(checked), Some(number)) = (
             self.modules.get(module),
-            self.fixes.get_mut(module),
+            self.fix_numbers.get_mut(module),
         ) {
-            if fixes.is_none() {
-                *fixes = Some(fixes_of(self.alloc, checked)?);
+            if *number == 0 {
+                self.fixes.push(fixes_of(self.alloc, checked)?)?;
+                *number = u32::try_from(self.fixes.len()).unwrap_or(0);
             }
         }
         Ok(())
     }
 
+    /// The fixups of a module, if they are read.
+    pub(crate) fn fixes_in(&self, module: usize) -> &[Fix] {
+        let Some(number) = self.fix_numbers.get(module) else {
+            return &[];
+        };
+        match self.fixes.get((*number as usize).wrapping_sub(1)) {
+            Some(fixes) => fixes.as_slice(),
+            None => &[],
+        }
+    }
+
     /// A fixup of a module, from 0.
     fn fix(&self, module: usize, number: usize) -> Option<Fix> {
-        match self.fixes.get(module)? {
-            Some(fixes) => fixes.get(number).copied(),
-            None => None,
-        }
+        self.fixes_in(module).get(number).copied()
     }
 
     /// The number of the first fixup of a segment of a module, or of the first one of a segment after it.
     fn first_fix(&self, module: usize, segment: u16) -> usize {
-        match self.fixes.get(module) {
-            Some(Some(fixes)) => fixes.partition_point(|fix| fix.segment < segment),
-            _ => 0,
-        }
+        self.fixes_in(module)
+            .partition_point(|fix| fix.segment < segment)
     }
 
     /// Looks at the references of a segment that has a place: at selectors, or at where they lead.

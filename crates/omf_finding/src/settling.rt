@@ -301,10 +301,7 @@ impl<'a> Search<'a> {
     /// The placement of a module.
     pub(crate) fn settle(&self, module: usize, checked: &Checked) -> Result<Settled, AllocError> {
         let mut draft = self.draft(module, checked)?;
-        let fixes = match self.fixes.get(module) {
-            Some(Some(fixes)) => fixes.as_slice(),
-            _ => &[],
-        };
+        let fixes = self.fixes_in(module);
         let usual = self.usual_frame(&draft);
         self.read_present(&mut draft, fixes, None);
         self.read_present(&mut draft, fixes, None);
