@@ -23,6 +23,8 @@ pub(crate) struct Fix {
     pub(crate) frame: FrameMethod,
     pub(crate) target: TargetMethod,
     pub(crate) displacement: u32,
+    /// The number of the last public that its target may be, if it is an external.
+    pub(crate) definer: Option<usize>,
 }
 
 /// The size of the part of a location that is no selector, in bytes.
@@ -79,6 +81,7 @@ impl Fix {
             frame: fixup.reference.frame,
             target: fixup.reference.target,
             displacement: fixup.reference.displacement,
+            definer: None,
         }
     }
 
@@ -164,7 +167,7 @@ fn plain_data<'a>(rec: &Undecoded<'a>) -> Option<(u16, u32, &'a [u8])> {
     }
 }
 
-/// The fixups of a module's LEDATA records, by segment, those of one segment in file order.
+/// The fixups of a module's LEDATA records, by segment, those of one segment in file order; without definers.
 pub(crate) fn fixes_of(alloc: Global, module: &Checked) -> Result<Vec<Fix>, AllocError> {
     let mut fixes = Vec::new(alloc);
     let mut place = None;

@@ -292,7 +292,7 @@ impl<'a> Search<'a> {
                 Some(fix) if fix.segment == part.segment => {
                     if let Some(at) = fix.selector_address(address)
                         && !self.program.may_change(at)
-                        && !self.is_absolute(module, &fix)
+                        && !self.is_absolute(module, fix)
                     {
                         return false;
                     }
@@ -401,10 +401,15 @@ impl<'a> Search<'a> {
         }
     }
 
-    /// Looks at a target's address.
-    fn weigh(&self, hits: Hits, definers: &[Definer], target: u32) -> Hits {
+    /// Looks at a target's address, for this public and those of the same name before it.
+    fn weigh(&self, hits: Hits, first: Option<Definer>, target: u32) -> Hits {
         let mut hits = hits;
-        for definer in definers {
+        let mut next = first;
+        for _ in 0..MOST_DEFINERS {
+            let Some(definer) = next else {
+                break;
+            };
+            next = self.names.before(&definer);
             let Some(address) = target.checked_sub(definer.offset) else {
                 continue;
             };
@@ -448,14 +453,17 @@ impl<'a> Search<'a> {
         segment: u32,
         fix: &Fix,
     ) -> Result<(), AllocError> {
+        let definer = self.first_definer(module, fix);
+        if definer.is_none() {
+            return Ok(());
+        }
         let targets = self.targets(module, segment, fix)?;
-        let definers = self.definers_of(module, &fix.target)?;
         let mut hits = Hits {
             first: None,
             several: false,
         };
         for target in &targets {
-            hits = self.weigh(hits, &definers, *target);
+            hits = self.weigh(hits, definer, *target);
         }
         match hits.first {
             Some(hit) if !hits.several => {
@@ -481,16 +489,41 @@ impl<'a> Search<'a> {
 
     /// Reads the fixups of a module, unless they were.
     fn read_fixes(&mut self, module: usize) -> Result<(), AllocError> {
-        if let (Some(checked), Some(number)) = (
-            self.modules.get(module),
-            self.fix_numbers.get_mut(module),
-        ) {
-            if *number == 0 {
-                self.fixes.push(fixes_of(self.alloc, checked)?)?;
-                *number = u32::try_from(self.fixes.len()).unwrap_or(0);
-            }
+        let Some(checked) = self.modules.get(module) else {
+            return Ok(());
+        };
+        if self.fix_numbers.get(module).copied() != Some(0) {
+            return Ok(());
+        }
+        let mut fixes = fixes_of(self.alloc, checked)?;
+        for fix in &mut fixes {
+            fix.definer = self.definer_number(module, &fix.target);
+        }
+        self.fixes.push(fixes)?;
+        let number = u32::try_from(self.fixes.len()).unwrap_or(0);
+        if let Some(own) = self.fix_numbers.get_mut(module) {
+            *own = number;
         }
         Ok(())
+    }
+
+    /// The number of the last public that a target may be, if it is an external.
+    fn definer_number(&self, module: usize, target: &TargetMethod) -> Option<usize> {
+        match target.kind {
+            Kind::External => self
+                .names
+                .last_number(self.external_name(module, target.index.0)?),
+            Kind::Segment | Kind::Group => None,
+        }
+    }
+
+    /// The last of the publics that a fixup's target may be: of a segment its first byte.
+    fn first_definer(&self, module: usize, fix: &Fix) -> Option<Definer> {
+        match fix.target.kind {
+            Kind::External => self.names.definer(fix.definer),
+            Kind::Segment => Some(Definer::start(self.number_of(module, fix.target.index.0)?)),
+            Kind::Group => None,
+        }
     }
 
     /// The fixups of a module, if they are read.
@@ -505,8 +538,8 @@ impl<'a> Search<'a> {
     }
 
     /// A fixup of a module, from 0.
-    fn fix(&self, module: usize, number: usize) -> Option<Fix> {
-        self.fixes_in(module).get(number).copied()
+    fn fix(&self, module: usize, number: usize) -> Option<&Fix> {
+        self.fixes_in(module).get(number)
     }
 
     /// The number of the first fixup of a segment of a module, or of the first one of a segment after it.
@@ -527,10 +560,10 @@ impl<'a> Search<'a> {
         for k in self.first_fix(module, segment)..usize::MAX {
             match (self.fix(module, k), look) {
                 (Some(fix), Look::Selectors) if fix.segment == segment => {
-                    self.note_selector(sayings, module, place, &fix)?;
+                    self.note_selector(sayings, module, place, fix)?;
                 }
                 (Some(fix), Look::Targets) if fix.segment == segment => {
-                    self.follow(sayings, module, place, &fix)?;
+                    self.follow(sayings, module, place, fix)?;
                 }
                 _ => break,
             }
@@ -727,13 +760,13 @@ impl<'a> Search<'a> {
         external: u16,
         address: u32,
     ) -> Result<(), AllocError> {
-        let definers = self.definers_of(module, &entry_with(Kind::External, external))?;
+        let number = self.definer_number(module, &entry_with(Kind::External, external));
         let hits = self.weigh(
             Hits {
                 first: None,
                 several: false,
             },
-            &definers,
+            self.names.definer(number),
             address,
         );
         match hits.first {

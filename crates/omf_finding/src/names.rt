@@ -85,15 +85,24 @@ impl<'a> Names<'a> {
         Ok(())
     }
 
+    /// The number of the last public with a name.
+    pub(crate) fn last_number(&self, name: &'a [u8]) -> Option<usize> {
+        self.by_name.get(&NameKey::of(name)).copied()
+    }
+
+    /// The public with a number.
+    pub(crate) fn definer(&self, number: Option<usize>) -> Option<Definer> {
+        self.definers.get(number?).copied()
+    }
+
     /// The last public with a name.
     pub(crate) fn last(&self, name: &'a [u8]) -> Option<Definer> {
-        let number = *self.by_name.get(&NameKey::of(name))?;
-        self.definers.get(number).copied()
+        self.definer(self.last_number(name))
     }
 
     /// The public of the same name before another one.
     pub(crate) fn before(&self, definer: &Definer) -> Option<Definer> {
-        self.definers.get(definer.before?).copied()
+        self.definer(definer.before)
     }
 
     /// The publics with a name, the last first.
