@@ -3,7 +3,7 @@ use Rattle.std.proofs.Common.{◌≡◌, ◌⊎◌, inl, inr, ℕ, zero, suc, �
 use Rattle.std.specs.Prelude.{Option, Some, None, slice_get, Contains, replicate, ◌||◌}
 use Rattle.std.specs.List.{AllZip, list_any}
 use Rattle.std.proofs.lemmas.Bool.{cases_lt}
-use Rattle.std.proofs.lemmas.List.{length-append}
+use Rattle.std.proofs.lemmas.List.{length-append, length-set}
 use Rattle.std.proofs.lemmas.Option.{none-some, same_Some, slice_get_past}
 use Rattle.omf_frame.specs.Framing.{Raw, raw_bytes}
 use Rattle.omf_records.specs.Inner.Reading.{typed}
@@ -12,9 +12,9 @@ use Rattle.omf_check.specs.Listed.{placed_from}
 use Rattle.omf_check.specs.WellFormed.{recs}
 use Rattle.omf_check.specs.Module.{Module, recs_of}
 use Rattle.omf_placement.specs.declared.frame.Placed.{Placed}
-use Rattle.omf_finding.specs.Chain.{AreChained, EndsChain, enough, IsAlone, IsChained, IsSure, Stands, found_at, found_in, found_with, present_at}
+use Rattle.omf_finding.specs.Chain.{AreChained, EndsChain, enough, IsAlone, IsChained, IsDraft, IsSure, Stands, draft_at, draft_in, found_at, found_in, found_with, present_at}
 use Rattle.omf_finding.specs.Finding.{IsHeld}
-use Rattle.omf_finding.specs.Inner.Chaining.{AreJoined, HasClosed, IsDraft, RefersAt, draft_at, draft_in, found_by, has_joined, kept}
+use Rattle.omf_finding.specs.Inner.Chaining.{AreJoined, HasClosed, RefersAt, found_by, has_joined, kept}
 use Rattle.omf_finding.specs.Inner.Shaping.{IsPatternOf, IsShapeOf, bytes_of}
 use Rattle.omf_finding.specs.Inner.Walking.{Marks, byte_in}
 use Rattle.omf_finding.specs.Near.{AreClosed}
@@ -38,7 +38,7 @@ set-cases (b ∷ bs) (suc n) (suc k) h = elim (set-cases bs n k h) [
   | inr e ↦ inr e
 ]
 
-set-kept : (bs : List Bool) (n k : ℕ) → has_joined bs k ≡ true → has_joined (set bs n true) k ≡ true
+pub set-kept : (bs : List Bool) (n k : ℕ) → has_joined bs k ≡ true → has_joined (set bs n true) k ≡ true
 set-kept [] n k h = h
 set-kept (b ∷ bs) zero zero h = refl
 set-kept (b ∷ bs) zero (suc k) h = h
@@ -55,11 +55,11 @@ none-joined zero k h = cc
 none-joined (suc n) zero h = cc
 none-joined (suc n) (suc k) h = none-joined n k h
 
-kept-parts : (d : Option Found) (b : Bool) (f : Found) → kept d b ≡ Some f → (b ≡ true) × (d ≡ Some f)
+pub kept-parts : (d : Option Found) (b : Bool) (f : Found) → kept d b ≡ Some f → (b ≡ true) × (d ≡ Some f)
 kept-parts d true f e = (refl, e)
 kept-parts d false f e = absurd (none-some f e)
 
-kept-both : (d : Option Found) (b : Bool) (f : Found) → b ≡ true → d ≡ Some f → kept d b ≡ Some f
+pub kept-both : (d : Option Found) (b : Bool) (f : Found) → b ≡ true → d ≡ Some f → kept d b ≡ Some f
 kept-both d b f t e = ap (kept d) t ∙ e
 
 -- ---- chains
@@ -74,7 +74,7 @@ module _ (program : Program) (n : ℕ) (ms : List Module) where
   chained-grows at to h i c = (c.0, chain-grows at to h c.0 i c.1)
 
   module _ (drafts : List (Option Found)) where
-    found-grows : (marks : List Bool) (j i : ℕ) (f : Found) → found_by drafts marks i ≡ Some f → found_by drafts (set marks j true) i ≡ Some f
+    pub found-grows : (marks : List Bool) (j i : ℕ) (f : Found) → found_by drafts marks i ≡ Some f → found_by drafts (set marks j true) i ≡ Some f
     found-grows marks j i f e =
         let both = kept-parts (draft_at drafts i) (has_joined marks i) f e in
         kept-both (draft_at drafts i) (has_joined (set marks j true) i) f (set-kept marks j i both.0) both.1
@@ -251,3 +251,6 @@ zip-first {B = B} R (x ∷ xs) ys e = subst (λ (zs : List B). AllZip R [] zs) (
 
 pub so-first : (drafts : List (Option Found)) (marks : List Bool) (vs : List Verdict) → vs ≡ [] → AreSo drafts marks vs 0
 so-first drafts marks vs e = record { count = ap length e; each = λ i low. absurd (omega (arith, low)) }
+
+pub as-long : (marks after : List Bool) (j : ℕ) → after ≡ set marks j true → length after ≡ length marks
+as-long marks after j e = ap length e ∙ length-set marks j true

@@ -24,3 +24,4 @@ pub mod ShownLaws
 pub mod NearLaws
 pub mod StrayLaws
 pub mod ChainLaws
+pub mod CloseLaws

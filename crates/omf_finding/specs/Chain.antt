@@ -1,8 +1,9 @@
--- Which modules are found (this profile's rule): those that a chain of references joins to a module that is sure by itself. So they are the least set that has
--- each sure module of those in question, and each one of these to which a module of the set refers. A module is in question at one placement, at which it is in
--- the program. No order of the modules is in it.
-use Rattle.std.specs.Prelude.{◌≡◌, ◌⊎◌, ℕ, zero, suc, ◌+◌, ◌*◌, ◌/◌, ◌≤◌, List, length, Bool, true, false, ◌&&◌, ◌==◌, bytes_eq, codes, eqb, Option, Some, None, option_and_then, slice_get, if◌then◌else◌}
-use Rattle.std.specs.List.{ends_with, list_any}
+-- Which modules are found (this profile's rule): those that a chain of references joins to a module that is sure by itself. A module is in question at one
+-- placement, at which it is in the program. Found are all modules in question that are at the program's start, and with a module that is found all modules in
+-- question to which it refers. A module that is sure by its bytes alone need not be found: it is not if other segments rival its bytes, or if another segment
+-- of its own is nowhere. No order of the modules is in it.
+use Rattle.std.specs.Prelude.{◌≡◌, ◌⊎◌, ℕ, zero, suc, ◌+◌, ◌*◌, ◌/◌, ◌≤◌, List, length, Bool, true, false, ◌&&◌, ◌==◌, bytes_eq, codes, eqb, Option, Some, None, option_and_then, slice_get, IfSome, if◌then◌else◌}
+use Rattle.std.specs.List.{AllZip, ends_with, list_any}
 use Rattle.omf_frame.specs.Bytes.{is_one_of}
 use Rattle.omf_frame.specs.Types.{is_local}
 use Rattle.omf_records.specs.Values.{At, Contents, PublicItem, Publics, Rec}
@@ -11,7 +12,7 @@ use Rattle.omf_check.specs.Tables.{entry, externals, locals, names, segments}
 use Rattle.omf_image.specs.Limits.{profile_limits}
 use Rattle.omf_placement.specs.declared.frame.Placed.{Placed}
 use Rattle.omf_reloc.specs.Image.{start}
-use Rattle.omf_finding.specs.Finding.{IsAt, IsInside}
+use Rattle.omf_finding.specs.Finding.{IsAt, IsHeld, IsInside}
 use Rattle.omf_finding.specs.Near.{AreClosed}
 use Rattle.omf_finding.specs.Pattern.{pattern}
 use Rattle.omf_finding.specs.declared.closed.ClosedByte.{ClosedByte}
@@ -131,3 +132,29 @@ found_at vs i = found_with (slice_get vs i)
 -- Each module that is found is at the end of such a chain of modules that are found.
 abbrev pub AreChained : Program → ℕ → List Module → List Verdict → Type 0
 AreChained program n ms vs = (i : ℕ) (f : Found) → found_at vs i ≡ Some f → IsChained program n ms (found_at vs) i
+
+-- ---- all of them
+
+-- A draft of a module is a placement at which it is in the program, or none.
+abbrev pub IsDraft : Program → Module → Option Found → Type 0
+IsDraft program m draft = IfSome draft (IsHeld program m)
+
+abbrev pub draft_in : Option (Option Found) → Option Found
+draft_in None = None
+draft_in (Some draft) = draft
+
+-- The draft of the module with this number.
+abbrev pub draft_at : List (Option Found) → ℕ → Option Found
+draft_at drafts i = draft_in (slice_get drafts i)
+
+-- A module that is found is so at its draft. Found is each module whose draft is at the program's start, and each one to whose draft a module that is found
+-- refers.
+pub record AreAllFound (program : Program) (ms : List Module) (drafts : List (Option Found)) (vs : List Verdict) : Type 0 where
+  pub tried : (i : ℕ) (f : Found) → found_at vs i ≡ Some f → draft_at drafts i ≡ Some f
+  pub started : (i : ℕ) (m : Module) (f : Found) → Stands ms (draft_at drafts) i m f → IsStart program m f → found_at vs i ≡ Some f
+  pub followed : (i j : ℕ) (m : Module) (f : Found) (other : Module) (g : Found) → Stands ms (found_at vs) i m f → Stands ms (draft_at drafts) j other g → Refers (recs_of m.bytes) f (recs_of other.bytes) g
+      → found_at vs j ≡ Some g
+
+-- There is a draft for each module, and of these all that are to be found are.
+abbrev pub AreFoundAmongDrafts : Program → List Module → List Verdict → Type 0
+AreFoundAmongDrafts program ms vs = (drafts : List (Option Found)) × AllZip (IsDraft program) ms drafts × AreAllFound program ms drafts vs

@@ -4,3 +4,4 @@ pub mod Shaping
 pub mod Nearing
 pub mod Straying
 pub mod Chaining
+pub mod Closing

@@ -1,27 +1,28 @@
 //! Which modules that are in the program are found: those that a chain of references joins to one that is sure by itself.
 
-ghost use Rattle.std.specs.Prelude.{◌≡◌, ◌==◌, ◌&&◌, ◌∷◌, [], ◌<◌, bytes_eq, length, set, true, false, IfOk, IfSome, OnOk, Some, replicate, slice_get};
+ghost use Rattle.std.specs.Prelude.{◌≡◌, ◌==◌, ◌&&◌, ◌∷◌, [], ◌<◌, ℕ, List, bytes_eq, length, set, true, false, IfNone, IfOk, IfSome, OnOk, Some, replicate, slice_get};
 ghost use Rattle.std.specs.List.{AllZip, list_any};
 ghost use Rattle.omf_check.specs.Module.{Module, recs_of};
+ghost use Rattle.omf_finding.specs.declared.findings.Found.{Found};
 ghost use Rattle.omf_reloc.specs.Reach.{Reaches};
-ghost use Rattle.omf_finding.specs.Chain.{IsAlone, IsStart, IsSure, Refers, address_of, defines, enough, is_code, is_code_name, is_public, present_at, record_defines};
-ghost use Rattle.omf_finding.specs.Inner.Chaining.{HasClosed, HaveJoined, IsDraft, IsKnown, RefersAt, draft_at, has_joined};
+ghost use Rattle.omf_finding.specs.Chain.{IsAlone, IsDraft, IsStart, IsSure, Refers, address_of, defines, draft_at, enough, is_code, is_code_name, is_public, present_at, record_defines};
+ghost use Rattle.omf_finding.specs.Inner.Chaining.{HasClosed, HaveJoined, IsKnown, RefersAt, has_joined};
+ghost use Rattle.omf_finding.specs.Inner.Closing.{AreAll};
 ghost use Rattle.omf_finding.specs.Inner.Shaping.{HasShapes, HaveShapes, IsMarked, IsPatternOf, IsShapeOf};
 ghost use Rattle.omf_finding.specs.Inner.Walking.{byte_in};
 
 use crate::closed::closed_bytes;
+use crate::defined::{Defined, DefinedNames};
 use crate::findings::Found;
-use crate::fixes::entry_with;
 use crate::following::Search;
 use crate::found::is_absent;
-use crate::names::Definer;
 use crate::patterning::{Pattern, marked_pattern};
 use crate::program::Program;
 use crate::shapes::{Shape, count_closed};
 use crate::singles::Singles;
 use omf_check::{Checked, Undecoded};
 use omf_frame::Name;
-use omf_records::{Items, Kind, Public};
+use omf_records::{Items, Public};
 use omf_reloc::{Placed, start};
 use std::alloc::{AllocError, Global};
 
@@ -42,7 +43,7 @@ pub(crate) struct Tried<'a, 'b, 'c> {
 }
 
 /// The place of a segment that is not absent.
-fn present_at(found: &Found, segment: u16) -> Option<Placed>
+pub(crate) fn present_at(found: &Found, segment: u16) -> Option<Placed>
     ensures { result ≡ present_at found.now segment }
 {
     if is_absent(&found.absent, segment) {
@@ -112,9 +113,10 @@ fn only_place(shape: &Shape) -> Option<u32>
 }
 
 /// Whether a module is placed at its start, which is the program's.
-fn is_start(program: &Program, module: &Checked, found: &Found) -> bool
+pub(crate) fn is_start(program: &Program, module: &Checked, found: &Found) -> bool
     requires { Reaches found.now.placement (recs_of «module».now.bytes) }
-    ensures { result ≡ true → IsStart program.now «module».now found.now }
+    ensures some { result ≡ true → IsStart program.now «module».now found.now }
+    ensures none { result ≡ false → IsStart program.now «module».now found.now → ⊥ }
 {
     let Some(own) = start(module, &found.placement) else {
         return false;
@@ -176,8 +178,9 @@ fn defines(module: &Checked, name: &[u8], segment: u16, offset: u32) -> bool
 }
 
 /// The name of an external that is not local, if something shows where it is.
-fn known_name<'a>(module: &'a Checked, found: &Found, external: u16) -> Option<&'a [u8]>
-    ensures { IfSome result (λ name. IsKnown (recs_of «module».entry.now.bytes) found.now external name.now) }
+pub(crate) fn known_name<'a>(module: &'a Checked, found: &Found, external: u16) -> Option<&'a [u8]>
+    ensures some { IfSome result (λ name. IsKnown (recs_of «module».entry.now.bytes) found.now external name.now) }
+    ensures none { IfNone result ((name : List ℕ) → IsKnown (recs_of «module».entry.now.bytes) found.now external name → ⊥) }
 {
     let is_local = module.local(external)?;
     if is_local {
@@ -260,7 +263,7 @@ impl Joined {
     }
 
     /// A module is found.
-    fn join(&mut self, number: usize) -> Result<(), AllocError>
+    pub(crate) fn join(&mut self, number: usize) -> Result<(), AllocError>
         requires { number < length self.old.marks.items }
         ensures { OnOk result (self.new.marks.items ≡ set self.old.marks.items number true) }
     {
@@ -386,8 +389,9 @@ impl<'a, 'b, 'c> Tried<'a, 'b, 'c> {
     }
 
     /// The draft of a module, with the module.
-    fn draft(self, number: usize) -> Option<(&'c Checked, &'b Found)>
-        ensures { IfSome result (λ d. (slice_get self.entry.modules.now number ≡ Some d.0.now) × (draft_at self.entry.drafts.now number ≡ Some d.1.now)) }
+    pub(crate) fn draft(self, number: usize) -> Option<(&'c Checked, &'b Found)>
+        ensures none { IfNone result ((m : Module) (f : Found) → slice_get self.entry.modules.now number ≡ Some m → draft_at self.entry.drafts.now number ≡ Some f → ⊥) }
+        ensures some { IfSome result (λ d. (slice_get self.entry.modules.now number ≡ Some d.0.now) × (draft_at self.entry.drafts.now number ≡ Some d.1.now)) }
     {
         let module = self.modules.get(number)?;
         match self.drafts.get(number)? {
@@ -426,15 +430,12 @@ impl<'a, 'b, 'c> Tried<'a, 'b, 'c> {
         joined: &mut Joined,
         number: usize,
         external: u16,
-        definer: &Definer,
+        public: &Defined,
     ) -> Result<(), AllocError>
         requires { HaveJoined self joined.old.marks.items }
         ensures { OnOk result (HaveJoined self.entry joined.new.marks.items) }
     {
-        let Some(part) = self.search.parts.get(definer.part) else {
-            return Ok(());
-        };
-        let other = part.module as usize;
+        let other = public.module;
         if other >= joined.marks.len() {
             return Ok(());
         }
@@ -444,28 +445,65 @@ impl<'a, 'b, 'c> Tried<'a, 'b, 'c> {
         if joined.has(other) {
             return Ok(());
         }
-        if self.refers(number, external, other, (part.segment, definer.offset)) {
+        if self.refers(number, external, other, (public.segment, public.offset)) {
             joined.join(other)?;
         }
         Ok(())
     }
 
+    /// The publics of all modules at their drafts.
+    fn defined(self) -> Result<DefinedNames<'c>, AllocError> {
+        let mut names = DefinedNames::new(self.alloc);
+        for number in 0..self.modules.len() {
+            if let Some((module, found)) = self.draft(number) {
+                names.add_module(number, module, found)?;
+            }
+        }
+        Ok(names)
+    }
+
+    /// The last public to which an external of a module refers, if no other reference to it was followed.
+    fn last_public(
+        self,
+        names: &mut DefinedNames<'c>,
+        number: usize,
+        external: u16,
+    ) -> Option<usize> {
+        let (module, found) = self.draft(number)?;
+        let place = found.placement.external(usize::from(external))?;
+        let name = module.external(external)?;
+        names.take(name.0, place.address)
+    }
+
     /// Joins the modules of the publics to which an external of a module that is found refers.
-    fn follow(self, joined: &mut Joined, number: usize, external: u16) -> Result<(), AllocError>
+    fn follow(
+        self,
+        joined: &mut Joined,
+        names: &mut DefinedNames<'c>,
+        number: usize,
+        external: u16,
+    ) -> Result<(), AllocError>
         requires { HaveJoined self joined.old.marks.items }
         ensures { OnOk result (HaveJoined self.entry joined.new.marks.items) }
     {
-        let definers = self
-            .search
-            .definers_of(number, &entry_with(Kind::External, external))?;
-        for definer in &definers {
-            self.join_definer(joined, number, external, definer)?;
+        let mut next = self.last_public(names, number, external);
+        for step in 0..usize::MAX {
+            let Some(public) = names.get(next) else {
+                break;
+            };
+            self.join_definer(joined, number, external, &public)?;
+            next = public.before;
         }
         Ok(())
     }
 
     /// Joins the modules to which a module that is found refers.
-    fn explore(self, joined: &mut Joined, number: usize) -> Result<(), AllocError>
+    fn explore(
+        self,
+        joined: &mut Joined,
+        names: &mut DefinedNames<'c>,
+        number: usize,
+    ) -> Result<(), AllocError>
         requires { HaveJoined self joined.old.marks.items }
         ensures { OnOk result (HaveJoined self.entry joined.new.marks.items) }
     {
@@ -475,7 +513,7 @@ impl<'a, 'b, 'c> Tried<'a, 'b, 'c> {
         for before in 0..module.externals() {
             let external = before + 1;
             if found.unknown.binary_search(&external).is_err() {
-                self.follow(joined, number, external)?;
+                self.follow(joined, names, number, external)?;
             }
         }
         Ok(())
@@ -486,24 +524,27 @@ impl<'a, 'b, 'c> Tried<'a, 'b, 'c> {
         requires { HaveJoined self joined.old.marks.items }
         ensures { OnOk result (HaveJoined self.entry joined.new.marks.items) }
     {
+        let mut names = self.defined()?;
         for step in 0..usize::MAX {
             match joined.queue.pop() {
-                Some(number) => self.explore(joined, number)?,
+                Some(number) => self.explore(joined, &mut names, number)?,
                 None => break,
             }
         }
         Ok(())
     }
 
-    /// The modules that a chain of references joins to one that is sure by itself.
+    /// The modules that a chain of references joins to one that is sure by itself, with all to which these refer.
     pub(crate) fn walk(self) -> Result<Joined, AllocError>
         requires shapes { AllZip (HasShapes self.program.now self.most) self.modules.now self.shapes.now }
         requires drafts { AllZip (IsDraft self.program.now) self.modules.now self.drafts.now }
-        ensures { IfOk result (λ j. HaveJoined self.entry j.marks.items) }
+        ensures joined { IfOk result (λ j. HaveJoined self.entry j.marks.items) }
+        ensures all { IfOk result (λ j. AreAll self.entry j.marks.items) }
     {
         let mut joined = Joined::new(self.alloc, self.modules.len())?;
         self.join_all_sure(&mut joined)?;
         self.go_on(&mut joined)?;
+        self.close(&mut joined)?;
         Ok(joined)
     }
 }

@@ -3,9 +3,10 @@
 ghost use Rattle.std.specs.Prelude.{◌≡◌, ◌++◌, ◌==◌, ◌&&◌, ℕ, length, not, true, false, IfOk, IfSome, OnOk, option_to_list};
 ghost use Rattle.std.specs.List.{AllZip};
 ghost use Rattle.omf_check.specs.Module.{Module};
-ghost use Rattle.omf_finding.specs.Chain.{AreChained, found_at, found_in};
+ghost use Rattle.omf_finding.specs.Chain.{AreChained, AreFoundAmongDrafts, IsDraft, found_at, found_in};
 ghost use Rattle.omf_finding.specs.Finding.{AreCandidates, IsHeld, IsTold};
-ghost use Rattle.omf_finding.specs.Inner.Chaining.{AreJoined, IsDraft, found_by, kept};
+ghost use Rattle.omf_finding.specs.Inner.Chaining.{AreJoined, found_by, kept};
+ghost use Rattle.omf_finding.specs.Inner.Closing.{AreAllJoined};
 ghost use Rattle.omf_finding.specs.Inner.Shaping.{AgreeAt, HasShapes, HaveShapes, IsMarked, IsOffered, IsPatternOf, IsShapeOf, bytes_of};
 ghost use Rattle.omf_finding.specs.Inner.Walking.{byte_in};
 
@@ -499,7 +500,8 @@ fn joined_among<'a, 'b>(
 ) -> Result<Joined, AllocError>
     requires shapes { AllZip (HasShapes ended.program.now ended.most) modules.now shapes.now }
     requires drafts { AllZip (IsDraft ended.program.now) modules.now drafts.now }
-    ensures { IfOk result (λ j. AreJoined ended.entry.program.now least modules.now drafts.entry.now j.marks.items) }
+    ensures joined { IfOk result (λ j. AreJoined ended.entry.program.now least modules.now drafts.entry.now j.marks.items) }
+    ensures all { IfOk result (λ j. AreAllJoined ended.entry.program.now modules.now drafts.entry.now j.marks.items) }
 {
     let tried = Tried {
         alloc: ended.search.alloc,
@@ -536,6 +538,7 @@ pub fn find(
 ) -> Result<Findings, AllocError>
     ensures told { IfOk result (λ f. AllZip (IsTold program.now options.now.most) modules.now f.verdicts.items) }
     ensures chained { IfOk result (λ f. AreChained program.now options.now.least modules.now f.verdicts.items) }
+    ensures all { IfOk result (λ f. AreFoundAmongDrafts program.now modules.now f.verdicts.items) }
 {
     let shapes = shapes_of(alloc, modules, program, options.most)?;
     let singles = Singles::of(alloc, modules, &shapes, options.least)?;

@@ -4,6 +4,8 @@
 mod asking;
 mod chaining;
 mod closed;
+mod closing;
+mod defined;
 mod finding;
 mod findings;
 mod fixes;

@@ -1,11 +1,10 @@
 -- The walk from module to module: which ones have joined. Only private functions use these definitions.
-use Rattle.std.specs.Prelude.{◌≡◌, ℕ, ◌≤◌, List, length, Bool, false, Option, Some, None, IfSome, slice_get, slice_index_or, if◌then◌else◌}
+use Rattle.std.specs.Prelude.{◌≡◌, ℕ, ◌≤◌, List, length, Bool, false, Option, Some, None, slice_get, slice_index_or, if◌then◌else◌}
 use Rattle.omf_frame.specs.Bytes.{is_one_of}
 use Rattle.omf_records.specs.Values.{Rec}
 use Rattle.omf_check.specs.Module.{Module, recs_of}
 use Rattle.omf_check.specs.Tables.{entry, externals, locals}
-use Rattle.omf_finding.specs.Chain.{IsChained, Refers}
-use Rattle.omf_finding.specs.Finding.{IsHeld}
+use Rattle.omf_finding.specs.Chain.{IsChained, Refers, draft_at}
 use Rattle.omf_finding.specs.Near.{AreClosed}
 use Rattle.omf_finding.specs.declared.chaining.Tried.{Tried}
 use Rattle.omf_finding.specs.declared.closed.ClosedByte.{ClosedByte}
@@ -23,18 +22,6 @@ pub record IsKnown (m : List Rec) (f : Found) (external : ℕ) (name : List ℕ)
   pub shared : entry (locals m) external ≡ Some false
   pub known : is_one_of f.unknown.items external ≡ false
 
--- A draft is a placement at which a module is in the program, or none.
-abbrev pub IsDraft : Program → Module → Option Found → Type 0
-IsDraft program m draft = IfSome draft (IsHeld program m)
-
-abbrev pub draft_in : Option (Option Found) → Option Found
-draft_in None = None
-draft_in (Some draft) = draft
-
--- The draft of the module with this number.
-abbrev pub draft_at : List (Option Found) → ℕ → Option Found
-draft_at drafts i = draft_in (slice_get drafts i)
-
 -- Whether a module has joined.
 abbrev pub has_joined : List Bool → ℕ → Bool
 has_joined marks n = slice_index_or marks n false
@@ -50,8 +37,9 @@ found_by drafts marks i = kept (draft_at drafts i) (has_joined marks i)
 abbrev pub AreJoined : Program → ℕ → List Module → List (Option Found) → List Bool → Type 0
 AreJoined program n ms drafts marks = (i : ℕ) (f : Found) → found_by drafts marks i ≡ Some f → IsChained program n ms (found_by drafts marks) i
 
+-- The same of a walk, with a mark for each module.
 abbrev pub HaveJoined : Tried → List Bool → Type 0
-HaveJoined t marks = AreJoined t.program.now t.least t.modules.now t.drafts.now marks
+HaveJoined t marks = AreJoined t.program.now t.least t.modules.now t.drafts.now marks × (length marks ≡ length t.modules.now)
 
 -- One module refers to another, at their drafts.
 pub record RefersAt (ms : List Module) (drafts : List (Option Found)) (i j : ℕ) : Type 0 where

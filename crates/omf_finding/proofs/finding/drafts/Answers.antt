@@ -2,7 +2,7 @@ use Rattle.std.proofs.Common.{◌+◌, List, take, sym, subst, arith}
 use Rattle.std.specs.Prelude.{Option}
 use Rattle.std.specs.List.{AllZip}
 use Rattle.omf_finding.specs.declared.findings.Found.{Found}
-use Rattle.omf_finding.specs.Inner.Chaining.{IsDraft}
+use Rattle.omf_finding.specs.Chain.{IsDraft}
 use Rattle.omf_finding.specs.Inner.Shaping.{HasShapes}
 use Rattle.omf_finding.proofs.CandidateLaws.{zip-long}
 use Rattle.omf_finding.proofs.TellingLaws.{zip-more, zip-end}

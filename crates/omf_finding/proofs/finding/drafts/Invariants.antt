@@ -1,6 +1,6 @@
 use Rattle.std.proofs.Common.{take}
 use Rattle.std.specs.List.{AllZip}
-use Rattle.omf_finding.specs.Inner.Chaining.{IsDraft}
+use Rattle.omf_finding.specs.Chain.{IsDraft}
 use Rattle.omf_finding.proofs.finding.drafts.Given as goal
 
 -- the modules so far have their drafts

@@ -2,7 +2,9 @@ use Rattle.std.proofs.Common.{List, subst}
 use Rattle.std.specs.Prelude.{Option}
 use Rattle.omf_finding.specs.declared.findings.Found.{Found}
 use Rattle.omf_finding.specs.Inner.Chaining.{AreJoined}
+use Rattle.omf_finding.specs.Inner.Closing.{AreAllJoined}
 use Rattle.omf_finding.proofs.ChainLaws.{chained-verdicts}
+use Rattle.omf_finding.proofs.CloseLaws.{all-found}
 use Rattle.omf_finding.proofs.finding.find.Goals as goal
 
 pub returns-clause-chained : goal.returns-clause-chained
@@ -13,4 +15,15 @@ returns-clause-chained c =
     let drafts = c.in_ok-drafts.drafts.items in
     let marks = c.in_ok-joined.joined.marks.items in
     chained-verdicts program least ms drafts marks c.in_ok-verdicts.verdicts.items c.in_ok-verdicts.ensures.found
-    (subst (λ (ds : List (Option Found)). AreJoined program least ms ds marks) c.as_slice.ensures.value c.in_ok-joined.ensures)
+    (subst (λ (ds : List (Option Found)). AreJoined program least ms ds marks) c.as_slice.ensures.value c.in_ok-joined.ensures.joined)
+
+pub returns-clause-all : goal.returns-clause-all
+returns-clause-all c =
+    let program = c.args.program.now in
+    let ms = c.args.modules.now in
+    let drafts = c.in_ok-drafts.drafts.items in
+    let marks = c.in_ok-joined.joined.marks.items in (
+      drafts,
+      c.in_ok-drafts.ensures,
+      all-found program ms drafts marks c.in_ok-verdicts.verdicts.items c.in_ok-verdicts.ensures.found (subst (λ (ds : List (Option Found)). AreAllJoined program ms ds marks) c.as_slice.ensures.value c.in_ok-joined.ensures.all),
+    )

@@ -4,7 +4,8 @@ use Rattle.std.specs.Vec.Iter.{into_iter_items}
 use Rattle.std.proofs.lemmas.Option.{slice_get_read}
 use Rattle.omf_finding.specs.declared.findings.Verdict.{Verdict}
 use Rattle.omf_finding.specs.Finding.{IsTold}
-use Rattle.omf_finding.specs.Inner.Chaining.{IsDraft, kept}
+use Rattle.omf_finding.specs.Chain.{IsDraft}
+use Rattle.omf_finding.specs.Inner.Chaining.{kept}
 use Rattle.omf_finding.specs.Inner.Shaping.{HasShapes, HaveShapes}
 use Rattle.omf_finding.proofs.CandidateLaws.{zip-at, zip-long}
 use Rattle.omf_finding.proofs.ChainLaws.{draft-kept, drop-first, drop-rest, so-all, so-first, so-next, zip-first, zip-get, zip-size}
