@@ -152,12 +152,12 @@ alone-at program most n m p s f pl address one all at same few own shape = recor
 
 -- ---- verdicts, one after another
 
-at-left : {A : Type 0} (xs ys : List A) (i : ℕ) → i < length xs → slice_get (xs ++ ys) i ≡ slice_get xs i
+pub at-left : {A : Type 0} (xs ys : List A) (i : ℕ) → i < length xs → slice_get (xs ++ ys) i ≡ slice_get xs i
 at-left [] ys i h = absurd (omega (arith, h))
 at-left (x ∷ xs) ys zero h = refl
 at-left (x ∷ xs) ys (suc i) h = at-left xs ys i (omega (arith, h))
 
-at-end : {A : Type 0} (xs : List A) (x : A) → slice_get (xs ++ x ∷ []) (length xs) ≡ Some x
+pub at-end : {A : Type 0} (xs : List A) (x : A) → slice_get (xs ++ x ∷ []) (length xs) ≡ Some x
 at-end [] x = refl
 at-end (y ∷ ys) x = at-end ys x
 
@@ -198,6 +198,10 @@ so-next drafts left marks vs ws n v d e f g h = subst (λ us. AreSo drafts marks
       | inr l ↦ let same : n ≡ i = omega (arith, l, low) in subst (λ k. found_at (vs ++ v ∷ []) k ≡ found_by drafts marks k) same here
     ]
 
+pub kept-none : (b : Bool) → kept None b ≡ None
+kept-none true = refl
+kept-none false = refl
+
 pub so-all : (drafts : List (Option Found)) (marks : List Bool) (vs : List Verdict) (n : ℕ) → length drafts ≤ n → AreSo drafts marks vs n → (i : ℕ) → found_at vs i ≡ found_by drafts marks i
 so-all drafts marks vs n long h i = elim (cases_lt i n) [
   | inl l ↦ h.each i l
@@ -207,10 +211,6 @@ so-all drafts marks vs n long h i = elim (cases_lt i n) [
       let out : slice_get drafts i ≡ None = slice_get_past drafts i (omega (arith, l, long)) in
       ap found_with none ∙ sym (ap (λ o. kept (draft_in o) (has_joined marks i)) out ∙ kept-none (has_joined marks i))
 ]
-  where
-    kept-none : (b : Bool) → kept None b ≡ None
-    kept-none true = refl
-    kept-none false = refl
 
 -- ---- records, one after another
 

@@ -1,13 +1,17 @@
 -- All modules are found that are to be: the names that those ask for that are found, and what of these others define.
-use Rattle.std.proofs.Common.{◌≡◌, ◌⊎◌, inl, inr, ℕ, zero, suc, ◌+◌, ◌-◌, ◌<◌, ◌≤◌, Bool, true, false, List, [], ◌∷◌, length, set, refl, sym, ap, ap₂, subst, ◌∙◌, arith, Ordering, Less, Equal, Greater}
-use Rattle.std.specs.Prelude.{◌==◌, ◌&&◌, ◌||◌, Err, Ok, OnOk, Result, Option, Some, None, bytes_eq, slice_get, nat_le, if◌then◌else◌}
-use Rattle.std.specs.BTreeSet.{insert_key}
-use Rattle.std.specs.Cmp.{unsigned_ties}
+use Rattle.std.proofs.Common.{◌≡◌, ◌⊎◌, inl, inr, ℕ, zero, suc, ◌+◌, ◌-◌, ◌<◌, ◌≤◌, Bool, true, false, List, [], ◌∷◌, ◌++◌, cond, drop, get_or, length, set, take, refl, sym, ap, ap₂, subst, ◌∙◌, arith, Ordering, Less, Equal, Greater}
+use Rattle.std.specs.Prelude.{◌==◌, ◌&&◌, ◌||◌, not, Err, Ok, OnOk, Result, Option, Some, None, bytes_eq, slice_get, nat_le, if◌then◌else◌}
+use Rattle.std.specs.BTreeSet.{BTreeSet, Updates, contains, insert_key}
+use Rattle.std.specs.Cmp.{unsigned_tied, unsigned_ties}
 use Rattle.std.specs.List.{list_any}
 use Rattle.std.specs.Ordering.{is_eq, match_ordering, nat_cmp, ordering_then}
 use Rattle.std.proofs.lemmas.Bool.{and_parts, cases_Bool, cases_lt, eq-eqb, eqb-true, false≢true, leb-true, or_cases, true≢false}
+use Rattle.std.proofs.Math.Seq.{take-suc}
+use Rattle.std.proofs.lemmas.List.{length-append}
+use Rattle.std.proofs.lemmas.List.Folds.{list_any-append}
 use Rattle.std.proofs.lemmas.Option.{none-some, same_Some, slice_get_past}
 use Rattle.std.proofs.lemmas.Slice.Eq.{bytes_eq-Decides}
+use Rattle.omf_frame.specs.Bytes.{is_one_of}
 use Rattle.omf_frame.specs.Types.{is_local}
 use Rattle.omf_names.specs.Names.{name_cmp}
 use Rattle.omf_names.specs.NameLaws.{names_tied}
@@ -15,10 +19,10 @@ use Rattle.omf_records.specs.Values.{At, Contents, PublicItem, Publics, Rec}
 use Rattle.omf_check.specs.Module.{Module, recs_of}
 use Rattle.omf_check.specs.Tables.{entry, externals}
 use Rattle.omf_placement.specs.declared.frame.Placed.{Placed}
-use Rattle.omf_finding.specs.Chain.{AreAllFound, IsStart, Refers, RefersTo, Stands, contents_define, defines, draft_at, found_at, is_public, present_at, record_defines}
-use Rattle.omf_finding.specs.Inner.Chaining.{HaveJoined, RefersAt, found_by, has_joined}
-use Rattle.omf_finding.specs.Inner.Closing.{Adds, AreAll, AreAllJoined, AreAsked, AsksAt, FirstOf, HasOneMore, HaveAsked, IsAskedOf, IsIdle, RefersBy, Spot, Spots, contents_asked, has_spot, is_asked, left_of, public_asked, publics_asked, record_asked, spot_cmp}
-use Rattle.omf_finding.proofs.ChainLaws.{as-long, found-grows, joined-more, joined-sure, kept-both, kept-parts}
+use Rattle.omf_finding.specs.Chain.{AreAllFound, IsStart, Refers, RefersTo, Stands, contents_define, defines, draft_at, draft_in, found_at, is_public, present_at, record_defines}
+use Rattle.omf_finding.specs.Inner.Chaining.{HaveJoined, RefersAt, found_by, has_joined, kept}
+use Rattle.omf_finding.specs.Inner.Closing.{Adds, AreAll, AreAllJoined, AreAsked, AsksAt, FirstOf, HasOneMore, HaveAsked, IsAskedOf, IsIdle, RefersBy, Spot, Spots, contents_asked, has_spot, is_asked, left_of, public_asked, publics_asked, record_asked, spot_cmp, unled_by}
+use Rattle.omf_finding.proofs.ChainLaws.{as-long, at-end, at-left, drop-first, found-grows, joined-more, joined-sure, kept-both, kept-none, kept-parts}
 use Rattle.omf_finding.specs.declared.chaining.Tried.{Tried}
 use Rattle.omf_finding.specs.declared.findings.Found.{Found}
 use Rattle.omf_finding.specs.declared.findings.Verdict.{Verdict}
@@ -86,6 +90,23 @@ one-more k old new e cs b =
     same x equal =
         let both = and_parts (k.0 == x.0) (bytes_eq k.1.now x.1.now) (sym (spot-tied k.0 x.0 k.1.now x.1.now) ∙ ap is_eq equal) in
         ap₂ (λ (a : ℕ) (ns : List ℕ). is_eq (ordering_then (nat_cmp b a) (name_cmp cs ns))) (eqb-true k.0 x.0 both.0) ((bytes_eq-Decides k.1.now x.1.now).0 both.1)
+
+-- ---- a set of numbers
+
+or-only : (b a : Bool) → cond b true a ≡ (a || (b || false))
+or-only true true = refl
+or-only true false = refl
+or-only false true = refl
+or-only false false = refl
+
+-- A set of the first elements of a list gets the next one.
+pub one-more-of : (s n : BTreeSet ℕ) (xs : List ℕ) (i d : ℕ) → i < length xs → Updates nat_cmp s n (get_or xs i d) true → ((q : ℕ) → contains nat_cmp s q ≡ is_one_of (take i xs) q)
+    → (q : ℕ) → contains nat_cmp n q ≡ is_one_of (take (i + 1) xs) q
+one-more-of s n xs i d l u h q =
+    let k : ℕ = get_or xs i d in
+    let e : i + 1 ≡ suc i = omega arith in
+    rw e (u.0 q ∙ ap₂ (λ (b a : Bool). cond b true a) (unsigned_tied k q) (h q) ∙ or-only (k == q) (is_one_of (take i xs) q)
+    ∙ sym (ap (λ (ys : List ℕ). is_one_of ys q) (take-suc xs i d l) ∙ list_any-append (λ j. j == q) (take i xs) (k ∷ [])))
 
 -- ---- additions
 
@@ -423,20 +444,68 @@ module _ (t : Tried) where
 
 -- ---- verdicts
 
-pub all-found : (program : Program) (ms : List Module) (drafts : List (Option Found)) (marks : List Bool) (vs : List Verdict) → ((i : ℕ) → found_at vs i ≡ found_by drafts marks i) → AreAllJoined program ms drafts marks
-    → AreAllFound program ms drafts vs
-all-found program ms drafts marks vs same h = record { tried = λ i f e. (parts i f e).1; started = started; followed = followed }
+-- The first n placements of those that are not found are those of the drafts that have not joined.
+pub record AreLeft (drafts : List (Option Found)) (marks : List Bool) (us : List (Option Found)) (n : ℕ) : Type 0 where
+  pub count : length us ≡ n
+  pub each : (i : ℕ) → i < n → draft_at us i ≡ unled_by drafts marks i
+
+pub left-first : (drafts : List (Option Found)) (marks : List Bool) (us : List (Option Found)) → us ≡ [] → AreLeft drafts marks us 0
+left-first drafts marks us e = record { count = ap length e; each = λ i low. absurd (omega (arith, low)) }
+
+pub left-next : (drafts left : List (Option Found)) (marks : List Bool) (us ws : List (Option Found)) (n : ℕ) (u d : Option Found) → drop n drafts ≡ d ∷ left → u ≡ kept d (not (has_joined marks n)) → ws ≡ us ++ u ∷ []
+    → AreLeft drafts marks us n → AreLeft drafts marks ws (n + 1)
+left-next drafts left marks us ws n u d e f g h = subst (λ vs. AreLeft drafts marks vs (n + 1)) (sym g) (record { count = longer; each = each })
+  where
+    longer : length (us ++ u ∷ []) ≡ n + 1
+    longer = let l : length (us ++ u ∷ []) ≡ length us + 1 = length-append us (u ∷ []) in let c = h.count in omega (arith, l, c)
+
+    here : draft_at (us ++ u ∷ []) n ≡ unled_by drafts marks n
+    here =
+        let at : slice_get (us ++ u ∷ []) n ≡ Some u = subst (λ k. slice_get (us ++ u ∷ []) k ≡ Some u) h.count (at-end us u) in
+        ap draft_in at ∙ f ∙ ap (λ o. kept o (not (has_joined marks n))) (sym (ap draft_in (drop-first drafts left n d e)))
+
+    each : (i : ℕ) → i < n + 1 → draft_at (us ++ u ∷ []) i ≡ unled_by drafts marks i
+    each i low = elim (cases_lt i n) [
+      | inl l ↦ let c = h.count in ap draft_in (at-left us (u ∷ []) i (omega (arith, l, c))) ∙ h.each i l
+      | inr l ↦ let same : n ≡ i = omega (arith, l, low) in subst (λ k. draft_at (us ++ u ∷ []) k ≡ unled_by drafts marks k) same here
+    ]
+
+pub left-all : (drafts : List (Option Found)) (marks : List Bool) (us : List (Option Found)) (n : ℕ) → length drafts ≤ n → AreLeft drafts marks us n → (i : ℕ) → draft_at us i ≡ unled_by drafts marks i
+left-all drafts marks us n long h i = elim (cases_lt i n) [
+  | inl l ↦ h.each i l
+  | inr l ↦
+      let c = h.count in
+      let none : slice_get us i ≡ None = slice_get_past us i (omega (arith, l, c)) in
+      let out : slice_get drafts i ≡ None = slice_get_past drafts i (omega (arith, l, long)) in
+      ap draft_in none ∙ sym (ap (λ o. kept (draft_in o) (not (has_joined marks i))) out ∙ kept-none (not (has_joined marks i)))
+]
+
+not-both : (b : Bool) → b ≡ true → not b ≡ true → ⊥
+not-both true e f = false≢true f
+not-both false e f = false≢true e
+
+not-kept : (d : Option Found) (b : Bool) → b ≡ true → kept d (not b) ≡ None
+not-kept d true e = refl
+not-kept d false e = absurd (false≢true e)
+
+pub all-found : (program : Program) (ms : List Module) (drafts : List (Option Found)) (marks : List Bool) (vs : List Verdict) (us : List (Option Found)) → ((i : ℕ) → found_at vs i ≡ found_by drafts marks i)
+    → ((i : ℕ) → draft_at us i ≡ unled_by drafts marks i) → AreAllJoined program ms drafts marks → AreAllFound program ms vs us
+all-found program ms drafts marks vs us same others h = record { apart = apart; started = started; followed = followed }
   where
     parts : (i : ℕ) (f : Found) → found_at vs i ≡ Some f → (has_joined marks i ≡ true) × (draft_at drafts i ≡ Some f)
     parts i f e = kept-parts (draft_at drafts i) (has_joined marks i) f (sym (same i) ∙ e)
 
-    there : (i : ℕ) (f : Found) → has_joined marks i ≡ true → draft_at drafts i ≡ Some f → found_at vs i ≡ Some f
-    there i f marked draft = same i ∙ kept-both (draft_at drafts i) (has_joined marks i) f marked draft
+    apart : (i : ℕ) (f : Found) → found_at vs i ≡ Some f → draft_at us i ≡ None
+    apart i f e = others i ∙ not-kept (draft_at drafts i) (has_joined marks i) (parts i f e).0
 
-    started : (i : ℕ) (m : Module) (f : Found) → Stands ms (draft_at drafts) i m f → IsStart program m f → found_at vs i ≡ Some f
-    started i m f s start = there i f (h.started i m f s.module_is s.found_is start) s.found_is
+    left : (i : ℕ) (f : Found) → draft_at us i ≡ Some f → (not (has_joined marks i) ≡ true) × (draft_at drafts i ≡ Some f)
+    left i f e = kept-parts (draft_at drafts i) (not (has_joined marks i)) f (sym (others i) ∙ e)
 
-    followed : (i j : ℕ) (m : Module) (f : Found) (other : Module) (g : Found) → Stands ms (found_at vs) i m f → Stands ms (draft_at drafts) j other g → Refers (recs_of m.bytes) f (recs_of other.bytes) g → found_at vs j ≡ Some g
+    started : (i : ℕ) (m : Module) (f : Found) → Stands ms (draft_at us) i m f → IsStart program m f → ⊥
+    started i m f s start = let out = left i f s.found_is in not-both (has_joined marks i) (h.started i m f s.module_is out.1 start) out.0
+
+    followed : (i j : ℕ) (m : Module) (f : Found) (other : Module) (g : Found) → Stands ms (found_at vs) i m f → Stands ms (draft_at us) j other g → Refers (recs_of m.bytes) f (recs_of other.bytes) g → ⊥
     followed i j m f other g s to r =
         let both = parts i f s.found_is in
-        there j g (h.followed i j both.0 (record { m = m; f = f; module_is = s.module_is; found_is = both.1; other = other; g = g; other_is = to.module_is; there_is = to.found_is; refers = r })) to.found_is
+        let out = left j g to.found_is in
+        not-both (has_joined marks j) (h.followed i j both.0 (record { m = m; f = f; module_is = s.module_is; found_is = both.1; other = other; g = g; other_is = to.module_is; there_is = out.1; refers = r })) out.0

@@ -1,9 +1,9 @@
 -- Which modules are found (this profile's rule): those that a chain of references joins to a module that is sure by itself. A module is in question at one
--- placement, at which it is in the program. Found are all modules in question that are at the program's start, and with a module that is found all modules in
--- question to which it refers. A module that is sure by its bytes alone need not be found: it is not if other segments rival its bytes, or if another segment
--- of its own is nowhere. No order of the modules is in it.
+-- placement, at which it is in the program; no definition fixes which one. Found are all modules in question that are at the program's start, and with a
+-- module that is found all modules in question to which it refers. One that is sure by its bytes alone need not be found: it is not if other segments rival its
+-- bytes, or if another segment of its own is nowhere. No order of the modules is in it.
 use Rattle.std.specs.Prelude.{◌≡◌, ◌⊎◌, ℕ, zero, suc, ◌+◌, ◌*◌, ◌/◌, ◌≤◌, List, length, Bool, true, false, ◌&&◌, ◌==◌, bytes_eq, codes, eqb, Option, Some, None, option_and_then, slice_get, IfSome, if◌then◌else◌}
-use Rattle.std.specs.List.{AllZip, ends_with, list_any}
+use Rattle.std.specs.List.{ends_with, list_any}
 use Rattle.omf_frame.specs.Bytes.{is_one_of}
 use Rattle.omf_frame.specs.Types.{is_local}
 use Rattle.omf_records.specs.Values.{At, Contents, PublicItem, Publics, Rec}
@@ -147,14 +147,9 @@ draft_in (Some draft) = draft
 abbrev pub draft_at : List (Option Found) → ℕ → Option Found
 draft_at drafts i = draft_in (slice_get drafts i)
 
--- A module that is found is so at its draft. Found is each module whose draft is at the program's start, and each one to whose draft a module that is found
--- refers.
-pub record AreAllFound (program : Program) (ms : List Module) (drafts : List (Option Found)) (vs : List Verdict) : Type 0 where
-  pub tried : (i : ℕ) (f : Found) → found_at vs i ≡ Some f → draft_at drafts i ≡ Some f
-  pub started : (i : ℕ) (m : Module) (f : Found) → Stands ms (draft_at drafts) i m f → IsStart program m f → found_at vs i ≡ Some f
-  pub followed : (i j : ℕ) (m : Module) (f : Found) (other : Module) (g : Found) → Stands ms (found_at vs) i m f → Stands ms (draft_at drafts) j other g → Refers (recs_of m.bytes) f (recs_of other.bytes) g
-      → found_at vs j ≡ Some g
-
--- There is a draft for each module, and of these all that are to be found are.
-abbrev pub AreFoundAmongDrafts : Program → List Module → List Verdict → Type 0
-AreFoundAmongDrafts program ms vs = (drafts : List (Option Found)) × AllZip (IsDraft program) ms drafts × AreAllFound program ms drafts vs
+-- Of all modules in question these are found. The others are at these placements in the program, but none of them is at the program's start, and no module that
+-- is found refers to one of them.
+pub record AreAllFound (program : Program) (ms : List Module) (vs : List Verdict) (unled : List (Option Found)) : Type 0 where
+  pub apart : (i : ℕ) (f : Found) → found_at vs i ≡ Some f → draft_at unled i ≡ None
+  pub started : (i : ℕ) (m : Module) (f : Found) → Stands ms (draft_at unled) i m f → IsStart program m f → ⊥
+  pub followed : (i j : ℕ) (m : Module) (f : Found) (other : Module) (g : Found) → Stands ms (found_at vs) i m f → Stands ms (draft_at unled) j other g → Refers (recs_of m.bytes) f (recs_of other.bytes) g → ⊥

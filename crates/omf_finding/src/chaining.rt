@@ -178,9 +178,8 @@ fn defines(module: &Checked, name: &[u8], segment: u16, offset: u32) -> bool
 }
 
 /// The name of an external that is not local, if something shows where it is.
-pub(crate) fn known_name<'a>(module: &'a Checked, found: &Found, external: u16) -> Option<&'a [u8]>
-    ensures some { IfSome result (λ name. IsKnown (recs_of «module».entry.now.bytes) found.now external name.now) }
-    ensures none { IfNone result ((name : List ℕ) → IsKnown (recs_of «module».entry.now.bytes) found.now external name → ⊥) }
+fn known_name<'a>(module: &'a Checked, found: &Found, external: u16) -> Option<&'a [u8]>
+    ensures { IfSome result (λ name. IsKnown (recs_of «module».entry.now.bytes) found.now external name.now) }
 {
     let is_local = module.local(external)?;
     if is_local {

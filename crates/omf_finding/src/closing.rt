@@ -1,20 +1,56 @@
 //! Whether all modules are found that are to be: each one to which a module that is found refers, and each one at the program's start.
 
-ghost use Rattle.std.specs.Prelude.{◌≡◌, ◌+◌, ◌<◌, ◌⊎◌, ℕ, false, length, true, IfOk, OnOk};
+ghost use Rattle.std.specs.Prelude.{◌≡◌, ◌+◌, ◌<◌, ◌⊎◌, ℕ, List, false, length, true, IfNone, IfOk, IfSome, OnOk};
 ghost use Rattle.std.specs.List.{AllZip, list_any};
 ghost use Rattle.omf_check.specs.Module.{recs_of};
 ghost use Rattle.omf_reloc.specs.Reach.{Reaches};
 ghost use Rattle.omf_finding.specs.Chain.{IsDraft, IsStart, RefersTo};
-ghost use Rattle.omf_finding.specs.Inner.Chaining.{HaveJoined};
-ghost use Rattle.omf_finding.specs.Inner.Closing.{Adds, AreAll, AsksAt, HasOneMore, HaveAsked, IsAskedOf, IsIdle, RefersBy, has_spot, is_asked, left_of, public_asked, record_asked};
+ghost use Rattle.omf_finding.specs.Inner.Chaining.{HaveJoined, IsKnown};
+ghost use Rattle.omf_finding.specs.Inner.Closing.{Adds, AreAll, AsksAt, HasOneMore, HaveAsked, IsAskedOf, IsIdle, IsUnknownOf, RefersBy, has_spot, is_asked, left_of, public_asked, record_asked};
 
-use crate::chaining::{Joined, Tried, is_start, known_name, present_at};
+use crate::chaining::{Joined, Tried, is_start, present_at};
 use crate::findings::Found;
 use omf_check::{Checked, Undecoded};
 use omf_names::NameKey;
 use omf_records::{Items, Public};
 use std::alloc::{AllocError, Global};
 use std::collections::BTreeSet;
+
+/// The externals of a module that nothing places, as a set: a module may have many.
+fn unknown_of(alloc: Global, found: &Found) -> Result<BTreeSet<u16>, AllocError>
+    ensures { IfOk result (IsUnknownOf found.now) }
+{
+    let unknown = found.unknown.as_slice();
+    let mut set = BTreeSet::new(alloc);
+    for external in unknown {
+        set.insert(*external)?;
+    }
+    Ok(set)
+}
+
+/// Where a module is, with the externals that nothing places.
+#[derive(Clone, Copy)]
+struct Placing<'b> {
+    found: &'b Found,
+    unknown: &'b BTreeSet<u16>,
+}
+
+/// The name of an external that is not local, if something shows where it is.
+fn asked_name<'a>(module: &'a Checked, placing: Placing<'_>, external: u16) -> Option<&'a [u8]>
+    requires { IsUnknownOf placing.found.now placing.unknown.now }
+    ensures some { IfSome result (λ name. IsKnown (recs_of «module».entry.now.bytes) placing.entry.found.now external name.now) }
+    ensures none { IfNone result ((name : List ℕ) → IsKnown (recs_of «module».entry.now.bytes) placing.entry.found.now external name → ⊥) }
+{
+    let is_local = module.local(external)?;
+    if is_local {
+        return None;
+    }
+    if placing.unknown.contains(&external) {
+        return None;
+    }
+    let name = module.external(external)?;
+    Some(name.0)
+}
 
 /// The names that modules ask for, each with an address that it has for one of them.
 #[derive(Drop)]
@@ -42,26 +78,37 @@ impl<'a> Asks<'a> {
     fn add_external(
         &mut self,
         module: &'a Checked,
-        found: &Found,
+        placing: Placing<'_>,
         external: u16,
     ) -> Result<(), AllocError>
-        ensures { OnOk result (Adds self.old.spots self.new.spots (RefersBy (recs_of «module».entry.now.bytes) found.now external)) }
+        requires { IsUnknownOf placing.found.now placing.unknown.now }
+        ensures { OnOk result (Adds self.old.spots self.new.spots (RefersBy (recs_of «module».entry.now.bytes) placing.entry.found.now external)) }
     {
-        let Some(place) = found.placement.external(usize::from(external)) else {
+        let Some(place) = placing.found.placement.external(usize::from(external)) else {
             return Ok(());
         };
-        match known_name(module, found, external) {
+        match asked_name(module, placing, external) {
             Some(name) => self.add(name, u64::from(place.address)),
             None => Ok(()),
         }
     }
 
     /// Adds the names to which a module at its placement refers.
-    fn add_module(&mut self, module: &'a Checked, found: &Found) -> Result<(), AllocError>
+    fn add_module(
+        &mut self,
+        alloc: Global,
+        module: &'a Checked,
+        found: &Found,
+    ) -> Result<(), AllocError>
         ensures { OnOk result (Adds self.old.spots self.new.spots (RefersTo (recs_of «module».entry.now.bytes) found.now)) }
     {
+        let unknown = unknown_of(alloc, found)?;
+        let placing = Placing {
+            found,
+            unknown: &unknown,
+        };
         for before in 0..module.externals() {
-            self.add_external(module, found, before + 1)?;
+            self.add_external(module, placing, before + 1)?;
         }
         Ok(())
     }
@@ -118,7 +165,7 @@ impl<'a, 'b, 'c> Tried<'a, 'b, 'c> {
             return Ok(());
         }
         match self.draft(number) {
-            Some((module, found)) => asks.add_module(module, found),
+            Some((module, found)) => asks.add_module(self.alloc, module, found),
             None => Ok(()),
         }
     }

@@ -1,6 +1,5 @@
 //! The publics of modules at their placements, by name and address.
 
-use crate::chaining::present_at;
 use crate::findings::Found;
 use omf_check::{Checked, Publics};
 use omf_names::NameKey;
@@ -55,7 +54,10 @@ impl<'a> DefinedNames<'a> {
         publics: Publics<'a>,
     ) -> Result<(), AllocError> {
         let segment = publics.segment.item.0;
-        let Some(place) = present_at(found, segment) else {
+        if found.absent.binary_search(&segment).is_ok() {
+            return Ok(());
+        }
+        let Some(place) = found.placement.segment(usize::from(segment)) else {
             return Ok(());
         };
         for public in publics.items {

@@ -3,10 +3,10 @@
 ghost use Rattle.std.specs.Prelude.{◌≡◌, ◌++◌, ◌==◌, ◌&&◌, ℕ, length, not, true, false, IfOk, IfSome, OnOk, option_to_list};
 ghost use Rattle.std.specs.List.{AllZip};
 ghost use Rattle.omf_check.specs.Module.{Module};
-ghost use Rattle.omf_finding.specs.Chain.{AreChained, AreFoundAmongDrafts, IsDraft, found_at, found_in};
+ghost use Rattle.omf_finding.specs.Chain.{AreChained, AreAllFound, IsDraft, draft_at, found_at, found_in};
 ghost use Rattle.omf_finding.specs.Finding.{AreCandidates, IsHeld, IsTold};
 ghost use Rattle.omf_finding.specs.Inner.Chaining.{AreJoined, found_by, kept};
-ghost use Rattle.omf_finding.specs.Inner.Closing.{AreAllJoined};
+ghost use Rattle.omf_finding.specs.Inner.Closing.{AreAllJoined, unled_by};
 ghost use Rattle.omf_finding.specs.Inner.Shaping.{AgreeAt, HasShapes, HaveShapes, IsMarked, IsOffered, IsPatternOf, IsShapeOf, bytes_of};
 ghost use Rattle.omf_finding.specs.Inner.Walking.{byte_in};
 
@@ -440,11 +440,23 @@ fn verdict(
     Ok(Verdict::Possible(candidates))
 }
 
-/// The draft of a module that is joined.
-fn kept(draft: Option<Found>, is_joined: bool) -> Option<Found>
-    ensures { result ≡ kept draft is_joined }
+/// The draft of a module, first if it is joined, and second if it is not.
+fn split(draft: Option<Found>, is_joined: bool) -> (Option<Found>, Option<Found>)
+    ensures { result ≡ (kept draft is_joined, kept draft (not is_joined)) }
 {
-    if is_joined { draft } else { None }
+    if is_joined {
+        (draft, None)
+    } else {
+        (None, draft)
+    }
+}
+
+/// What is known of all modules in the end.
+#[derive(Drop)]
+struct Known {
+    verdicts: Vec<Verdict>,
+    /// The drafts of those that are not found.
+    unled: Vec<Option<Found>>,
 }
 
 /// What is known of all modules in the end: those that are joined are found, where they were tried.
@@ -454,23 +466,27 @@ fn verdicts(
     shapes: &[Vec<Shape>],
     drafts: Vec<Option<Found>>,
     joined: &Joined,
-) -> Result<Vec<Verdict>, AllocError>
+) -> Result<Known, AllocError>
     requires shapes { AllZip (HasShapes ended.program.now ended.most) modules.now shapes.now }
     requires drafts { AllZip (IsDraft ended.program.now) modules.now drafts.items }
-    ensures told { IfOk result (λ v. AllZip (IsTold ended.entry.program.now ended.entry.most) modules.now v.items) }
-    ensures found { IfOk result (λ v. (i : ℕ) → found_at v.items i ≡ found_by drafts.items joined.now.marks.items i) }
+    ensures told { IfOk result (λ k. AllZip (IsTold ended.entry.program.now ended.entry.most) modules.now k.verdicts.items) }
+    ensures found { IfOk result (λ k. (i : ℕ) → found_at k.verdicts.items i ≡ found_by drafts.items joined.now.marks.items i) }
+    ensures drafts { IfOk result (λ k. AllZip (IsDraft ended.entry.program.now) modules.now k.unled.items) }
+    ensures unled { IfOk result (λ k. (i : ℕ) → draft_at k.unled.items i ≡ unled_by drafts.items joined.now.marks.items i) }
 {
     let mut verdicts = Vec::with_capacity(ended.search.alloc, modules.len())?;
+    let mut unled = Vec::with_capacity(ended.search.alloc, modules.len())?;
     let mut left = drafts.into_iter();
     for (number, module) in modules.iter().enumerate() {
         let Some(draft) = left.next() else {
             unreachable!()
         };
-        let found = kept(draft, joined.has(number));
+        let (found, other) = split(draft, joined.has(number));
         let own = shapes[number].as_slice();
         verdicts.push(verdict(ended, number, module, own, found)?)?;
+        unled.push(other)?;
     }
-    Ok(verdicts)
+    Ok(Known { verdicts, unled })
 }
 
 /// The placement at which each module is in the program, if the one that is tried is such a one.
@@ -525,7 +541,8 @@ fn joined_among<'a, 'b>(
 /// A segment is searched for by its closed bytes if four of them are in a row. One that is at one place with at least `least` closed bytes,
 /// alone, is placed there; so is the segment of a module's start, at the program's. Others are placed by the fixups of segments that have a
 /// place: by what the program has at their locations. Of the modules that are in the program at these places, those are found to which a
-/// chain of references leads from one that is sure by itself: by its start, or by a segment that is at one place only.
+/// chain of references leads from one that is sure by itself: by its start, or by a segment that is at one place only. So none of the others,
+/// which are `unled`, is at the program's start, and no module that is found refers to one of them.
 ///
 /// # Errors
 ///
@@ -538,7 +555,8 @@ pub fn find(
 ) -> Result<Findings, AllocError>
     ensures told { IfOk result (λ f. AllZip (IsTold program.now options.now.most) modules.now f.verdicts.items) }
     ensures chained { IfOk result (λ f. AreChained program.now options.now.least modules.now f.verdicts.items) }
-    ensures all { IfOk result (λ f. AreFoundAmongDrafts program.now modules.now f.verdicts.items) }
+    ensures unled { IfOk result (λ f. AllZip (IsDraft program.now) modules.now f.unled.items) }
+    ensures all { IfOk result (λ f. AreAllFound program.now modules.now f.verdicts.items f.unled.items) }
 {
     let shapes = shapes_of(alloc, modules, program, options.most)?;
     let singles = Singles::of(alloc, modules, &shapes, options.least)?;
@@ -553,7 +571,11 @@ pub fn find(
     };
     let drafts = drafts(ended, modules, &shapes)?;
     let joined = joined_among(ended, modules, &shapes, drafts.as_slice(), options.least)?;
-    let verdicts = verdicts(ended, modules, &shapes, drafts, &joined)?;
+    let Known { verdicts, unled } = verdicts(ended, modules, &shapes, drafts, &joined)?;
     let asked = search.asked(&verdicts)?;
-    Ok(Findings { verdicts, asked })
+    Ok(Findings {
+        verdicts,
+        unled,
+        asked,
+    })
 }

@@ -1,10 +1,11 @@
 -- The names that modules ask for, each with an address, and what of them other modules define. Only private functions use these definitions.
 use Rattle.std.specs.Prelude.{◌≡◌, ◌⊎◌, ℕ, ◌+◌, ◌<◌, ◌==◌, ◌&&◌, ◌||◌, List, length, filter, Bool, true, false, not, Option, Some, None, bytes_eq, slice_get, if◌then◌else◌}
-use Rattle.std.specs.BTreeSet.{BTreeSet, contains_by}
+use Rattle.std.specs.BTreeSet.{BTreeSet, contains, contains_by}
 use Rattle.std.specs.List.{list_any}
 use Rattle.std.specs.Ordering.{nat_cmp, ordering_then}
 use Rattle.std.specs.declared.cmp.Ordering.{Ordering}
 use denote.Ref.{Bor}
+use Rattle.omf_frame.specs.Bytes.{is_one_of}
 use Rattle.omf_frame.specs.Types.{is_local}
 use Rattle.omf_names.specs.Names.{name_cmp}
 use Rattle.omf_records.specs.Values.{At, Contents, PublicItem, Publics, Rec}
@@ -12,7 +13,7 @@ use Rattle.omf_check.specs.Module.{Module, recs_of}
 use Rattle.omf_check.specs.Tables.{entry}
 use Rattle.omf_placement.specs.declared.frame.Placed.{Placed}
 use Rattle.omf_finding.specs.Chain.{IsStart, RefersTo, draft_at, present_at}
-use Rattle.omf_finding.specs.Inner.Chaining.{IsKnown, RefersAt, found_by, has_joined}
+use Rattle.omf_finding.specs.Inner.Chaining.{IsKnown, RefersAt, found_by, has_joined, kept}
 use Rattle.omf_finding.specs.declared.chaining.Tried.{Tried}
 use Rattle.omf_finding.specs.declared.findings.Found.{Found}
 use Rattle.omf_finding.specs.declared.program.Program.{Program}
@@ -48,6 +49,10 @@ abbrev pub FirstOf : ℕ → (ℕ → List ℕ → ℕ → Type 0) → List ℕ 
 FirstOf n R cs b = (k : ℕ) × (k < n) × R k cs b
 
 -- ---- what a module asks for
+
+-- A set has the externals that nothing places.
+abbrev pub IsUnknownOf : Found → BTreeSet ℕ → Type 0
+IsUnknownOf f s = (i : ℕ) → contains nat_cmp s i ≡ is_one_of f.unknown.items i
 
 -- By this external, a module at a placement refers to a name at an address.
 pub record RefersBy (m : List Rec) (f : Found) (external : ℕ) (name : List ℕ) (address : ℕ) : Type 0 where
@@ -98,6 +103,10 @@ abbrev pub is_asked : Spots → Found → List Rec → Bool
 is_asked s f m = list_any (record_asked s f) m
 
 -- ---- the end
+
+-- The drafts of those that have not joined.
+abbrev pub unled_by : List (Option Found) → List Bool → ℕ → Option Found
+unled_by drafts marks i = kept (draft_at drafts i) (not (has_joined marks i))
 
 -- How many have not joined.
 abbrev pub left_of : List Bool → ℕ

@@ -14,16 +14,14 @@ returns-clause-chained c =
     let ms = c.args.modules.now in
     let drafts = c.in_ok-drafts.drafts.items in
     let marks = c.in_ok-joined.joined.marks.items in
-    chained-verdicts program least ms drafts marks c.in_ok-verdicts.verdicts.items c.in_ok-verdicts.ensures.found
-    (subst (λ (ds : List (Option Found)). AreJoined program least ms ds marks) c.as_slice.ensures.value c.in_ok-joined.ensures.joined)
+    let known = c.in_ok-verdicts.ensures in
+    chained-verdicts program least ms drafts marks c.in_ok-verdicts.field-0.verdicts.items known.found (subst (λ (ds : List (Option Found)). AreJoined program least ms ds marks) c.as_slice.ensures.value c.in_ok-joined.ensures.joined)
 
 pub returns-clause-all : goal.returns-clause-all
 returns-clause-all c =
     let program = c.args.program.now in
     let ms = c.args.modules.now in
     let drafts = c.in_ok-drafts.drafts.items in
-    let marks = c.in_ok-joined.joined.marks.items in (
-      drafts,
-      c.in_ok-drafts.ensures,
-      all-found program ms drafts marks c.in_ok-verdicts.verdicts.items c.in_ok-verdicts.ensures.found (subst (λ (ds : List (Option Found)). AreAllJoined program ms ds marks) c.as_slice.ensures.value c.in_ok-joined.ensures.all),
-    )
+    let marks = c.in_ok-joined.joined.marks.items in
+    let known = c.in_ok-verdicts.ensures in
+    all-found program ms drafts marks c.in_ok-verdicts.field-0.verdicts.items c.in_ok-verdicts.field-0.unled.items known.found known.unled (subst (λ (ds : List (Option Found)). AreAllJoined program ms ds marks) c.as_slice.ensures.value c.in_ok-joined.ensures.all)

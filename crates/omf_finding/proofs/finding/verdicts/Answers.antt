@@ -2,13 +2,16 @@ use Rattle.std.proofs.Common.{rules, ◌≡◌, ◌+◌, ◌∙◌, ◌∷◌, L
 use Rattle.std.specs.List.{AllZip}
 use Rattle.std.specs.Vec.Iter.{into_iter_items}
 use Rattle.std.proofs.lemmas.Option.{slice_get_read}
+use Rattle.std.specs.Prelude.{Option, not}
+use Rattle.omf_finding.specs.declared.findings.Found.{Found}
 use Rattle.omf_finding.specs.declared.findings.Verdict.{Verdict}
 use Rattle.omf_finding.specs.Finding.{IsTold}
 use Rattle.omf_finding.specs.Chain.{IsDraft}
-use Rattle.omf_finding.specs.Inner.Chaining.{kept}
+use Rattle.omf_finding.specs.Inner.Chaining.{has_joined, kept}
 use Rattle.omf_finding.specs.Inner.Shaping.{HasShapes, HaveShapes}
 use Rattle.omf_finding.proofs.CandidateLaws.{zip-at, zip-long}
 use Rattle.omf_finding.proofs.ChainLaws.{draft-kept, drop-first, drop-rest, so-all, so-first, so-next, zip-first, zip-get, zip-size}
+use Rattle.omf_finding.proofs.CloseLaws.{left-all, left-first, left-next}
 use Rattle.omf_finding.proofs.TellingLaws.{zip-more, zip-end}
 use Rattle.omf_finding.proofs.finding.verdicts.Goals as goal
 
@@ -22,6 +25,8 @@ loop-number-init c =
       left = left;
       size = omega (arith, ap length left, zip-size (IsDraft c.args.ended.program.now) ms drafts c.requires.drafts);
       found = so-first drafts c.args.joined.now.marks.items c.in_ok-verdicts.verdicts.items c.in_ok-verdicts.ensures.items;
+      drafts = zip-first (IsDraft c.args.ended.program.now) ms c.in_ok-unled.unled.items c.in_ok-unled.ensures.items;
+      unled = left-first drafts c.args.joined.now.marks.items c.in_ok-unled.unled.items c.in_ok-unled.ensures.items;
     }
 
 pub bounds-shapes-number : goal.bounds-shapes-number
@@ -47,7 +52,7 @@ verdict-requires-clause-found c =
     let drafts = c.args.drafts.items in
     let rest = into_iter_items c.next.new.self in
     let steps : drop n drafts ≡ d ∷ rest = sym c.loop-number.invariant.left ∙ c.in-Some.ensures.items in
-    subst (IsDraft program m) (sym c.kept-found.ensures)
+    subst (IsDraft program m) (sym (ap (λ (x : Option Found × Option Found). x.0) c.split-found.ensures))
     (draft-kept program m d c.has.result (zip-get (IsDraft program) ms drafts n m d c.requires.drafts (slice_get_read ms (length ms) n m refl c.loop-number-test.true c.index-modules-number.is) (drop-first drafts rest n d steps)))
 
 pub loop-number-preserved : goal.loop-number-preserved
@@ -60,12 +65,20 @@ loop-number-preserved c =
     let drafts = c.args.drafts.items in
     let rest = into_iter_items c.next.new.self in
     let steps : drop n drafts ≡ d ∷ rest = sym c.loop-number.invariant.left ∙ c.in-Some.ensures.items in
+    let marks = c.args.joined.now.marks.items in
+    let program = c.args.ended.program.now in
+    let other : c.split-found.result.1 ≡ kept d (not (has_joined marks n)) = ap (λ (x : Option Found × Option Found). x.1) c.split-found.ensures ∙ ap (λ b. kept d (not b)) c.has.ensures in
     record {
       told = subst (λ (vs : List Verdict). AllZip told (take (n + 1) ms) vs) (sym c.in_ok-push.ensures.items)
           (zip-more told ms c.loop-number.verdicts.items n m c.in_ok-verdict.field-0 c.index-modules-number.is c.loop-number-test.true c.loop-number.invariant.told c.in_ok-verdict.ensures.told);
       left = sym (drop-rest drafts rest n d steps);
       size = omega (arith, ap length c.in-Some.ensures.items, c.loop-number.invariant.size);
-      found = so-next drafts rest c.args.joined.now.marks.items c.loop-number.verdicts.items c.push.new.self.items n c.in_ok-verdict.field-0 d steps (c.in_ok-verdict.ensures.found ∙ c.kept-found.ensures ∙ ap (kept d) c.has.ensures) c.in_ok-push.ensures.items c.loop-number.invariant.found;
+      found = so-next drafts rest c.args.joined.now.marks.items c.loop-number.verdicts.items c.push.new.self.items n c.in_ok-verdict.field-0 d steps (c.in_ok-verdict.ensures.found ∙ ap (λ (x : Option Found × Option Found). x.0) c.split-found.ensures ∙ ap (kept d) c.has.ensures) c.in_ok-push.ensures.items c.loop-number.invariant.found;
+      drafts = subst (λ (us : List (Option Found)). AllZip (IsDraft program) (take (n + 1) ms) us) (sym c.in_ok-push-2.ensures.items)
+          (zip-more (IsDraft program) ms c.loop-number.unled.items n m c.split-found.result.1 c.index-modules-number.is c.loop-number-test.true c.loop-number.invariant.drafts
+          (subst (IsDraft program m) (sym other)
+          (draft-kept program m d (not (has_joined marks n)) (zip-get (IsDraft program) ms drafts n m d c.requires.drafts (slice_get_read ms (length ms) n m refl c.loop-number-test.true c.index-modules-number.is) (drop-first drafts rest n d steps)))));
+      unled = left-next drafts rest marks c.loop-number.unled.items c.push-in-loop-number.new.self.items n c.split-found.result.1 d steps other c.in_ok-push-2.ensures.items c.loop-number.invariant.unled;
     }
 
 pub returns-clause-told : goal.returns-clause-told
@@ -77,3 +90,13 @@ returns-clause-found c =
     let ms = c.args.modules.now in
     let size = zip-size (IsDraft c.args.ended.program.now) ms drafts c.requires.drafts in
     so-all drafts c.args.joined.now.marks.items c.loop-number.verdicts.items c.loop-number.number (omega (arith, size, c.loop-number-test.false)) c.loop-number.invariant.found
+
+pub returns-clause-drafts : goal.returns-clause-drafts
+returns-clause-drafts c = zip-end (IsDraft c.args.ended.program.now) c.args.modules.now c.loop-number.unled.items c.loop-number.number c.loop-number-test.false c.loop-number.invariant.drafts
+
+pub returns-clause-unled : goal.returns-clause-unled
+returns-clause-unled c =
+    let drafts = c.args.drafts.items in
+    let ms = c.args.modules.now in
+    let size = zip-size (IsDraft c.args.ended.program.now) ms drafts c.requires.drafts in
+    left-all drafts c.args.joined.now.marks.items c.loop-number.unled.items c.loop-number.number (omega (arith, size, c.loop-number-test.false)) c.loop-number.invariant.unled
