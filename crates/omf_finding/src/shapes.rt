@@ -396,7 +396,8 @@ impl<'a> Indexed<'a> {
         Ok((places, true))
     }
 
-    /// The same, also where its windows are not kept: then all are looked at.
+    /// The same, also where the windows with these bytes are not kept: then all windows are sorted. `wanted` marks the bytes of each segment, so
+    /// this is not reached.
     fn places(
         &self,
         alloc: Global,

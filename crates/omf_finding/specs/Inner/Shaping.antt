@@ -121,11 +121,11 @@ IsRareOf is r = (i : Interval) × Contains is i × IsRareIn i r
 abbrev pub bucket_of : ℕ → ℕ
 bucket_of key = key * 2654435761 % 2 ^ 32 / 2 ^ 14
 
--- The windows of marked buckets are kept; if none is marked or not, all are.
+-- The windows of marked buckets are kept, and those of buckets past the end of the marks: without marks all are.
 abbrev pub is_kept : List Bool → ℕ → Bool
 is_kept marks key = unwrap_or (slice_get marks (bucket_of key)) true
 
--- Of the windows of the first n offsets of a program those that are kept, each its number times 2^32, plus its offset.
+-- The windows that are kept, of the first n offsets of a program. Each is its number times 2^32, plus its offset.
 abbrev pub HasWindows : (ℕ → Bool) → List ℕ → List ℕ → ℕ → Type 0
 HasWindows kept program windows n = (at key : ℕ) → at < n → at < 2 ^ 32 → front (drop at program) ≡ Some key → kept key ≡ true → Contains windows (key * 2 ^ 32 + at)
 
