@@ -21,7 +21,7 @@ use Rattle.omf_check.specs.Tables.{entry, externals}
 use Rattle.omf_placement.specs.declared.frame.Placed.{Placed}
 use Rattle.omf_finding.specs.Chain.{AreAllFound, IsStart, Refers, RefersTo, Stands, contents_define, defines, draft_at, draft_in, found_at, is_public, present_at, record_defines}
 use Rattle.omf_finding.specs.Inner.Chaining.{HaveJoined, RefersAt, found_by, has_joined, kept}
-use Rattle.omf_finding.specs.Inner.Closing.{Adds, AreAll, AreAllJoined, AreAsked, AsksAt, FirstOf, HasOneMore, HaveAsked, IsAskedOf, IsIdle, RefersBy, Spot, Spots, contents_asked, has_spot, is_asked, left_of, public_asked, publics_asked, record_asked, spot_cmp, unled_by}
+use Rattle.omf_finding.specs.Inner.Closing.{Adds, AreAll, AreAllJoined, AreAsked, AsksAt, FirstOf, HasOneMore, HaveAsked, IsAskedOf, IsIdle, RefersBy, Spot, Spots, contents_asked, has_spot, is_asked, left_of, public_asked, publics_asked, record_asked, spot_cmp, unreferenced_by}
 use Rattle.omf_finding.proofs.ChainLaws.{as-long, at-end, at-left, drop-first, found-grows, joined-more, joined-sure, kept-both, kept-none, kept-parts}
 use Rattle.omf_finding.specs.declared.chaining.Tried.{Tried}
 use Rattle.omf_finding.specs.declared.findings.Found.{Found}
@@ -447,7 +447,7 @@ module _ (t : Tried) where
 -- The first n placements of those that are not found are those of the drafts that have not joined.
 pub record AreLeft (drafts : List (Option Found)) (marks : List Bool) (us : List (Option Found)) (n : ℕ) : Type 0 where
   pub count : length us ≡ n
-  pub each : (i : ℕ) → i < n → draft_at us i ≡ unled_by drafts marks i
+  pub each : (i : ℕ) → i < n → draft_at us i ≡ unreferenced_by drafts marks i
 
 pub left-first : (drafts : List (Option Found)) (marks : List Bool) (us : List (Option Found)) → us ≡ [] → AreLeft drafts marks us 0
 left-first drafts marks us e = record { count = ap length e; each = λ i low. absurd (omega (arith, low)) }
@@ -459,18 +459,18 @@ left-next drafts left marks us ws n u d e f g h = subst (λ vs. AreLeft drafts m
     longer : length (us ++ u ∷ []) ≡ n + 1
     longer = let l : length (us ++ u ∷ []) ≡ length us + 1 = length-append us (u ∷ []) in let c = h.count in omega (arith, l, c)
 
-    here : draft_at (us ++ u ∷ []) n ≡ unled_by drafts marks n
+    here : draft_at (us ++ u ∷ []) n ≡ unreferenced_by drafts marks n
     here =
         let at : slice_get (us ++ u ∷ []) n ≡ Some u = subst (λ k. slice_get (us ++ u ∷ []) k ≡ Some u) h.count (at-end us u) in
         ap draft_in at ∙ f ∙ ap (λ o. kept o (not (has_joined marks n))) (sym (ap draft_in (drop-first drafts left n d e)))
 
-    each : (i : ℕ) → i < n + 1 → draft_at (us ++ u ∷ []) i ≡ unled_by drafts marks i
+    each : (i : ℕ) → i < n + 1 → draft_at (us ++ u ∷ []) i ≡ unreferenced_by drafts marks i
     each i low = elim (cases_lt i n) [
       | inl l ↦ let c = h.count in ap draft_in (at-left us (u ∷ []) i (omega (arith, l, c))) ∙ h.each i l
-      | inr l ↦ let same : n ≡ i = omega (arith, l, low) in subst (λ k. draft_at (us ++ u ∷ []) k ≡ unled_by drafts marks k) same here
+      | inr l ↦ let same : n ≡ i = omega (arith, l, low) in subst (λ k. draft_at (us ++ u ∷ []) k ≡ unreferenced_by drafts marks k) same here
     ]
 
-pub left-all : (drafts : List (Option Found)) (marks : List Bool) (us : List (Option Found)) (n : ℕ) → length drafts ≤ n → AreLeft drafts marks us n → (i : ℕ) → draft_at us i ≡ unled_by drafts marks i
+pub left-all : (drafts : List (Option Found)) (marks : List Bool) (us : List (Option Found)) (n : ℕ) → length drafts ≤ n → AreLeft drafts marks us n → (i : ℕ) → draft_at us i ≡ unreferenced_by drafts marks i
 left-all drafts marks us n long h i = elim (cases_lt i n) [
   | inl l ↦ h.each i l
   | inr l ↦
@@ -489,7 +489,7 @@ not-kept d true e = refl
 not-kept d false e = absurd (false≢true e)
 
 pub all-found : (program : Program) (ms : List Module) (drafts : List (Option Found)) (marks : List Bool) (vs : List Verdict) (us : List (Option Found)) → ((i : ℕ) → found_at vs i ≡ found_by drafts marks i)
-    → ((i : ℕ) → draft_at us i ≡ unled_by drafts marks i) → AreAllJoined program ms drafts marks → AreAllFound program ms vs us
+    → ((i : ℕ) → draft_at us i ≡ unreferenced_by drafts marks i) → AreAllJoined program ms drafts marks → AreAllFound program ms vs us
 all-found program ms drafts marks vs us same others h = record { apart = apart; started = started; followed = followed }
   where
     parts : (i : ℕ) (f : Found) → found_at vs i ≡ Some f → (has_joined marks i ≡ true) × (draft_at drafts i ≡ Some f)

@@ -149,7 +149,7 @@ draft_at drafts i = draft_in (slice_get drafts i)
 
 -- Of all modules in question these are found. The others are at these placements in the program, but none of them is at the program's start, and no module that
 -- is found refers to one of them.
-pub record AreAllFound (program : Program) (ms : List Module) (vs : List Verdict) (unled : List (Option Found)) : Type 0 where
-  pub apart : (i : ℕ) (f : Found) → found_at vs i ≡ Some f → draft_at unled i ≡ None
-  pub started : (i : ℕ) (m : Module) (f : Found) → Stands ms (draft_at unled) i m f → IsStart program m f → ⊥
-  pub followed : (i j : ℕ) (m : Module) (f : Found) (other : Module) (g : Found) → Stands ms (found_at vs) i m f → Stands ms (draft_at unled) j other g → Refers (recs_of m.bytes) f (recs_of other.bytes) g → ⊥
+pub record AreAllFound (program : Program) (ms : List Module) (vs : List Verdict) (unreferenced : List (Option Found)) : Type 0 where
+  pub apart : (i : ℕ) (f : Found) → found_at vs i ≡ Some f → draft_at unreferenced i ≡ None
+  pub started : (i : ℕ) (m : Module) (f : Found) → Stands ms (draft_at unreferenced) i m f → IsStart program m f → ⊥
+  pub followed : (i j : ℕ) (m : Module) (f : Found) (other : Module) (g : Found) → Stands ms (found_at vs) i m f → Stands ms (draft_at unreferenced) j other g → Refers (recs_of m.bytes) f (recs_of other.bytes) g → ⊥

@@ -6,7 +6,7 @@ ghost use Rattle.omf_check.specs.Module.{Module};
 ghost use Rattle.omf_finding.specs.Chain.{AreChained, AreAllFound, IsDraft, draft_at, found_at, found_in};
 ghost use Rattle.omf_finding.specs.Finding.{AreCandidates, IsHeld, IsTold};
 ghost use Rattle.omf_finding.specs.Inner.Chaining.{AreJoined, found_by, kept};
-ghost use Rattle.omf_finding.specs.Inner.Closing.{AreAllJoined, unled_by};
+ghost use Rattle.omf_finding.specs.Inner.Closing.{AreAllJoined, unreferenced_by};
 ghost use Rattle.omf_finding.specs.Inner.Shaping.{AgreeAt, HasShapes, HaveShapes, IsMarked, IsOffered, IsPatternOf, IsShapeOf, bytes_of};
 ghost use Rattle.omf_finding.specs.Inner.Walking.{byte_in};
 
@@ -456,7 +456,7 @@ fn split(draft: Option<Found>, is_joined: bool) -> (Option<Found>, Option<Found>
 struct Known {
     verdicts: Vec<Verdict>,
     /// The drafts of those that are not found.
-    unled: Vec<Option<Found>>,
+    unreferenced: Vec<Option<Found>>,
 }
 
 /// What is known of all modules in the end: those that are joined are found, where they were tried.
@@ -471,11 +471,11 @@ fn verdicts(
     requires drafts { AllZip (IsDraft ended.program.now) modules.now drafts.items }
     ensures told { IfOk result (λ k. AllZip (IsTold ended.entry.program.now ended.entry.most) modules.now k.verdicts.items) }
     ensures found { IfOk result (λ k. (i : ℕ) → found_at k.verdicts.items i ≡ found_by drafts.items joined.now.marks.items i) }
-    ensures drafts { IfOk result (λ k. AllZip (IsDraft ended.entry.program.now) modules.now k.unled.items) }
-    ensures unled { IfOk result (λ k. (i : ℕ) → draft_at k.unled.items i ≡ unled_by drafts.items joined.now.marks.items i) }
+    ensures drafts { IfOk result (λ k. AllZip (IsDraft ended.entry.program.now) modules.now k.unreferenced.items) }
+    ensures unreferenced { IfOk result (λ k. (i : ℕ) → draft_at k.unreferenced.items i ≡ unreferenced_by drafts.items joined.now.marks.items i) }
 {
     let mut verdicts = Vec::with_capacity(ended.search.alloc, modules.len())?;
-    let mut unled = Vec::with_capacity(ended.search.alloc, modules.len())?;
+    let mut unreferenced = Vec::with_capacity(ended.search.alloc, modules.len())?;
     let mut left = drafts.into_iter();
     for (number, module) in modules.iter().enumerate() {
         let Some(draft) = left.next() else {
@@ -484,9 +484,12 @@ fn verdicts(
         let (found, other) = split(draft, joined.has(number));
         let own = shapes[number].as_slice();
         verdicts.push(verdict(ended, number, module, own, found)?)?;
-        unled.push(other)?;
+        unreferenced.push(other)?;
     }
-    Ok(Known { verdicts, unled })
+    Ok(Known {
+        verdicts,
+        unreferenced,
+    })
 }
 
 /// The placement at which each module is in the program, if the one that is tried is such a one.
@@ -542,7 +545,7 @@ fn joined_among<'a, 'b>(
 /// alone, is placed there; so is the segment of a module's start, at the program's. Others are placed by the fixups of segments that have a
 /// place: by what the program has at their locations. Of the modules that are in the program at these places, those are found to which a
 /// chain of references leads from one that is sure by itself: by its start, or by a segment that is at one place only. So none of the others,
-/// which are `unled`, is at the program's start, and no module that is found refers to one of them.
+/// which are `unreferenced`, is at the program's start, and no module that is found refers to one of them.
 ///
 /// # Errors
 ///
@@ -555,8 +558,8 @@ pub fn find(
 ) -> Result<Findings, AllocError>
     ensures told { IfOk result (λ f. AllZip (IsTold program.now options.now.most) modules.now f.verdicts.items) }
     ensures chained { IfOk result (λ f. AreChained program.now options.now.least modules.now f.verdicts.items) }
-    ensures unled { IfOk result (λ f. AllZip (IsDraft program.now) modules.now f.unled.items) }
-    ensures all { IfOk result (λ f. AreAllFound program.now modules.now f.verdicts.items f.unled.items) }
+    ensures unreferenced { IfOk result (λ f. AllZip (IsDraft program.now) modules.now f.unreferenced.items) }
+    ensures all { IfOk result (λ f. AreAllFound program.now modules.now f.verdicts.items f.unreferenced.items) }
 {
     let shapes = shapes_of(alloc, modules, program, options.most)?;
     let singles = Singles::of(alloc, modules, &shapes, options.least)?;
@@ -571,11 +574,14 @@ pub fn find(
     };
     let drafts = drafts(ended, modules, &shapes)?;
     let joined = joined_among(ended, modules, &shapes, drafts.as_slice(), options.least)?;
-    let Known { verdicts, unled } = verdicts(ended, modules, &shapes, drafts, &joined)?;
+    let Known {
+        verdicts,
+        unreferenced,
+    } = verdicts(ended, modules, &shapes, drafts, &joined)?;
     let asked = search.asked(&verdicts)?;
     Ok(Findings {
         verdicts,
-        unled,
+        unreferenced,
         asked,
     })
 }

@@ -81,7 +81,7 @@ pub struct Findings {
     /// What is known of each module, in the order of the list of modules.
     pub verdicts: Vec<Verdict>,
     /// Of each module that is not found the placement at which it was tried, if it is in the program there. No module that is found refers to it.
-    pub unled: Vec<Option<Found>>,
+    pub unreferenced: Vec<Option<Found>>,
     /// The names that are asked for, in ascending order of address; each name once for each address.
     pub asked: Vec<Asked>,
 }

@@ -105,8 +105,8 @@ is_asked s f m = list_any (record_asked s f) m
 -- ---- the end
 
 -- The drafts of those that have not joined.
-abbrev pub unled_by : List (Option Found) → List Bool → ℕ → Option Found
-unled_by drafts marks i = kept (draft_at drafts i) (not (has_joined marks i))
+abbrev pub unreferenced_by : List (Option Found) → List Bool → ℕ → Option Found
+unreferenced_by drafts marks i = kept (draft_at drafts i) (not (has_joined marks i))
 
 -- How many have not joined.
 abbrev pub left_of : List Bool → ℕ

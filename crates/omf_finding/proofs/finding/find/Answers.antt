@@ -24,4 +24,4 @@ returns-clause-all c =
     let drafts = c.in_ok-drafts.drafts.items in
     let marks = c.in_ok-joined.joined.marks.items in
     let known = c.in_ok-verdicts.ensures in
-    all-found program ms drafts marks c.in_ok-verdicts.field-0.verdicts.items c.in_ok-verdicts.field-0.unled.items known.found known.unled (subst (λ (ds : List (Option Found)). AreAllJoined program ms ds marks) c.as_slice.ensures.value c.in_ok-joined.ensures.all)
+    all-found program ms drafts marks c.in_ok-verdicts.field-0.verdicts.items c.in_ok-verdicts.field-0.unreferenced.items known.found known.unreferenced (subst (λ (ds : List (Option Found)). AreAllJoined program ms ds marks) c.as_slice.ensures.value c.in_ok-joined.ensures.all)

@@ -25,8 +25,8 @@ loop-number-init c =
       left = left;
       size = omega (arith, ap length left, zip-size (IsDraft c.args.ended.program.now) ms drafts c.requires.drafts);
       found = so-first drafts c.args.joined.now.marks.items c.in_ok-verdicts.verdicts.items c.in_ok-verdicts.ensures.items;
-      drafts = zip-first (IsDraft c.args.ended.program.now) ms c.in_ok-unled.unled.items c.in_ok-unled.ensures.items;
-      unled = left-first drafts c.args.joined.now.marks.items c.in_ok-unled.unled.items c.in_ok-unled.ensures.items;
+      drafts = zip-first (IsDraft c.args.ended.program.now) ms c.in_ok-unreferenced.unreferenced.items c.in_ok-unreferenced.ensures.items;
+      unreferenced = left-first drafts c.args.joined.now.marks.items c.in_ok-unreferenced.unreferenced.items c.in_ok-unreferenced.ensures.items;
     }
 
 pub bounds-shapes-number : goal.bounds-shapes-number
@@ -75,10 +75,10 @@ loop-number-preserved c =
       size = omega (arith, ap length c.in-Some.ensures.items, c.loop-number.invariant.size);
       found = so-next drafts rest c.args.joined.now.marks.items c.loop-number.verdicts.items c.push.new.self.items n c.in_ok-verdict.field-0 d steps (c.in_ok-verdict.ensures.found ∙ ap (λ (x : Option Found × Option Found). x.0) c.split-found.ensures ∙ ap (kept d) c.has.ensures) c.in_ok-push.ensures.items c.loop-number.invariant.found;
       drafts = subst (λ (us : List (Option Found)). AllZip (IsDraft program) (take (n + 1) ms) us) (sym c.in_ok-push-2.ensures.items)
-          (zip-more (IsDraft program) ms c.loop-number.unled.items n m c.split-found.result.1 c.index-modules-number.is c.loop-number-test.true c.loop-number.invariant.drafts
+          (zip-more (IsDraft program) ms c.loop-number.unreferenced.items n m c.split-found.result.1 c.index-modules-number.is c.loop-number-test.true c.loop-number.invariant.drafts
           (subst (IsDraft program m) (sym other)
           (draft-kept program m d (not (has_joined marks n)) (zip-get (IsDraft program) ms drafts n m d c.requires.drafts (slice_get_read ms (length ms) n m refl c.loop-number-test.true c.index-modules-number.is) (drop-first drafts rest n d steps)))));
-      unled = left-next drafts rest marks c.loop-number.unled.items c.push-in-loop-number.new.self.items n c.split-found.result.1 d steps other c.in_ok-push-2.ensures.items c.loop-number.invariant.unled;
+      unreferenced = left-next drafts rest marks c.loop-number.unreferenced.items c.push-in-loop-number.new.self.items n c.split-found.result.1 d steps other c.in_ok-push-2.ensures.items c.loop-number.invariant.unreferenced;
     }
 
 pub returns-clause-told : goal.returns-clause-told
@@ -92,11 +92,11 @@ returns-clause-found c =
     so-all drafts c.args.joined.now.marks.items c.loop-number.verdicts.items c.loop-number.number (omega (arith, size, c.loop-number-test.false)) c.loop-number.invariant.found
 
 pub returns-clause-drafts : goal.returns-clause-drafts
-returns-clause-drafts c = zip-end (IsDraft c.args.ended.program.now) c.args.modules.now c.loop-number.unled.items c.loop-number.number c.loop-number-test.false c.loop-number.invariant.drafts
+returns-clause-drafts c = zip-end (IsDraft c.args.ended.program.now) c.args.modules.now c.loop-number.unreferenced.items c.loop-number.number c.loop-number-test.false c.loop-number.invariant.drafts
 
-pub returns-clause-unled : goal.returns-clause-unled
-returns-clause-unled c =
+pub returns-clause-unreferenced : goal.returns-clause-unreferenced
+returns-clause-unreferenced c =
     let drafts = c.args.drafts.items in
     let ms = c.args.modules.now in
     let size = zip-size (IsDraft c.args.ended.program.now) ms drafts c.requires.drafts in
-    left-all drafts c.args.joined.now.marks.items c.loop-number.unled.items c.loop-number.number (omega (arith, size, c.loop-number-test.false)) c.loop-number.invariant.unled
+    left-all drafts c.args.joined.now.marks.items c.loop-number.unreferenced.items c.loop-number.number (omega (arith, size, c.loop-number-test.false)) c.loop-number.invariant.unreferenced

@@ -14,6 +14,6 @@ invariant-loop-number l = record {
   left : into_iter_items l.left ≡ drop l.number l.fn.drafts.items;
   size : length (into_iter_items l.left) + l.number ≡ length l.modules;
   found : AreSo l.fn.drafts.items l.joined.marks.items l.verdicts.items l.number;
-  drafts : AllZip (IsDraft l.ended.program.now) (take l.number l.modules) l.unled.items;
-  unled : AreLeft l.fn.drafts.items l.joined.marks.items l.unled.items l.number;
+  drafts : AllZip (IsDraft l.ended.program.now) (take l.number l.modules) l.unreferenced.items;
+  unreferenced : AreLeft l.fn.drafts.items l.joined.marks.items l.unreferenced.items l.number;
 }
