@@ -1,7 +1,7 @@
 ; Second module: sets up a stack, copies the data from the ROM to RAM, writes a text, and stops. With -DMORE the code is eight bytes longer.
         cpu     8086
         global  begin
-        extern  say, stored
+        extern  say
 
         segment code class=CODE align=16
 
@@ -13,9 +13,9 @@ begin:  cli
 %ifdef MORE
         times 8 nop
 %endif
-        mov     ax, seg stored          ; where the ROM has the data
+        mov     ax, stored              ; where the ROM has the data
         mov     ds, ax
-        mov     si, stored
+        mov     si, from
         mov     ax, data                ; where they are used
         mov     es, ax
         mov     di, first
@@ -31,6 +31,10 @@ begin:  cli
         out     dx, al
 stop:   hlt
         jmp     stop
+
+        segment stored class=STORED align=16
+
+from:                                   ; an empty segment, after which the data are stored
 
         segment data class=DATA align=16
 
