@@ -1,9 +1,6 @@
 -- Programs of files, and why there is none.
 use Rattle.std.proofs.Common.{◌≡◌, ℕ, List, [], arith, refl, subst, inl, inr}
 use Rattle.std.specs.Prelude.{◌⊎◌}
-use Rattle.omf_frame.specs.Device.{Device, HasFailed}
-use Rattle.omf_cmd.specs.Programs.{in_memory}
-use Rattle.omf_cmd.specs.Runs.{IsWritten}
 use Rattle.omf_linking.specs.File.{InputFile}
 use Rattle.omf_linker.specs.Exe.Making.{GiveNone, IsMade, IsNotMade, ProgramFiles}
 use Rattle.omf_linker.specs.Exe.Refusing.{IsRefusalFor}
@@ -13,18 +10,6 @@ use Rattle.omf_linker.specs.declared.exe.refusal.Refusal.{Refusal}
 use Rattle.omf_c.specs.Answers.{done}
 use Rattle.omf_c.specs.Programs.{AreNotWritten, HandsProgram, HaveNoProgram, IsAnsweredOf, IsProgramOfFiles, ShowsRefusal, warnings}
 use Rattle.omf_c.specs.declared.answer.Answer.{Answer}
-
-none_failed : (n : ℕ) → HasFailed 0 n → n ≡ 0 → ⊥
-none_failed n (inl h) z = omega arith
-none_failed n (inr h) z = omega arith
-
-whole_in_memory : (n : ℕ) (items text : List ℕ) → n ≡ 0 → IsWritten (in_memory 0 []) (in_memory n items) text → items ≡ text
-whole_in_memory n items text z (inl h) = h.1
-whole_in_memory n items text z (inr h) = absurd (none_failed n h.0.0 z)
-
--- a sink in memory with no refusals holds the whole text
-pub whole_kept : (old : Device) (n : ℕ) (items text : List ℕ) → old ≡ in_memory 0 [] → n ≡ 0 → IsWritten old (in_memory n items) text → items ≡ text
-whole_kept old n items text e z h = whole_in_memory n items text z (subst (λ (d : Device). IsWritten d (in_memory n items) text) e h)
 
 -- what is made of the files is their program
 pub program_of : (files : List InputFile) (o : ExeOptions) (p : ProgramFiles) (m : MadeProgram) → p.files ≡ files → p.ignores_case ≡ o.ignore_case → IsMade o p m → IsProgramOfFiles files o m

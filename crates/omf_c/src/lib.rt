@@ -9,7 +9,6 @@ mod calls;
 mod data;
 mod fixups;
 mod images;
-mod kept;
 mod libraries;
 mod linking;
 mod making;

@@ -1,7 +1,7 @@
 //! DOS programs of files: modules and libraries, as `omf-link exe` and `omf-link com` make them.
 
 ghost use Rattle.std.specs.Prelude.{◌≡◌, ◌⊎◌, ◌++◌, IfErr, IfOk, OnOk, map};
-ghost use Rattle.omf_linker.specs.Exe.Refusing.{IsRefusalFor, is_out_of_memory, refusal_report};
+ghost use Rattle.omf_linker.specs.Exe.Refusing.{IsRefusalFor, is_out_of_memory};
 ghost use Rattle.omf_linker.specs.declared.exe.refusal.Refusal.TheVariants as refusal;
 ghost use Rattle.omf_linker.specs.declared.link.fault.ImageFault.TheVariants as image;
 ghost use Rattle.omf_linker.specs.declared.link.files_fault.FilesFault.TheVariants as files;
@@ -9,11 +9,13 @@ ghost use Rattle.omf_c.specs.Answers.{done};
 ghost use Rattle.omf_c.specs.Programs.{AreOptionsOf, HandsProgram, HaveNoProgram, IsAnsweredOf, IsFilesAnswered, IsProgramOfFiles, ShowsRefusal, TellsRefusal, file_of, kind_of, order_of, stack_of, text_if, warnings};
 
 use crate::answer::{Answer, NOTHING, hand_out};
-use crate::kept::Kept;
 use crate::linking::{MEMORY, unlinked};
 use crate::rows::{FileRow, ProgramRow};
 use crate::tables::flag;
-use omf_linker::exe::{ExeOptions, MadeProgram, Order, ProgramFiles, ProgramKind, Refusal};
+use omf_linker::exe::{
+    ExeOptions, Leftovers, MadeProgram, Order, ProgramFiles, ProgramKind, Refusal,
+};
+use omf_linker::host::fault_text;
 use omf_linker::link::{FilesFault, ImageFault, InputFile};
 use omf_linking::LinkFault;
 use std::alloc::{AllocError, Global};
@@ -96,7 +98,7 @@ fn made_of(
     ensures refused { IfErr result (IsRefusalFor (HaveNoProgram files.items options.now)) }
 {
     let program = ProgramFiles::of(alloc, files, options.ignore_case)?;
-    program.make_and_free(alloc, options)
+    program.make(alloc, options, Leftovers::Freed)
 }
 
 /// Appends a text, if there is one.
@@ -172,20 +174,6 @@ fn is_memory(refusal: &Refusal) -> bool
     }
 }
 
-/// The lines of a refusal.
-#[tactic(auto, using(crate::proofs::FilesLaws::whole_kept))]
-fn refusal_text(alloc: Global, refusal: &Refusal) -> Result<Vec<u8>, AllocError>
-    ensures { IfOk result (λ text. text.items ≡ (refusal_report refusal.now).text) }
-{
-    let mut kept = Kept::new(alloc);
-    refusal.print(&mut kept);
-    if kept.refusals == 0 {
-        Ok(kept.text)
-    } else {
-        Err(AllocError)
-    }
-}
-
 /// Copies a program and lines to the starts of two buffers, if both fit; else both are unchanged. The result has the sizes in either case.
 fn hand_out_program(made: &MadeProgram, lines: &[u8], out: &mut [u8], told: &mut [u8]) -> Answer
     ensures { HandsProgram made.now lines.now result (out.old, told.old) (out.new, told.new) }
@@ -225,7 +213,7 @@ fn refused(alloc: Global, refusal: &Refusal, told: &mut [u8]) -> Answer
     if is_memory(refusal) {
         return MEMORY;
     }
-    match refusal_text(alloc, refusal) {
+    match fault_text(alloc, refusal) {
         Ok(text) => hand_out_refusal(&text, told),
         Err(AllocError) => MEMORY,
     }

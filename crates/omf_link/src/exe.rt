@@ -7,7 +7,7 @@ use crate::libraries::Sources;
 use omf_frame::Sink;
 use omf_host::{OutputFile, RunFiles, Status, Streams, misused_by, refuse_clash, warn};
 use omf_linker::asked::{Asked, sorted};
-use omf_linker::exe::{Call, ExeOptions, MadeProgram, Refusal, call_of, missing_lines};
+use omf_linker::exe::{Call, ExeOptions, Leftovers, MadeProgram, Refusal, call_of, missing_lines};
 use omf_linker::host::{tell_refusal, write_or_tell};
 use std::alloc::AllocError;
 
@@ -131,7 +131,7 @@ fn with_options<K: Sink, E: Sink>(
         return Ok(status);
     }
     let made = match program {
-        Ok(program) => program.make(rt.alloc(), options),
+        Ok(program) => program.make(rt.alloc(), options, Leftovers::Left),
         Err(refusal) => Err(refusal),
     };
     match made {

@@ -36,6 +36,6 @@ pub use making::{
 };
 pub use options::{ExeOptions, Order, ProgramKind};
 pub use ordering::{OrderingFault, order_of};
-pub use program_files::ProgramFiles;
+pub use program_files::{Leftovers, ProgramFiles};
 pub use refusal::Refusal;
 pub use sharing::{SharingFault, shared_module};

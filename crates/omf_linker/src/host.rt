@@ -2,8 +2,8 @@
 
 use crate::exe::{Refusal, is_library};
 use crate::link::Output;
-pub use crate::telling::{perform, tell_fault};
-use omf_cmd::Program;
+pub use crate::telling::{fault_text, perform, tell_fault};
+use omf_cmd::{Fault, Program};
 use omf_frame::{Buffered, Sink};
 use omf_host::{
     OutputFile, Status, Streams, Unwritten, put_quoted, put_unread, put_unwritten, read_input,
@@ -96,11 +96,8 @@ pub fn tell_refusal<K, E: Sink>(
     streams: &mut Streams<K, E>,
     refusal: &Refusal,
 ) -> Result<Status, AllocError> {
-    match refusal {
-        Refusal::Files(fault) => tell_fault(alloc, streams, fault)?,
-        Refusal::Undefined(lines) | Refusal::Line(lines) => streams.report(alloc, lines)?,
-    }
-    Ok(refusal.status())
+    tell_fault(alloc, streams, refusal)?;
+    Ok(Status::of_code(refusal.status()))
 }
 
 /// Does a task on the standard input. Returns the status.

@@ -46,8 +46,12 @@ impl Sink for Kept {
 }
 
 /// The text of a fault.
+///
+/// # Errors
+///
+/// `AllocError` if out of memory.
 #[tactic(auto, using(crate::proofs::TellingLaws::whole_kept))]
-fn fault_text<F: Fault>(alloc: Global, fault: &F) -> Result<Vec<u8>, AllocError>
+pub fn fault_text<F: Fault>(alloc: Global, fault: &F) -> Result<Vec<u8>, AllocError>
     ensures { IfOk result (λ text. text.items ≡ (F.report fault.now).text) }
 {
     let mut kept = Kept::new(alloc);

@@ -53,6 +53,15 @@ fn modules_of(
     }
 }
 
+/// What becomes of the memory of the modules once their program is made.
+#[derive(Clone, Copy, Debug, PartialEq, Eq)]
+pub enum Leftovers {
+    /// It is freed: for a caller that goes on.
+    Freed,
+    /// It stays, since freeing it takes long: for a process that ends soon.
+    Left,
+}
+
 impl ProgramFiles {
     /// Reads the modules of files. Each file has modules, which all take part, or is a library, of which the members take part that are needed. The
     /// first library in the order of the files that defines a name serves. Names are compared without case if `ignores_case` is set.
@@ -110,36 +119,18 @@ impl ProgramFiles {
         self.modules.sought(alloc, known)
     }
 
-    /// What is written of the files: the program as a .COM file or as an .EXE file, its map, and lines of what is found in it. The memory of the
-    /// modules is not freed, which takes long: the process ends soon.
+    /// What is written of the files: the program as a .COM file or as an .EXE file, its map, and lines of what is found in it.
     ///
     /// # Errors
     ///
     /// The fault of the modules that are added; otherwise the names that are not defined; otherwise the line of a look, if it finds what the
     /// options do not allow; otherwise the fault of the program or its map; otherwise the names that more than one public has, if they are not
     /// allowed. Out of memory.
-    pub fn make(self, alloc: Global, options: &ExeOptions<'_>) -> Result<MadeProgram, Refusal>
-        ensures made { IfOk result (IsMade options.now self) }
-        ensures refused { IfErr result (IsRefusalFor (IsNotMade options.now self)) }
-    {
-        let ProgramFiles { files, modules, .. } = self;
-        let all = modules.with_added(alloc, options)?;
-        let linked = all.linked(alloc)?;
-        let made = made_of(alloc, &linked, &files, options)?;
-        forget(linked);
-        forget(all);
-        Ok(made)
-    }
-
-    /// The same, but the memory of the modules is freed: for a caller that goes on.
-    ///
-    /// # Errors
-    ///
-    /// Those of `make`.
-    pub fn make_and_free(
+    pub fn make(
         self,
         alloc: Global,
         options: &ExeOptions<'_>,
+        leftovers: Leftovers,
     ) -> Result<MadeProgram, Refusal>
         ensures made { IfOk result (IsMade options.now self) }
         ensures refused { IfErr result (IsRefusalFor (IsNotMade options.now self)) }
@@ -148,6 +139,13 @@ impl ProgramFiles {
         let all = modules.with_added(alloc, options)?;
         let linked = all.linked(alloc)?;
         let made = made_of(alloc, &linked, &files, options)?;
+        match leftovers {
+            Leftovers::Freed => {}
+            Leftovers::Left => {
+                forget(linked);
+                forget(all);
+            }
+        }
         Ok(made)
     }
 }

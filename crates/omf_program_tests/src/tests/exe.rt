@@ -1,7 +1,7 @@
 //! Runs of `omf-link exe` over files.
 
-use omf_cmd::Gathered;
-use omf_linker::exe::{ExeOptions, MadeProgram, ProgramFiles, ProgramKind, Refusal};
+use omf_cmd::{Fault, Gathered};
+use omf_linker::exe::{ExeOptions, Leftovers, MadeProgram, ProgramFiles, ProgramKind, Refusal};
 use omf_linker::link::InputFile;
 use omf_samples::bytes_of;
 use std::alloc::Global;
@@ -235,7 +235,7 @@ pub(super) fn made_of(
     files: Vec<InputFile>,
     options: &ExeOptions<'_>,
 ) -> Result<MadeProgram, Refusal> {
-    ProgramFiles::of(alloc, files, options.ignore_case)?.make(alloc, options)
+    ProgramFiles::of(alloc, files, options.ignore_case)?.make(alloc, options, Leftovers::Left)
 }
 
 /// The files of a case; `None` where they find no memory.

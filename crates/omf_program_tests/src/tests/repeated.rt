@@ -1,7 +1,7 @@
 //! Programs in which more than one public has a name: the option `--allow twice` of `omf-link exe` and `com`.
 
 use super::exe::{file_of, made_of};
-use omf_cmd::Gathered;
+use omf_cmd::{Fault, Gathered};
 use omf_linker::exe::{ExeOptions, MadeProgram, ProgramKind, Refusal};
 use omf_linker::link::InputFile;
 use omf_samples::bytes_of;
@@ -171,7 +171,7 @@ fn linked(
 fn is_refusal(alloc: Global, refusal: &Refusal, lines: &str) -> bool {
     let mut sink = Gathered::new(alloc);
     refusal.print(&mut sink);
-    sink.text.as_slice() == lines.as_bytes() && refusal.status().code() == 1
+    sink.text.as_slice() == lines.as_bytes() && refusal.status() == 1
 }
 
 /// Whether a case gives its program.
