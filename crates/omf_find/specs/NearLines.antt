@@ -78,3 +78,11 @@ pub record IsNearText (f : Format) (files : List (List ℕ)) (g : Gathered) (y :
   pub references : List ℕ
   pub are_references : AreTexts (IsReferenceLine f (slice_get g.modules.items y.«module») y.near) y.strays.items references
   pub text_is : text ≡ near_line f files g y ++ (bytes ++ references)
+
+-- A text has the lines of these segments, and others before and after them.
+pub record HasNearLines (f : Format) (files : List (List ℕ)) (g : Gathered) (ys : List Nearly) (text : List ℕ) : Type 0 where
+  pub before : List ℕ
+  pub near : List ℕ
+  pub are_near : AreTexts (IsNearText f files g) ys near
+  pub after : List ℕ
+  pub text_is : text ≡ before ++ (near ++ after)

@@ -7,12 +7,13 @@ use Rattle.omf_find.specs.declared.asked.Output.{Output}
 use Rattle.omf_find.specs.declared.asked.Output.TheVariants as output
 use Rattle.omf_find.specs.declared.fields.Format.TheVariants as format
 use Rattle.omf_find.specs.declared.loading.Kind.{Kind}
+use Rattle.omf_find.specs.declared.near.Nearly.{Nearly}
 use Rattle.omf_find.specs.declared.reading.Gathered.{Gathered}
 
-abbrev pub IsOutput : Output → Option ℕ → Kind → List (List ℕ) → Gathered → List Verdict → List ℕ → Type 0
-IsOutput output.Text load kind files g vs text = IsMap format.Text files g vs text
-IsOutput output.Json load kind files g vs text = IsMap format.Json files g vs text
-IsOutput (output.Symbols tool) load kind files g vs text = AreSymbols tool (unwrap_or load (usual_load tool kind)) g vs text
+abbrev pub IsOutput : Output → Option ℕ → Kind → List (List ℕ) → Gathered → List Verdict → List Nearly → List ℕ → Type 0
+IsOutput output.Text load kind files g vs ys text = IsMap format.Text files g vs ys text
+IsOutput output.Json load kind files g vs ys text = IsMap format.Json files g vs ys text
+IsOutput (output.Symbols tool) load kind files g vs ys text = AreSymbols tool (unwrap_or load (usual_load tool kind)) g vs text
 
 -- A map shows segments that are near if these are asked for; symbols do not.
 abbrev pub near_of : Output → Option ℕ → Option ℕ

@@ -5,6 +5,7 @@ ghost use Rattle.std.specs.List.{AllZip};
 ghost use Rattle.omf_find.specs.LinkText.{IsLinkIf};
 ghost use Rattle.omf_find.specs.Parts.{IsHeldIf};
 ghost use Rattle.omf_finding.specs.declared.findings.Findings.{Findings};
+ghost use Rattle.omf_find.specs.declared.near.Nearly.{Nearly};
 ghost use Rattle.omf_host.specs.Ending.{IsPut};
 ghost use Rattle.omf_find.specs.Output.{IsOutput, near_of};
 ghost use Rattle.omf_find.specs.Nearly.{AreNearlyIf};
@@ -30,6 +31,7 @@ use omf_host::{
 };
 use std::alloc::{AllocError, Global};
 use std::io;
+use std::mem::forget;
 use std::process::ExitCode;
 
 /// What the program shows of itself.
@@ -207,6 +209,26 @@ fn nearly(
     }
 }
 
+/// What is written of findings, with these segments that are near.
+fn shown_text(
+    alloc: Global,
+    asked: &Asked,
+    kind: Kind,
+    source: Source<'_>,
+    shown: Shown<'_>,
+) -> Result<Vec<u8>, AllocError>
+    ensures { IfOk result (λ text. IsOutput asked.now.output asked.now.load kind (map string_bytes source.entry.files.now) source.entry.gathered.now shown.entry.findings.now.verdicts.items shown.entry.nearly.now text.items) }
+{
+    match asked.output {
+        Output::Text => map_text(alloc, Format::Text, source, shown),
+        Output::Json => map_text(alloc, Format::Json, source, shown),
+        Output::Symbols(tool) => {
+            let load = load_of(asked.load, tool, kind);
+            symbols_text(alloc, tool, load, source, shown.findings)
+        }
+    }
+}
+
 /// What is written of findings.
 fn text_of(
     alloc: Global,
@@ -215,7 +237,7 @@ fn text_of(
     source: Source<'_>,
     findings: &Findings,
 ) -> Result<Vec<u8>, AllocError>
-    ensures { IfOk result (λ text. IsOutput asked.now.output asked.now.load loaded.now.kind (map string_bytes source.entry.files.now) source.entry.gathered.now findings.now.verdicts.items text.items) }
+    ensures { IfOk result (λ text. (ys : List Nearly) × AreNearlyIf (near_of asked.now.output asked.now.near) asked.now.least loaded.now.program source.entry.gathered.now.modules.items ys × IsOutput asked.now.output asked.now.load loaded.now.kind (map string_bytes source.entry.files.now) source.entry.gathered.now findings.now.verdicts.items ys text.items) }
 {
     let nearly = nearly(alloc, asked, loaded, source, findings)?;
     let shown = Shown {
@@ -224,14 +246,8 @@ fn text_of(
         shows_possible: asked.shows_possible,
         nearly: &nearly,
     };
-    match asked.output {
-        Output::Text => map_text(alloc, Format::Text, source, shown),
-        Output::Json => map_text(alloc, Format::Json, source, shown),
-        Output::Symbols(tool) => {
-            let load = load_of(asked.load, tool, loaded.kind);
-            symbols_text(alloc, tool, load, source, findings)
-        }
-    }
+    let text = shown_text(alloc, asked, loaded.kind, source, shown)?;
+    Ok(text)
 }
 
 /// The link text of findings, if one is asked for.
@@ -270,7 +286,7 @@ fn search<K: Sink>(
     loaded: &Loaded,
     source: Source<'_>,
 ) -> Result<Searched, AllocError>
-    ensures { IfOk result (λ s. (f : Findings) × (text : List ℕ) × IsOutput asked.now.output asked.now.load loaded.now.kind (map string_bytes source.entry.files.now) source.entry.gathered.now f.verdicts.items text × IsPut (K.seen writer.old) (K.seen writer.new) text s.status × IsLinkIf (is_some asked.now.link) loaded.now.program (map string_bytes source.entry.files.now) source.entry.gathered.now f.verdicts.items (option_map (λ v. v.items) s.link)) }
+    ensures { IfOk result (λ s. (f : Findings) × (ys : List Nearly) × (text : List ℕ) × AreNearlyIf (near_of asked.now.output asked.now.near) asked.now.least loaded.now.program source.entry.gathered.now.modules.items ys × IsOutput asked.now.output asked.now.load loaded.now.kind (map string_bytes source.entry.files.now) source.entry.gathered.now f.verdicts.items ys text × IsPut (K.seen writer.old) (K.seen writer.new) text s.status × IsLinkIf (is_some asked.now.link) loaded.now.program (map string_bytes source.entry.files.now) source.entry.gathered.now f.verdicts.items (option_map (λ v. v.items) s.link)) }
 {
     let options = FindOptions {
         least: asked.least,
@@ -280,6 +296,8 @@ fn search<K: Sink>(
     let text = text_of(alloc, asked, loaded, source, &findings)?;
     let link = link_of(alloc, asked, loaded, source, &findings)?;
     let status = put(writer, &text);
+    // The program ends soon: what was found is not freed one by one.
+    forget(findings);
     Ok(Searched { status, link })
 }
 
@@ -442,6 +460,8 @@ fn act_on<K: Sink, E: Sink>(
     };
     let searched = search(rt.alloc(), &mut streams.output, asked, &loaded, source)?;
     let linked = write_link(rt, streams, asked, searched.link.as_ref())?;
+    // The program ends: its modules are not freed one by one.
+    forget(gathered);
     Ok(searched.status.worst(linked).worst(noted))
 }
 

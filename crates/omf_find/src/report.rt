@@ -3,6 +3,7 @@
 ghost use Rattle.std.specs.Prelude.{IfOk, flat_map, map, string_bytes};
 ghost use Rattle.omf_frame.specs.Bytes.{AddsText};
 ghost use Rattle.omf_find.specs.Map.{IsMap, name_line, segment_line};
+ghost use Rattle.omf_find.specs.NearLines.{HasNearLines};
 
 use crate::fields::{Format, address, begin, close, name, number, word};
 use crate::gaps::{Gap, gaps_of, longest, size_of_all};
@@ -230,27 +231,28 @@ fn put_nothing(text: &mut Vec<u8>, format: Format, findings: &Findings) -> Resul
     }
 }
 
-/// Appends what is still open: how much of the program, and the longest gaps.
-fn put_open(
-    text: &mut Vec<u8>,
+/// What is still open: how much of the program, and the longest gaps.
+fn open_text(
+    alloc: Global,
     format: Format,
     source: Source<'_>,
     shown: Shown<'_>,
     rows: &[SegmentRow],
-) -> Result<(), AllocError> {
-    let alloc = *text.allocator();
+) -> Result<Vec<u8>, AllocError> {
+    let mut text = Vec::new(alloc);
     let first = u64::from(shown.program.base);
     let end = first.saturating_add(shown.program.bytes.len() as u64);
     let gaps = gaps_of(alloc, first, end, rows)?;
     put_program(
-        text,
+        &mut text,
         format,
         shown,
         source.modules().len(),
         size_of_all(&gaps),
     )?;
-    put_gaps(text, format, &longest(gaps, MOST_GAPS)?)?;
-    put_nothing(text, format, shown.findings)
+    put_gaps(&mut text, format, &longest(gaps, MOST_GAPS)?)?;
+    put_nothing(&mut text, format, shown.findings)?;
+    Ok(text)
 }
 
 /// What follows the publics: the names that are asked for, the possible places and what is near if these are asked for, and what is still open.
@@ -260,7 +262,9 @@ fn others_text(
     source: Source<'_>,
     shown: Shown<'_>,
     rows: &[SegmentRow],
-) -> Result<Vec<u8>, AllocError> {
+) -> Result<Vec<u8>, AllocError>
+    ensures { IfOk result (λ text. HasNearLines format (map string_bytes source.entry.files.now) source.entry.gathered.now shown.entry.nearly.now text.items) }
+{
     let mut text = Vec::new(alloc);
     let asked = asked_rows(alloc, source.modules(), shown.findings)?;
     put_names(&mut text, format, source, "asked", &asked)?;
@@ -268,7 +272,8 @@ fn others_text(
         put_possible(&mut text, format, source, shown.findings)?;
     }
     put_nearly(&mut text, format, source, shown.nearly)?;
-    put_open(&mut text, format, source, shown, rows)?;
+    let rest = open_text(alloc, format, source, shown, rows)?;
+    text.extend_from_slice(&rest)?;
     Ok(text)
 }
 
@@ -283,7 +288,7 @@ pub fn map_text(
     source: Source<'_>,
     shown: Shown<'_>,
 ) -> Result<Vec<u8>, AllocError>
-    ensures { IfOk result (λ text. IsMap format (map string_bytes source.entry.files.now) source.entry.gathered.now shown.entry.findings.now.verdicts.items text.items) }
+    ensures { IfOk result (λ text. IsMap format (map string_bytes source.entry.files.now) source.entry.gathered.now shown.entry.findings.now.verdicts.items shown.entry.nearly.now text.items) }
 {
     let mut text = Vec::new(alloc);
     let rows = segment_rows_of(alloc, source.modules(), shown.findings)?;

@@ -17,8 +17,11 @@ link_of-requires g c =
 pub returns : goal.returns
 returns g c = (
   c.in_ok-findings.findings,
+  c.in_ok-text.ensures.0,
   c.deref.result.now,
-  subst (IsOutput c.args.asked.now.output c.args.asked.now.load c.args.loaded.now.kind (map string_bytes c.args.source.files.now) c.args.source.gathered.now c.in_ok-findings.findings.verdicts.items) (sym c.deref.ensures.value) c.in_ok-text.ensures,
+  c.in_ok-text.ensures.1,
+  subst (IsOutput c.args.asked.now.output c.args.asked.now.load c.args.loaded.now.kind (map string_bytes c.args.source.files.now) c.args.source.gathered.now c.in_ok-findings.findings.verdicts.items c.in_ok-text.ensures.0) (sym c.deref.ensures.value)
+      c.in_ok-text.ensures.2,
   c.put-status.ensures,
   c.in_ok-link.ensures,
 )
