@@ -1,7 +1,7 @@
 //! Names without case: the option `--ignore-case`.
 
 use super::exe::made_of;
-use omf_cmd::Gathered;
+use omf_cmd::{Fault, Gathered};
 use omf_linker::exe::{ExeOptions, ProgramKind};
 use omf_linker::link::{FilesFault, InputFile, Task};
 use omf_linker::seen::{Allowed, Request, SeenText, files_folded, files_seen, input_folded};

@@ -1,7 +1,7 @@
 //! Runs of `omf-link com` over files.
 
 use super::exe::{file_of, made_of};
-use omf_cmd::Gathered;
+use omf_cmd::{Fault, Gathered};
 use omf_linker::exe::{ExeOptions, ProgramKind};
 use omf_samples::bytes_of;
 use std::alloc::Global;

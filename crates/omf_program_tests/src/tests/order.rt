@@ -1,7 +1,7 @@
 //! Programs in DOS order.
 
 use super::exe::{file_of, made_of};
-use omf_cmd::Gathered;
+use omf_cmd::{Fault, Gathered};
 use omf_linker::exe::{ExeOptions, MadeProgram, Order, ProgramKind, Refusal};
 use omf_linker::link::InputFile;
 use std::alloc::Global;
