@@ -99,7 +99,7 @@ i64 rattle_env(const u8 *name, u8 *room, size_t size) { return -1; }
 i64 rattle_env_at(size_t i, u8 *room, size_t size) { return -1; }
 
 /* Standard input, standard output with the lines of the standard error among it, and no other files. */
-enum { EBADF = 9, ENOENT = 2, ENOSPC = 28, ESPIPE = 29 };
+enum { EBADF = 9, ENOENT = 2, ENOTTY = 25, ENOSPC = 28, ESPIPE = 29 };
 static int error;
 int rattle_errno(void) { return error; }
 void rattle_set_errno(int number) { error = number; }
@@ -136,6 +136,9 @@ i64 write(int file, const u8 *bytes, size_t count) {
     return (i64)count;
 }
 i64 __write(int file, const u8 *bytes, size_t count) { return write(file, bytes, count); }
+int isatty(int file) { error = ENOTTY; return 0; }
+/* No time passes: a run shows no progress. */
+int clock_gettime(int clock, i64 *time) { time[0] = time[1] = 0; return 0; }
 i64 lseek(int file, i64 offset, int whence) { error = ESPIPE; return -1; }
 int open(const char *name, int flags, ...) { error = ENOENT; return -1; }
 int close(int file) { error = EBADF; return -1; }

@@ -2,7 +2,7 @@
 # A program's LLVM bitcode, as rattle hands it to clang for x86-64 -> WebAssembly with a 64-bit memory: wasm.sh PROGRAM.bc PROGRAM.wasm
 #
 # The module's target is rewritten, clang compiles it again, and host.c takes the place of the C library. The kit does not vouch for this way.
-# A call of a function that host.c lacks is a warning here, and traps when it is made. A program that is newer than all of these is kept.
+# A program that calls a function which host.c lacks is not linked. A program that is newer than all of these is kept.
 set -euo pipefail
 here=$(cd "$(dirname "$0")" && pwd)
 clang=$(dirname "$(rt doc)")/toolchain/bin/clang
@@ -25,5 +25,5 @@ grep -q '^define i32 @page_main()' "$work/wasm.ll" || { echo "$bitcode has no ma
 "$clang" "${target[@]}" -O2 -Wall -ffreestanding -nostdlib -c "$here/host.c" -o "$work/host.o"
 exports=()
 for name in page_main page_take page_argument page_input page_output page_output_size page_output_most; do exports+=("--export=$name"); done
-"$work/wasm-ld" -mwasm64 --no-entry --warn-unresolved-symbols --stack-first -z stack-size=4194304 --gc-sections --strip-all "${exports[@]}" \
+"$work/wasm-ld" -mwasm64 --no-entry --stack-first -z stack-size=4194304 --gc-sections --strip-all "${exports[@]}" \
     -o "$program" "$work/program.o" "$work/host.o"
