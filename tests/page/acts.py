@@ -205,8 +205,8 @@ def links(tab, tries, folder):
     open_file(tab, ROOT / "examples/first.omf")
     tab.value("document.getElementById('tree').focus(); page.tree.choose(3); 0")
     tab.press("ArrowRight")
-    tab.press("ArrowDown")
-    tab.press("ArrowDown")
+    for _ in ("type", "checksum", "segment"):
+        tab.press("ArrowDown")
     marks = "[...document.querySelectorAll('#hex .marked')].map(it => it.innerText).join(' ')"
     tries.see("the segment index of the LEDATA", tab.value(marks), "01")
     tab.value("document.querySelector('#hex [data-at=\"36\"]').click()")

@@ -59,7 +59,7 @@ def wrong_words(text, own):
 
 
 def no_wrong_words(tab, tries, name, data):
-    own = f"{data.decode('latin-1')}\n{name}"
+    own = f"{data.decode('latin-1')}\n{name}\n{printed('omf_dump', [], data).decode('latin-1')}"
     for what, script in (("page", SHOWN), ("tree", TREE)):
         text = tab.value(script)
         for quoted in filter(WRONG.search, tab.value(QUOTED)):
