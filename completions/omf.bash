@@ -77,13 +77,18 @@ _omf_link() {
         'exe --map') return;;
         'exe --stack') return;;
         'exe --order') COMPREPLY=($(compgen -W "dos input" -- "$current")); return;;
+        'exe --max-alloc') return;;
+        'exe -L') return;;
         'exe --library-path') return;;
+        'exe --no-default-library') return;;
         'exe --allow') COMPREPLY=($(compgen -W "group near twice" -- "$current")); return;;
         'com -o') return;;
         'com --map') return;;
         'com --stack') return;;
         'com --order') COMPREPLY=($(compgen -W "dos input" -- "$current")); return;;
+        'com -L') return;;
         'com --library-path') return;;
+        'com --no-default-library') return;;
         'com --allow') COMPREPLY=($(compgen -W "group near twice" -- "$current")); return;;
         'image --allow') COMPREPLY=($(compgen -W "overlap align group frame near twice" -- "$current")); return;;
         'image -t') return;;
@@ -110,8 +115,8 @@ _omf_link() {
     esac
     [[ $current == -* ]] || return
     case "$task" in
-        'exe') words="-o --map --stack --order --library-path --no-default-libraries --allow --ignore-case";;
-        'com') words="-o --map --stack --order --library-path --no-default-libraries --allow --ignore-case";;
+        'exe') words="-o --map --stack --order --max-alloc -L --library-path --no-default-libraries --no-default-library --allow --ignore-case";;
+        'com') words="-o --map --stack --order -L --library-path --no-default-libraries --no-default-library --allow --ignore-case";;
         'image') words="--allow --ignore-case -t -o";;
         'map') words="--ignore-case -t -o";;
         'bin') words="--base --size --fill --allow --ignore-case -t -o";;

@@ -114,6 +114,7 @@ def stages():
     yield Stage("outputs", ["tests/devices/outputs.py"], "OMF_LIB OMF_LINK", "", 600, r"(\d+) runs")
     yield Stage("results", ["tests/devices/results.py"], " ".join(PROGRAMS), "", 600, r"^(\d+) results refused")
     yield Stage("mistakes", ["tests/mistakes.py"], "OMF_DUMP OMF_FIND OMF_LIB OMF_LINK OMF_PLACE", "", 600, r"^(\d+) mistakes told")
+    yield Stage("searches", ["tests/searches.py"], "OMF_LINK", "", 600, r"^(\d+) searches")
     yield Stage("sandbox", ["tests/devices/sandbox.py"], " ".join(PROGRAMS), "bwrap", 600, r"^(\d+) runs in a sandbox")
     yield Stage("executed", ["tests/executed.py", "--count", "300", "--dosbox"], "OMF_LINK OMF_LIB", "nasm python3-unicorn", 1800, r"^(\d+) programs")
     yield Stage("names", ["tests/names.py"], "OMF_DUMP", "nasm", 600, r"^(\d+) lists")

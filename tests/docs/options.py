@@ -33,18 +33,18 @@ def texts():
 
 def meaning(text, option):
     """What a usage says of an option, up to its first semicolon or full clause, without the tasks that have it."""
-    line = re.search(rf"^  {re.escape(option)}(?: [^ \n]+)*?(?:  +|, --)(.*(?:\n {{8,}}.*)*)", text, re.M)
+    line = re.search(rf"^  (?:-\S+ \S+, )?{re.escape(option)}(?: [^ \n]+)*?(?:\s{{2,}}|, --)(.*(?:\n {{8,}}.*)*)", text, re.M)
     if not line:
         return ""
     words = re.sub(r"\s+", " ", line[1]).strip()
-    words = re.sub(r"^--\S+ \S+ ", "", words)
+    words = re.sub(r"^(?:--)?\S+ [A-Z|0-9]+ (?=[a-z])", "", words)
     return re.split(r"[;(]", re.sub(r"^(?:[a-z]+(?:, | or )?)+: ", "", words))[0].strip().rstrip(".")
 
 
 def options_of(text, line):
     """The options of one line of a usage: each with the word after it, if it takes one, and its meaning."""
     found = []
-    for option, word in re.findall(r"(--?[a-z][a-z-]*)(?: ([A-Z]+|[a-z0-9]+(?:\|[a-z0-9]+)+))?", line):
+    for option, word in re.findall(r"(--?[A-Za-z][a-z-]*)(?: ([A-Z]+|[a-z0-9]+(?:\|[a-z0-9]+)+))?", line):
         found.append((option, word, meaning(text, option)))
     return found
 

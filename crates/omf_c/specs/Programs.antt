@@ -41,6 +41,7 @@ pub record AreOptionsOf (row : ProgramRow) (o : ExeOptions) : Type 0 where
   pub map : is_some o.map ≡ false
   pub ignore_case : o.ignore_case ≡ row.ignore_case
   pub stack : o.stack ≡ stack_of row.stack
+  pub most : is_some o.max_alloc ≡ false
   pub order : o.order ≡ order_of row.order
   pub twice : o.allows_twice ≡ row.allow_twice
   pub long : o.allows_long ≡ row.allow_group

@@ -342,7 +342,7 @@ pub struct About {
     /// The same in color, as a terminal shows it.
     pub colored_name: &'static str,
     /// How it is called, a line or more for each way, as `usage: omf-x task [--option VALUE] FILE ..`: what is in brackets may be left out, names in
-    /// capitals are for values (ADDRESS, SIZE, SELECTOR, BYTE are hexadecimal; N, BYTES decimal), and an option with `..` may be given several times.
+    /// capitals are for values (ADDRESS, SIZE, SELECTOR, BYTE are hexadecimal; N, BYTES, PARAGRAPHS decimal), and an option with `..` may be given several times.
     pub usage: &'static str,
     /// What its tasks and its options do.
     pub details: &'static str,

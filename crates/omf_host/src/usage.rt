@@ -153,6 +153,10 @@ pub(crate) fn is_allowed(word: &str, value: &str) -> bool {
             Some(bytes) => bytes != 0 && bytes < 65_535,
             None => false,
         },
+        "PARAGRAPHS" => match amount(value.as_bytes()) {
+            Some(paragraphs) => paragraphs <= 65_535,
+            None => false,
+        },
         _ if word.contains('|') => is_one_of(word, value),
         _ => !value.is_empty(),
     }
@@ -167,6 +171,7 @@ pub(crate) fn what_is_allowed(word: &str) -> &'static str {
         "BYTE" => "no hexadecimal number of at most 2 digits",
         "N" => "no decimal number",
         "BYTES" => "no number from 1 to 65534",
+        "PARAGRAPHS" => "no number from 0 to 65535",
         _ if word.contains('|') => "none of ",
         _ => "no name",
     }

@@ -7,11 +7,13 @@ pub(crate) const ABOUT: About = About {
     name: "omf-link",
     colored_name: "\x1B[1;36momf-link\x1B[0m",
     usage: "usage: omf-link exe -o FILE [--map FILE] [--stack BYTES] [--order dos|input]
-           [--library-path DIR ..] [--no-default-libraries]
+           [--max-alloc PARAGRAPHS] [-L DIR ..] [--library-path DIR ..]
+           [--no-default-libraries] [--no-default-library NAME ..]
            [--allow group|near|twice ..] [--ignore-case] FILE ..
        omf-link com -o FILE [--map FILE] [--stack BYTES] [--order dos|input]
-           [--library-path DIR ..] [--no-default-libraries]
-           [--allow group|near|twice ..] [--ignore-case] FILE ..
+           [-L DIR ..] [--library-path DIR ..] [--no-default-libraries]
+           [--no-default-library NAME ..] [--allow group|near|twice ..]
+           [--ignore-case] FILE ..
        omf-link image [--allow overlap|align|group|frame|near|twice ..]
            [--ignore-case] [-t TEXT] [-o FILE] [FILE ..]
        omf-link map [--ignore-case] [-t TEXT] [-o FILE] [FILE ..]
@@ -43,10 +45,17 @@ pub(crate) const ABOUT: About = About {
   -t TEXT                  the text with the addresses
   --map FILE               exe, com: the map of the program
   --stack BYTES            exe, com: a stack of BYTES more bytes: decimal, or 4K
+  --max-alloc PARAGRAPHS   exe: the paragraphs of 16 bytes after the image that
+                           DOS is asked for at most (LINK's /CPARMAXALLOC)
   --order dos|input        exe, com: segments in the order of DOS linkers
                            (LINK's /DOSSEG), or as they come
-  --library-path DIR       exe, com: a folder for libraries that modules ask for
+  -L DIR, --library-path DIR
+                           exe, com: a folder for files, and for libraries that
+                           modules ask for; the folders of the variable LIB come
+                           after it
   --no-default-libraries   exe, com: without the libraries that modules ask for
+  --no-default-library NAME
+                           exe, com: without the library of this name
   --allow KIND             a warning in place of a fault of this kind, for exe
                            and com: group (more than 64 KB), near (a near call
                            or jump into another frame), twice (a name that two

@@ -3,7 +3,8 @@
 ghost use Rattle.std.specs.Prelude.{◌≡◌, IfSome, Some, is_some, option_map, true};
 
 use crate::about::ABOUT;
-use crate::libraries::Sources;
+use crate::folders::Folders;
+use crate::libraries::{Search, Sources};
 use omf_frame::Sink;
 use omf_host::{OutputFile, RunFiles, Status, Streams, misused_by, refuse_clash, warn};
 use omf_linker::asked::{Asked, sorted};
@@ -120,13 +121,19 @@ fn with_options<K: Sink, E: Sink>(
     output: Output<'_>,
     streams: &mut Streams<K, E>,
 ) -> Result<Status, AllocError> {
-    if let Some(status) = refuse_outputs(rt, &asked.files, output, streams)? {
+    let folders = Folders::of(rt, options)?;
+    let files = folders.files(rt, &asked.files)?;
+    if let Some(status) = refuse_outputs(rt, &files, output, streams)? {
         return Ok(status);
     }
-    let Some(mut sources) = Sources::read(rt, asked.files.as_slice(), streams)? else {
+    let Some(mut sources) = Sources::read(rt, files.as_slice(), streams)? else {
         return Ok(Status::Failed);
     };
-    let program = sources.joined(rt, options)?;
+    let search = Search {
+        options,
+        folders: &folders,
+    };
+    let program = sources.joined(rt, search)?;
     if let Some(status) = refuse_outputs(rt, &sources.libraries, output, streams)? {
         return Ok(status);
     }

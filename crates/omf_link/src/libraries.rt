@@ -2,6 +2,7 @@
 
 ghost use Rattle.std.specs.Prelude.{◌≡◌};
 
+use crate::folders::{Folders, without_case};
 use crate::host::read_files;
 use omf_frame::Sink;
 use omf_host::Streams;
@@ -18,9 +19,9 @@ const ROUNDS: usize = 1000;
 /// The files of a program, and the libraries that were looked for.
 #[derive(Drop)]
 pub(crate) struct Sources<'a> {
-    /// The names of the files of the arguments.
+    /// The names of the files that are linked.
     names: &'a [String],
-    /// The files whose modules are not read yet: those of the arguments, or libraries that were found.
+    /// The files whose modules are not read yet: those that are linked, or libraries that were found.
     files: Vec<InputFile>,
     /// The names of the libraries that were found.
     pub(crate) libraries: Vec<String>,
@@ -28,6 +29,13 @@ pub(crate) struct Sources<'a> {
     known: Vec<Vec<u8>>,
     /// Those that were not found.
     pub(crate) missing: Vec<Vec<u8>>,
+}
+
+/// Which libraries are looked for, and where.
+#[derive(Clone, Copy)]
+pub(crate) struct Search<'a> {
+    pub(crate) options: &'a ExeOptions<'a>,
+    pub(crate) folders: &'a Folders,
 }
 
 /// Whether a name is one of these.
@@ -41,7 +49,7 @@ fn has_name(names: &[String], name: &str) -> bool {
 }
 
 impl<'a> Sources<'a> {
-    /// The files of the arguments. None, after a line on why, if one could not be read.
+    /// The files that are linked. None, after a line on why, if one could not be read.
     pub(crate) fn read<K: Sink, E: Sink>(
         rt: &HostRuntime,
         names: &'a [String],
@@ -72,7 +80,7 @@ impl<'a> Sources<'a> {
         if self.has_file(name.as_str()) {
             return Ok(true);
         }
-        match read_library(rt, name.as_str()) {
+        match read_library(rt, name.as_str())? {
             Some(bytes) => {
                 self.libraries.push(name.clone()?)?;
                 self.files.push(InputFile::new(name, bytes))?;
@@ -82,31 +90,38 @@ impl<'a> Sources<'a> {
         }
     }
 
-    /// Looks for a library in a folder, or in the current one. Returns false if it is not there.
-    fn take_in(
+    /// Looks for a library in a folder under the first of these names that is one. Returns false if there is none.
+    fn take_first(
         &mut self,
         rt: &HostRuntime,
-        folder: Option<&str>,
+        front: &str,
         names: &[String],
     ) -> Result<bool, AllocError> {
         for name in names {
-            let path = match folder {
-                Some(folder) => format!(in rt.alloc(); "{folder}/{name}")?,
-                None => name.clone()?,
-            };
-            if self.take_file(rt, path)? {
+            if self.take_file(rt, format!(in rt.alloc(); "{front}{name}")?)? {
                 return Ok(true);
             }
         }
         Ok(false)
     }
 
-    /// Looks for a library in the current folder and in those of the options. Returns false if it is not there, or if its name leads into another
-    /// folder.
+    /// Looks for a library in a folder; where none of its names is one, without case. Returns false if it is not there.
+    fn take_in(&mut self, rt: &HostRuntime, front: &str, name: &str) -> Result<bool, AllocError> {
+        let names = library_files(rt.alloc(), name)?;
+        if self.take_first(rt, front, &names)? {
+            return Ok(true);
+        }
+        match without_case(rt, front, name)? {
+            Some(path) => self.take_file(rt, path),
+            None => Ok(false),
+        }
+    }
+
+    /// Looks for a library in folders. Returns false if it is not there, or if its name leads into another folder.
     fn take(
         &mut self,
         rt: &HostRuntime,
-        options: &ExeOptions<'_>,
+        folders: &Folders,
         name: &[u8],
     ) -> Result<bool, AllocError> {
         let Ok(name) = str::from_utf8(name) else {
@@ -115,30 +130,41 @@ impl<'a> Sources<'a> {
         if name.contains('/') {
             return Ok(false);
         }
-        let names = library_files(rt.alloc(), name)?;
-        if self.take_in(rt, None, &names)? {
-            return Ok(true);
-        }
-        for folder in &options.folders {
-            if self.take_in(rt, Some(*folder), &names)? {
+        for front in folders.fronts() {
+            if self.take_in(rt, front.as_str(), name)? {
                 return Ok(true);
             }
         }
         Ok(false)
     }
 
+    /// Looks for a library, unless the options leave it out.
+    fn look_for(
+        &mut self,
+        rt: &HostRuntime,
+        search: Search<'_>,
+        name: Vec<u8>,
+    ) -> Result<(), AllocError> {
+        let is_left_out = match str::from_utf8(&name) {
+            Ok(text) => search.options.leaves_out(text),
+            Err(_) => false,
+        };
+        if !is_left_out && !self.take(rt, search.folders, &name)? {
+            self.missing.push(name.clone()?)?;
+        }
+        self.known.push(name)?;
+        Ok(())
+    }
+
     /// Looks for libraries, and returns those that were found.
     fn take_all(
         &mut self,
         rt: &HostRuntime,
-        options: &ExeOptions<'_>,
+        search: Search<'_>,
         names: Vec<Vec<u8>>,
     ) -> Result<Vec<InputFile>, AllocError> {
         for name in names {
-            if !self.take(rt, options, &name)? {
-                self.missing.push(name.clone()?)?;
-            }
-            self.known.push(name)?;
+            self.look_for(rt, search, name)?;
         }
         Ok(self.unread(rt))
     }
@@ -154,8 +180,9 @@ impl<'a> Sources<'a> {
     pub(crate) fn joined(
         &mut self,
         rt: &HostRuntime,
-        options: &ExeOptions<'_>,
+        search: Search<'_>,
     ) -> Result<Result<ProgramFiles, Refusal>, AllocError> {
+        let options = search.options;
         let files = self.unread(rt);
         let mut program = match ProgramFiles::of(rt.alloc(), files, options.ignore_case) {
             Ok(program) => program,
@@ -166,7 +193,7 @@ impl<'a> Sources<'a> {
         }
         for _ in 0..ROUNDS {
             let names = program.sought(rt.alloc(), &self.known)?;
-            let more = self.take_all(rt, options, names)?;
+            let more = self.take_all(rt, search, names)?;
             if more.is_empty() {
                 return Ok(Ok(program));
             }

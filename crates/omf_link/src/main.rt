@@ -5,6 +5,7 @@
 
 mod about;
 mod exe;
+mod folders;
 mod host;
 mod libraries;
 mod mapping;

@@ -42,4 +42,4 @@ shown-of ms text members m a =
     m.printed ∙ ap (λ (pls : List Places). map_text (addressed (typed_modules ms) pls)) (same ∙ sym (places-kept 0 ms a.placements a.movers placed moved) ∙ ap (λ (xs : List Member). map (λ (x : Member). x.places) xs) (sym a.numbered))
 
 pub maps-show-programs : MapsShowPrograms
-maps-show-programs ms text m = record { of_exe = λ bytes has_stack p. shown-of ms text p.members m p.made; of_com = λ bytes p. shown-of ms text p.members m p.made }
+maps-show-programs ms text m = record { of_exe = λ most bytes has_stack p. shown-of ms text p.members m p.made; of_com = λ bytes p. shown-of ms text p.members m p.made }

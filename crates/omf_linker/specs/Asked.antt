@@ -19,7 +19,7 @@ is_output a = bytes_eq a (codes "-o")
 -- The options that take a value.
 abbrev pub is_valued : List ℕ → Bool
 is_valued a =
-    bytes_eq a (codes "--base") || (bytes_eq a (codes "--flat") || (bytes_eq a (codes "--size") || (bytes_eq a (codes "--fill") || (bytes_eq a (codes "--addresses") || (bytes_eq a (codes "--map") || (bytes_eq a (codes "--library-path") || (bytes_eq a (codes "--stack") || (bytes_eq a (codes "--order") || bytes_eq a (codes "--allow")))))))))
+    bytes_eq a (codes "--base") || (bytes_eq a (codes "--flat") || (bytes_eq a (codes "--size") || (bytes_eq a (codes "--fill") || (bytes_eq a (codes "--addresses") || (bytes_eq a (codes "--map") || (bytes_eq a (codes "--library-path") || (bytes_eq a (codes "-L") || (bytes_eq a (codes "--no-default-library") || (bytes_eq a (codes "--stack") || (bytes_eq a (codes "--max-alloc") || (bytes_eq a (codes "--order") || bytes_eq a (codes "--allow"))))))))))))
 
 abbrev pub takes_value : List ℕ → Bool
 takes_value a = is_text a || (is_output a || is_valued a)

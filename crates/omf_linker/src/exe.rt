@@ -24,7 +24,7 @@ mod refused;
 mod sharing;
 
 pub use asked::{Call, call_of};
-pub use candidates::library_files;
+pub use candidates::{is_named, library_files};
 pub use defaults::{missing_lines, sought};
 pub use fault::{ComProgramFault, PlacingFault, ProgramFault};
 pub(crate) use input::is_library;

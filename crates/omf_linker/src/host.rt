@@ -11,7 +11,7 @@ use omf_host::{
 };
 use std::alloc::{AllocError, Global};
 use std::fs;
-use std::io::BufReader;
+use std::io::{BufReader, ErrorKind};
 
 /// The number of bytes read from the standard input at once.
 const PIECE: usize = 65_536;
@@ -34,10 +34,15 @@ pub fn read_or_tell<K, E: Sink>(
 }
 
 /// Reads a library. None if there is no such file, if it cannot be read, or if it does not begin with F0H.
-pub fn read_library(rt: &HostRuntime, name: &str) -> Option<Vec<u8>> {
+///
+/// # Errors
+///
+/// `AllocError` if memory runs out.
+pub fn read_library(rt: &HostRuntime, name: &str) -> Result<Option<Vec<u8>>, AllocError> {
     match fs::read(rt, name) {
-        Ok(bytes) if is_library(&bytes) => Some(bytes),
-        Ok(_) | Err(_) => None,
+        Ok(bytes) if is_library(&bytes) => Ok(Some(bytes)),
+        Err(error) if error.kind() == ErrorKind::OutOfMemory => Err(AllocError),
+        Ok(_) | Err(_) => Ok(None),
     }
 }
 

@@ -78,20 +78,20 @@ made-of file k p words image cs ip ss sp =
     put : List ℕ → ℕ → ℕ → ℕ → ℕ → Loaded
     put image cs ip ss sp = record { address = 16 * k; image = image; code = ((cs + k) % 65536, ip); stack = ((ss + k) % 65536, sp) }
 
-module _ (p : Program) (h : CanBeWritten p) where
+module _ (most : ℕ) (p : Program) (h : CanBeWritten p) where
   abbrev n : ℕ
   n = length p.words
 
   abbrev front : List ℕ
-  front = as_bytes (header p ++ flat_map entry_of p.words)
+  front = as_bytes (header most p ++ flat_map entry_of p.words)
 
   abbrev zeros : List ℕ
   zeros = replicate (16 * paragraphs p - (4 * length p.words + 28)) 0
 
   length-front : length (front ++ zeros) ≡ 16 * paragraphs p
   length-front =
-      let one = length-bytes (header p ++ flat_map entry_of p.words) in
-      let two = length-append (header p) (flat_map entry_of p.words) in
+      let one = length-bytes (header most p ++ flat_map entry_of p.words) in
+      let two = length-append (header most p) (flat_map entry_of p.words) in
       let three = length-entries p.words in
       let four = length-zeros (16 * paragraphs p - (4 * length p.words + 28)) in
       let five = length-append front zeros in
@@ -106,26 +106,26 @@ module _ (p : Program) (h : CanBeWritten p) where
   pages : (size p + 511) / 512 < 65536
   pages = let f = few in let s = h.short in omega (arith, f, s)
 
-  size-is : file_size (exe p) ≡ size p
+  size-is : file_size (exe most p) ≡ size p
   size-is =
       let last : size p % 512 < 65536 = omega arith in
-      size-read (size p) (word (exe p) 2) (word (exe p) 4) (low-word (size p % 512) last) (low-word ((size p + 511) / 512) pages)
+      size-read (size p) (word (exe most p) 2) (word (exe most p) 4) (low-word (size p % 512) last) (low-word ((size p + 511) / 512) pages)
 
-  header-is : header_size (exe p) ≡ 16 * paragraphs p
+  header-is : header_size (exe most p) ≡ 16 * paragraphs p
   header-is = ap (λ x. 16 * x) (low-word (paragraphs p) in-sixteen)
 
-  image-is : take (file_size (exe p) - header_size (exe p)) (drop (header_size (exe p)) (exe p)) ≡ p.image
+  image-is : take (file_size (exe most p) - header_size (exe most p)) (drop (header_size (exe most p)) (exe most p)) ≡ p.image
   image-is =
-      ap₂ (λ s x. take (s - x) (drop x (exe p))) size-is header-is
+      ap₂ (λ s x. take (s - x) (drop x (exe most p))) size-is header-is
       ∙ ap (λ l. take (size p - 16 * paragraphs p) (drop (16 * paragraphs p) l)) (sym (append_assoc front zeros p.image))
       ∙ ap (take (size p - 16 * paragraphs p)) (drop_at (front ++ zeros) p.image (16 * paragraphs p) length-front)
       ∙ take_all (size p - 16 * paragraphs p) p.image (omega arith)
 
-  words-are : table (exe p) (word (exe p) 6) (word (exe p) 24) ≡ p.words
+  words-are : table (exe most p) (word (exe most p) 6) (word (exe most p) 24) ≡ p.words
   words-are =
-      let at : word (exe p) 24 ≡ 28 = refl in
-      ap₂ (λ c a. table (exe p) c a) (low-word n few) at
-      ∙ table-read p.words (header p) (zeros ++ p.image) 28 refl (all-low p.words (length p.image) h.short h.inside)
+      let at : word (exe most p) 24 ≡ 28 = refl in
+      ap₂ (λ c a. table (exe most p) c a) (low-word n few) at
+      ∙ table-read p.words (header most p) (zeros ++ p.image) 28 refl (all-low p.words (length p.image) h.short h.inside)
 
 pub files : FilesAreLoaded
-files p k h = made-of (exe p) k p (words-are p h) (image-is p h) (low-word p.code.0 h.code.0) (low-word p.code.1 h.code.1) (low-word p.stack.0 h.stack.0) (low-word p.stack.1 h.stack.1)
+files most p k h = made-of (exe most p) k p (words-are most p h) (image-is most p h) (low-word p.code.0 h.code.0) (low-word p.code.1 h.code.1) (low-word p.stack.0 h.stack.0) (low-word p.stack.1 h.stack.1)

@@ -185,12 +185,12 @@ module _ (ms : List Member) (plan : Plan) (h : IsPlan ms plan) where
           stack_fits = subst (λ (a : ℕ × ℕ). (a.0 < 2 ^ 16) × (a.1 < 2 ^ 16)) (sym stack_is) s;
         }
 
-    pub is-loaded : (k : ℕ) → All Holds ms → All IsBased ms → loaded (exe (linked ms)) k ≡ linked_at k ms
-    is-loaded k holds b =
+    pub is-loaded : (most k : ℕ) → All Holds ms → All IsBased ms → loaded (exe most (linked ms)) k ≡ linked_at k ms
+    is-loaded most k holds b =
         let n = data_end cs in
         let code_is : code ms ≡ far_pair plan.code = ap (λ r. ok_or (0, 0) r) h.code_is in
         let stack_is : stack_pointer ms ≡ far_pair plan.stack = ap (λ r. ok_or (0, 0) r) h.stack_is in
-        programs k n (all_moving ms) (code ms) (stack_pointer ms) (extra n (memory_end (portions ms))) is-program
+        programs most k n (all_moving ms) (code ms) (stack_pointer ms) (extra n (memory_end (portions ms))) is-program
         ∙ ap₂ (λ (x y : ℕ × ℕ). let l : Loaded = record { address = 16 * k; image = flat (16 * k) n (chunks_at k (all_moving ms)); code = x; stack = y } in l)
         (ap (λ (x : ℕ × ℕ). ((x.0 + k) % 65536, x.1)) code_is ∙ sym (code-moves k ms (far_pair plan.code) holds j.moving h.code_is))
         (ap (λ (x : ℕ × ℕ). ((x.0 + k) % 65536, x.1)) stack_is ∙ sym (stack-moves k ms (far_pair plan.stack) b h.stack_is))
@@ -318,10 +318,10 @@ module _ (ms : List Member) (plan : Plan) (h : IsPlan ms plan) (p : Program) (i 
     pub program-linked : p ≡ linked ms
     program-linked = is-linked ms plan h p i j.words_are c s e
 
-    pub program-loaded : CanBeWritten p → AreReady ms → (k : ℕ) → loaded (exe p) k ≡ linked_at k ms
-    program-loaded w r k =
-        ap (λ q. loaded (exe q) k) program-linked
-        ∙ is-loaded ms plan h p.words j w.few (subst (λ (a : ℕ × ℕ). (a.0 < 2 ^ 16) × (a.1 < 2 ^ 16)) c w.code) (subst (λ (a : ℕ × ℕ). (a.0 < 2 ^ 16) × (a.1 < 2 ^ 16)) s w.stack) k r.hold r.are_based
+    pub program-loaded : (most : ℕ) → CanBeWritten p → AreReady ms → (k : ℕ) → loaded (exe most p) k ≡ linked_at k ms
+    program-loaded most w r k =
+        ap (λ q. loaded (exe most q) k) program-linked
+        ∙ is-loaded ms plan h p.words j w.few (subst (λ (a : ℕ × ℕ). (a.0 < 2 ^ 16) × (a.1 < 2 ^ 16)) c w.code) (subst (λ (a : ℕ × ℕ). (a.0 < 2 ^ 16) × (a.1 < 2 ^ 16)) s w.stack) most k r.hold r.are_based
 
 pub plan-none : (ms : List Member) (plan : Plan) → IsPlan ms plan → later_faults ms ≡ []
 plan-none ms plan h =

@@ -43,9 +43,9 @@ writable n ms code stack extra h =
     }
 
 pub programs : ProgramsAreLoaded
-programs k n ms code stack extra h =
+programs most k n ms code stack extra h =
     let cs = all_chunks ms in
     let here : 0 + 16 * k ≡ 16 * k = omega arith in
     let moved_image = sym (images k 0 n cs h.lying h.uncovered) ∙ ap (flat (0 + 16 * k) n) (sym (chunks-move k ms h.moving)) ∙ ap (λ b. flat b n (chunks_at k ms)) here in
-    files (program n ms code stack extra) k (writable n ms code stack extra h)
+    files most (program n ms code stack extra) k (writable n ms code stack extra h)
     ∙ ap (λ (i : List ℕ). let l : Loaded = record { address = 16 * k; image = i; code = ((code.0 + k) % 65536, code.1); stack = ((stack.0 + k) % 65536, stack.1) } in l) moved_image

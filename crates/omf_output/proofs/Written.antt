@@ -13,32 +13,32 @@ use Rattle.omf_output.specs.declared.exe.file.FileFault.{FileFault}
 use Rattle.omf_output.specs.declared.exe.file.FileFault.TheVariants as fault
 use Rattle.omf_output.proofs.FileLaws.{length-bytes, length-entries}
 
-abbrev pub front_of : Program → List ℕ
-front_of p = as_bytes (header p ++ flat_map entry_of p.words)
+abbrev pub front_of : ℕ → Program → List ℕ
+front_of most p = as_bytes (header most p ++ flat_map entry_of p.words)
 
-pub front-made : (p : Program) (h words a b f : List ℕ) → a ≡ [] → h ≡ header p → b ≡ a ++ as_bytes h → words ≡ p.words → f ≡ b ++ as_bytes (flat_map entry_of words) → f ≡ front_of p
-front-made p h words a b f ea eh eb ew ef =
+pub front-made : (most : ℕ) (p : Program) (h words a b f : List ℕ) → a ≡ [] → h ≡ header most p → b ≡ a ++ as_bytes h → words ≡ p.words → f ≡ b ++ as_bytes (flat_map entry_of words) → f ≡ front_of most p
+front-made most p h words a b f ea eh eb ew ef =
     ef
     ∙ ap₂ (λ x ws. x ++ as_bytes (flat_map entry_of ws)) (eb ∙ ap₂ (λ x y. x ++ as_bytes y) ea eh) ew
-    ∙ sym (flat_map-append (little_bytes 2) (header p) (flat_map entry_of p.words))
+    ∙ sym (flat_map-append (little_bytes 2) (header most p) (flat_map entry_of p.words))
 
-length-front : (p : Program) → length (front_of p) ≡ 4 * length p.words + 28
-length-front p =
-    let one = length-bytes (header p ++ flat_map entry_of p.words) in
-    let two = length-append (header p) (flat_map entry_of p.words) in
+length-front : (most : ℕ) (p : Program) → length (front_of most p) ≡ 4 * length p.words + 28
+length-front most p =
+    let one = length-bytes (header most p ++ flat_map entry_of p.words) in
+    let two = length-append (header most p) (flat_map entry_of p.words) in
     let three = length-entries p.words in
     omega (arith, one, two, three)
 
-pub file-made : (p : Program) (n old : ℕ) (front padded image f : List ℕ) → front ≡ front_of p → n ≡ 16 * paragraphs p → old ≡ length front → padded ≡ take n front ++ replicate (n - old) 0
-    → image ≡ p.image → f ≡ padded ++ image → f ≡ exe p
-file-made p n old front padded image f ef en eo ep ei e =
-    let long : length (front_of p) ≡ 4 * length p.words + 28 = length-front p in
-    let short : length (front_of p) ≤ 16 * paragraphs p = omega (arith, long) in
-    let gap : 16 * paragraphs p - length (front_of p) ≡ 16 * paragraphs p - (4 * length p.words + 28) = ap (λ x. 16 * paragraphs p - x) long in
+pub file-made : (most : ℕ) (p : Program) (n old : ℕ) (front padded image f : List ℕ) → front ≡ front_of most p → n ≡ 16 * paragraphs p → old ≡ length front → padded ≡ take n front ++ replicate (n - old) 0
+    → image ≡ p.image → f ≡ padded ++ image → f ≡ exe most p
+file-made most p n old front padded image f ef en eo ep ei e =
+    let long : length (front_of most p) ≡ 4 * length p.words + 28 = length-front most p in
+    let short : length (front_of most p) ≤ 16 * paragraphs p = omega (arith, long) in
+    let gap : 16 * paragraphs p - length (front_of most p) ≡ 16 * paragraphs p - (4 * length p.words + 28) = ap (λ x. 16 * paragraphs p - x) long in
     e
     ∙ ap₂ (λ x i. x ++ i) (ep ∙ ap (λ o. take n front ++ replicate (n - o) 0) eo ∙ ap₂ (λ m x. take m x ++ replicate (m - length x) 0) en ef) ei
-    ∙ ap₂ (λ x g. (x ++ replicate g 0) ++ p.image) (take_all (16 * paragraphs p) (front_of p) short) gap
-    ∙ append_assoc (front_of p) (replicate (16 * paragraphs p - (4 * length p.words + 28)) 0) p.image
+    ∙ ap₂ (λ x g. (x ++ replicate g 0) ++ p.image) (take_all (16 * paragraphs p) (front_of most p) short) gap
+    ∙ append_assoc (front_of most p) (replicate (16 * paragraphs p - (4 * length p.words + 28)) 0) p.image
 
 -- ---- a program without a fault can be written
 

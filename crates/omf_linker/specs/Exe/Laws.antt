@@ -60,7 +60,7 @@ ShowsAddressesOf ms members text = text ≡ map_text (addressed (typed_modules m
 
 -- So does a map of modules for each program of them, an .EXE or a .COM file.
 pub record ShowsAddresses (ms : List Module) (text : List ℕ) : Type 0 where
-  pub of_exe : (bytes : List ℕ) (has_stack : Bool) (p : IsProgramOf ms bytes has_stack) → ShowsAddressesOf ms p.members text
+  pub of_exe : (most : ℕ) (bytes : List ℕ) (has_stack : Bool) (p : IsProgramOf most ms bytes has_stack) → ShowsAddressesOf ms p.members text
   pub of_com : (bytes : List ℕ) (p : IsComOf ms bytes) → ShowsAddressesOf ms p.members text
 
 abbrev pub MapsShowPrograms : Type 0

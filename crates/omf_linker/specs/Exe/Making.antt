@@ -1,5 +1,5 @@
 -- What is written of a DOS program, from the bytes of its files on (this profile's rule).
-use Rattle.std.specs.Prelude.{◌≡◌, ◌⊎◌, ⊤, ◌++◌, ℕ, List, Bool, true, false, not, Option, Some, None, is_some}
+use Rattle.std.specs.Prelude.{◌≡◌, ◌⊎◌, ⊤, ◌++◌, ℕ, List, Bool, true, false, not, Option, Some, None, is_some, unwrap_or}
 use Rattle.std.specs.Global.{Vec}
 use Rattle.omf_check.specs.Module.{Module, typed_modules}
 use Rattle.omf_linking.specs.File.{InputFile}
@@ -32,10 +32,14 @@ abbrev pub GiveNone : Bool → List InputFile → Type 0
 GiveNone true files = GiveNoFolded files
 GiveNone false files = GiveNoModules files
 
+-- The paragraphs after its image that an .EXE file asks DOS for at most: all that there are, unless the options have a number.
+abbrev pub maximum : ExeOptions → ℕ
+maximum options = unwrap_or options.max_alloc 0xFFFF
+
 -- The bytes of the program of modules, and whether an .EXE file lacks a stack; or why there are none.
-abbrev pub AreBytesOf : ProgramKind → List Module → List ℕ → Bool → Type 0
-AreBytesOf Exe ms bytes lacks_stack = IsProgramOf ms bytes (not lacks_stack)
-AreBytesOf Com ms bytes lacks_stack = IsComOf ms bytes × (lacks_stack ≡ false)
+abbrev pub AreBytesOf : ProgramKind → ℕ → List Module → List ℕ → Bool → Type 0
+AreBytesOf Exe most ms bytes lacks_stack = IsProgramOf most ms bytes (not lacks_stack)
+AreBytesOf Com most ms bytes lacks_stack = IsComOf ms bytes × (lacks_stack ≡ false)
 
 abbrev pub HaveNoBytes : ProgramKind → List Module → Type 0
 HaveNoBytes Exe ms = AreNoProgram ms
@@ -64,7 +68,7 @@ IsMapIf true files p (Some map) = IsListedMap files p map.items
 
 -- What is written of modules of files.
 pub record IsMadeOf (options : ExeOptions) (files : List InputFile) (p : ProgramModules) (made : MadeProgram) : Type 0 where
-  pub program : AreBytesOf options.kind p.modules made.bytes.items made.lacks_stack
+  pub program : AreBytesOf options.kind (maximum options) p.modules made.bytes.items made.lacks_stack
   pub map : IsMapIf (is_some options.map) files p made.map
   pub alone : IsAlone options.kind p.modules
   pub long : Finds (IsLongOf p.modules) (is_some made.long) × IsAllowed options.allows_long (is_some made.long)

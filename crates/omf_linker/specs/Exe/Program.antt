@@ -73,12 +73,12 @@ pub record AreMade (ms : List Module) (members : List Member) : Type 0 where
   pub moving : AreMovers (typed_modules ms) (placed_modules ms places) movers
   pub numbered : members ≡ members_from 0 ms placements movers
 
--- The bytes of the program, and whether it has a stack. What DOS loads at paragraph k, for every k, is what these modules are at their placements moved
+-- The bytes of the program, and whether it has a stack. Its header asks for a maximum of paragraphs after the image. What DOS loads at paragraph k, for every k, is what these modules are at their placements moved
 -- by k paragraphs. The modules so placed have no fault.
-pub record IsProgramOf (ms : List Module) (bytes : List ℕ) (has_stack : Bool) : Type 0 where
+pub record IsProgramOf (most : ℕ) (ms : List Module) (bytes : List ℕ) (has_stack : Bool) : Type 0 where
   pub members : List Member
   pub made : AreMade ms members
-  pub file : bytes ≡ exe (linked members)
+  pub file : bytes ≡ exe most (linked members)
   pub loads : (k : ℕ) → loaded bytes k ≡ linked_at k members
   pub stack : has_stack ≡ is_some (stack (portions members))
   pub none : exe_fault members ≡ None

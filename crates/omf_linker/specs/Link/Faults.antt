@@ -89,11 +89,13 @@ report fault.Write = record { status = 3; text = [] }
 abbrev pub usage : List ℕ
 usage = flat_map (λ line. line ++ 10 ∷ [])
     (codes "usage: omf-link exe -o FILE [--map FILE] [--stack BYTES] [--order dos|input]"
-    ∷ codes "           [--library-path DIR ..] [--no-default-libraries]"
+    ∷ codes "           [--max-alloc PARAGRAPHS] [-L DIR ..] [--library-path DIR ..]"
+    ∷ codes "           [--no-default-libraries] [--no-default-library NAME ..]"
     ∷ codes "           [--allow group|near|twice ..] [--ignore-case] FILE .."
     ∷ codes "       omf-link com -o FILE [--map FILE] [--stack BYTES] [--order dos|input]"
-    ∷ codes "           [--library-path DIR ..] [--no-default-libraries]"
-    ∷ codes "           [--allow group|near|twice ..] [--ignore-case] FILE .."
+    ∷ codes "           [-L DIR ..] [--library-path DIR ..] [--no-default-libraries]"
+    ∷ codes "           [--no-default-library NAME ..] [--allow group|near|twice ..]"
+    ∷ codes "           [--ignore-case] FILE .."
     ∷ codes "       omf-link image [--allow overlap|align|group|frame|near|twice ..]"
     ∷ codes "           [--ignore-case] [-t TEXT] [-o FILE] [FILE ..]"
     ∷ codes "       omf-link map [--ignore-case] [-t TEXT] [-o FILE] [FILE ..]"

@@ -1,7 +1,7 @@
 //! What is written of a DOS program: its bytes, its map, and lines of what is found in it.
 
 ghost use Rattle.std.specs.Prelude.{◌≡◌, IfErr, IfOk, false, is_some};
-ghost use Rattle.omf_linker.specs.Exe.Making.{AreBytesOf, HaveNoBytes, IsAllowed, IsAlone, IsLookFault, IsMadeOf, IsMapIf, IsNotMadeOf};
+ghost use Rattle.omf_linker.specs.Exe.Making.{AreBytesOf, HaveNoBytes, IsAllowed, IsAlone, IsLookFault, IsMadeOf, IsMapIf, IsNotMadeOf, maximum};
 ghost use Rattle.omf_linker.specs.declared.exe.options.ProgramKind.TheVariants.{Exe};
 ghost use Rattle.omf_linker.specs.Exe.Program.{IsBetweenOf, IsLongOf, IsNearOf};
 ghost use Rattle.omf_linker.specs.Exe.Refusing.{AreUnplaced, Finds, IsNotAllowed, IsRefusalFor};
@@ -41,14 +41,14 @@ fn bytes_of(
     alloc: Global,
     modules: &LinkedModules<'_>,
     files: &[InputFile],
-    kind: ProgramKind,
+    options: &ExeOptions<'_>,
 ) -> Result<ProgramBytes, Refusal>
-    ensures bytes { IfOk result (λ b. AreBytesOf kind modules.now.modules b.bytes.items b.lacks_stack) }
-    ensures refused { IfErr result (IsRefusalFor (HaveNoBytes kind modules.now.modules)) }
+    ensures bytes { IfOk result (λ b. AreBytesOf options.now.kind (maximum options.now) modules.now.modules b.bytes.items b.lacks_stack) }
+    ensures refused { IfErr result (IsRefusalFor (HaveNoBytes options.now.kind modules.now.modules)) }
 {
-    match kind {
+    match options.kind {
         ProgramKind::Exe => {
-            let file = modules.exe(alloc, files)?;
+            let file = modules.exe(alloc, files, options.maximum())?;
             Ok(ProgramBytes {
                 bytes: file.bytes,
                 lacks_stack: !file.has_stack,
@@ -138,7 +138,7 @@ pub(crate) fn made_of(
     ensures made { IfOk result (IsMadeOf options.now files.now modules.now) }
     ensures refused { IfErr result (IsRefusalFor (IsNotMadeOf options.now modules.now.modules)) }
 {
-    let ProgramBytes { bytes, lacks_stack } = match bytes_of(alloc, modules, files, options.kind) {
+    let ProgramBytes { bytes, lacks_stack } = match bytes_of(alloc, modules, files, options) {
         Ok(program) => program,
         Err(Refusal::Undefined(lines)) => return Err(Refusal::Undefined(lines)),
         Err(refusal) => {

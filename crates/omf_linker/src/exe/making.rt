@@ -115,12 +115,13 @@ fn file_of(
     alloc: Global,
     modules: &[Checked],
     members: &[Member<'_>],
+    most: u16,
 ) -> Result<ExeFile, ProgramFault>
     requires { AreMade modules.now members.now }
-    ensures program { IfOk result (λ e. IsProgramOf modules.now e.bytes.items e.has_stack) }
+    ensures program { IfOk result (λ e. IsProgramOf most modules.now e.bytes.items e.has_stack) }
     ensures fault { IfErr result (IsProgramFault modules.now) }
 {
-    match link_exe(alloc, members) {
+    match link_exe(alloc, members, most) {
         Ok(file) => Ok(file),
         Err(ExeFault::Memory) => Err(ProgramFault::Memory),
         Err(fault) => Err(ProgramFault::Exe(fault)),
@@ -129,7 +130,8 @@ fn file_of(
 
 /// The MZ file (.EXE) of modules: laid out from address 0 on in real mode, each external at the only public of its name, and a weak one without a public at its default. `linkage` is that of the modules.
 ///
-/// What DOS loads at paragraph k, for every k, is what the modules are at their placements moved by k paragraphs.
+/// What DOS loads at paragraph k, for every k, is what the modules are at their placements moved by k paragraphs. Its header asks DOS
+/// for at most `most` paragraphs after its image, or for what it needs, if that is more.
 ///
 /// # Errors
 ///
@@ -139,10 +141,11 @@ pub fn program_linked(
     alloc: Global,
     linkage: &Linkage,
     modules: &[Checked],
+    most: u16,
 ) -> Result<ExeFile, ProgramFault>
     requires few { length modules.now < 2 ^ 32 }
     requires linked { IsLinkage (typed_modules modules.now) linkage.now }
-    ensures program { IfOk result (λ e. IsProgramOf modules.now e.bytes.items e.has_stack) }
+    ensures program { IfOk result (λ e. IsProgramOf most modules.now e.bytes.items e.has_stack) }
     ensures fault { IfErr result (IsProgramFault modules.now) }
 {
     let settled = match place_and_settle(alloc, linkage, modules) {
@@ -152,7 +155,7 @@ pub fn program_linked(
         Err(PlacingFault::External(fault)) => return Err(ProgramFault::External(fault)),
     };
     let members = members_of(alloc, modules, &settled.placements, &settled.movers)?;
-    file_of(alloc, modules, &members)
+    file_of(alloc, modules, &members, most)
 }
 
 /// The same without a linkage.
@@ -160,13 +163,13 @@ pub fn program_linked(
 /// # Errors
 ///
 /// Those of `program_linked`.
-pub fn program_of(alloc: Global, modules: &[Checked]) -> Result<ExeFile, ProgramFault>
+pub fn program_of(alloc: Global, modules: &[Checked], most: u16) -> Result<ExeFile, ProgramFault>
     requires { length modules.now < 2 ^ 32 }
-    ensures program { IfOk result (λ e. IsProgramOf modules.now e.bytes.items e.has_stack) }
+    ensures program { IfOk result (λ e. IsProgramOf most modules.now e.bytes.items e.has_stack) }
     ensures fault { IfErr result (IsProgramFault modules.now) }
 {
     let linkage = Linkage::of(alloc, modules)?;
-    program_linked(alloc, &linkage, modules)
+    program_linked(alloc, &linkage, modules, most)
 }
 
 /// The .COM file of members.

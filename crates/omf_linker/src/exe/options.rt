@@ -1,5 +1,9 @@
 //! The options of `omf-link exe` and `omf-link com`.
 
+ghost use Rattle.std.specs.Prelude.{◌≡◌};
+ghost use Rattle.omf_linker.specs.Exe.Making.{maximum};
+
+use crate::exe::candidates::is_named;
 use omf_host::amount;
 use std::alloc::{AllocError, Global};
 
@@ -37,14 +41,18 @@ pub struct ExeOptions<'a> {
     pub kind: ProgramKind,
     /// The name of the file for the map.
     pub map: Option<&'a str>,
-    /// The folders in which libraries are looked for, in order, after the current one.
+    /// The folders in which files and libraries are looked for, in order, after the current one.
     pub folders: Vec<&'a str>,
     /// Whether the libraries that modules ask for are looked for.
     pub default_libraries: bool,
+    /// The libraries that are not looked for, though modules ask for them.
+    pub left_out: Vec<&'a str>,
     /// Whether names are compared without case.
     pub ignore_case: bool,
     /// The bytes that are added to the stack, from 1 to 65534.
     pub stack: Option<u16>,
+    /// The paragraphs after its image that an .EXE file asks for at most. None: all that there are.
+    pub max_alloc: Option<u16>,
     /// The order of the segments. None: DOS order if a module asks for it, else that of the modules.
     pub order: Option<Order>,
     /// Whether several publics may have one name, if no external has it.
@@ -60,6 +68,14 @@ fn stack_of(value: &str) -> Option<u16> {
     match u16::try_from(amount(value.as_bytes())?) {
         Ok(0 | u16::MAX) => None,
         Ok(size) => Some(size),
+        Err(_) => None,
+    }
+}
+
+/// A number of paragraphs: from 0 to 65535, decimal without a mark.
+fn paragraphs_of(value: &str) -> Option<u16> {
+    match u16::try_from(amount(value.as_bytes())?) {
+        Ok(paragraphs) => Some(paragraphs),
         Err(_) => None,
     }
 }
@@ -88,8 +104,10 @@ impl<'a> ExeOptions<'a> {
             map: None,
             folders: Vec::new(alloc),
             default_libraries: true,
+            left_out: Vec::new(alloc),
             ignore_case: false,
             stack: None,
+            max_alloc: None,
             order: None,
             allows_twice: false,
             allows_long: false,
@@ -126,18 +144,47 @@ impl<'a> ExeOptions<'a> {
     fn take(&mut self, name: &str, value: &'a str) -> Result<bool, AllocError> {
         match name {
             "--map" => Ok(put_once(&mut self.map, Some(value))),
-            "--library-path" => {
+            "--library-path" | "-L" => {
                 self.folders.push(value)?;
                 Ok(true)
             }
+            "--no-default-library" => {
+                self.left_out.push(value)?;
+                Ok(true)
+            }
             "--stack" => Ok(put_once(&mut self.stack, stack_of(value))),
+            "--max-alloc" => Ok(
+                self.kind == ProgramKind::Exe
+                    && put_once(&mut self.max_alloc, paragraphs_of(value)),
+            ),
             "--order" => Ok(put_once(&mut self.order, order_named(value))),
             "--allow" => Ok(self.allow(value)),
             _ => Ok(false),
         }
     }
 
-    /// The options that arguments give for a program of this kind. None if one is unknown, has no value or a wrong one, or is given twice, but for `--library-path`.
+    /// The paragraphs after its image that an .EXE file asks DOS for at most.
+    pub(crate) fn maximum(&self) -> u16
+        ensures { result ≡ maximum self.now }
+    {
+        self.max_alloc.unwrap_or(u16::MAX)
+    }
+
+    /// Whether a library is not looked for, though modules ask for it. The case of its name does not count, nor `.lib` at its end.
+    pub fn leaves_out(&self, library: &str) -> bool {
+        if !self.default_libraries {
+            return true;
+        }
+        for name in &self.left_out {
+            if is_named(library, *name) || is_named(*name, library) {
+                return true;
+            }
+        }
+        false
+    }
+
+    /// The options that arguments give for a program of this kind. None if one is unknown, has no value or a wrong one, or is given twice, but for
+    /// `-L`, `--library-path` and `--no-default-library`.
     ///
     /// # Errors
     ///

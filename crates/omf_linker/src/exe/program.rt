@@ -377,20 +377,20 @@ impl<'a> Model for LinkedModules<'a> {
 }
 
 impl<'a> LinkedModules<'a> {
-    /// The MZ file (.EXE) of the modules, which are those of these files.
+    /// The MZ file (.EXE) of the modules, which are those of these files. It asks DOS for at most `most` paragraphs after its image.
     ///
     /// # Errors
     ///
     /// The fault of `program_linked`, as lines.
-    pub fn exe(&self, alloc: Global, files: &[InputFile]) -> Result<ExeFile, Refusal>
-        ensures program { IfOk result (λ e. IsProgramOf self.now.modules e.bytes.items e.has_stack) }
+    pub fn exe(&self, alloc: Global, files: &[InputFile], most: u16) -> Result<ExeFile, Refusal>
+        ensures program { IfOk result (λ e. IsProgramOf most self.now.modules e.bytes.items e.has_stack) }
         ensures refused { IfErr result (IsRefusalFor (AreNoProgram self.now.modules)) }
     {
         let program = self.program;
         if program.modules.len() > u32::MAX as usize {
             return Err(memory());
         }
-        match program_linked(alloc, &self.linkage, &program.modules) {
+        match program_linked(alloc, &self.linkage, &program.modules, most) {
             Ok(file) => Ok(file),
             Err(fault) => Err(program.refused(alloc, files, fault)),
         }

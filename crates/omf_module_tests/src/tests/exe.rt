@@ -94,7 +94,7 @@ fn file_of(alloc: Global, image: &[u8], words: &[usize]) -> Result<Vec<u8>, File
     };
     program.image.extend_from_slice(image)?;
     program.words.extend_from_slice(words)?;
-    write_exe(alloc, &program)
+    write_exe(alloc, &program, 0xFFFF)
 }
 
 /// Whether a file has these bytes.
@@ -277,7 +277,7 @@ fn members_of(alloc: Global, laid: &[(Checked, (Placement, Movers))]) -> Option<
 fn exe_of(alloc: Global, lying: &[Lying]) -> Option<Result<ExeFile, ExeFault>> {
     let laid = laid(alloc, lying)?;
     let members = members_of(alloc, &laid)?;
-    Some(link_exe(alloc, &members))
+    Some(link_exe(alloc, &members, 0xFFFF))
 }
 
 /// Whether these modules have this file.

@@ -44,7 +44,7 @@ abbrev pub loaded_program : Program → ℕ → Loaded
 loaded_program p k = record { address = 16 * k; image = words_moved k p.words p.image; code = ((p.code.0 + k) % 65536, p.code.1); stack = ((p.stack.0 + k) % 65536, p.stack.1) }
 
 abbrev pub FilesAreLoaded : Type 0
-FilesAreLoaded = (p : Program) (k : ℕ) → CanBeWritten p → loaded (exe p) k ≡ loaded_program p k
+FilesAreLoaded = (most : ℕ) (p : Program) (k : ℕ) → CanBeWritten p → loaded (exe most p) k ≡ loaded_program p k
 
 -- The chunks of a module are what it lays, at its segments' addresses, where there are bytes.
 abbrev pub ChunksAreLaid : Type 0
@@ -61,8 +61,8 @@ ImagesMove = (k base n : ℕ) (cs : List Chunk) → All (LiesIn base n) cs → A
 
 -- The file of a program, loaded at any paragraph, has in memory what its modules put there at their placements moved by as many paragraphs; so do CS and SS.
 abbrev pub ProgramsAreLoaded : Type 0
-ProgramsAreLoaded = (k n : ℕ) (ms : List MovingModule) (code stack : ℕ × ℕ) (extra : ℕ) → IsProgram n ms code stack
-    → loaded (exe (program n ms code stack extra)) k
+ProgramsAreLoaded = (most k n : ℕ) (ms : List MovingModule) (code stack : ℕ × ℕ) (extra : ℕ) → IsProgram n ms code stack
+    → loaded (exe most (program n ms code stack extra)) k
     ≡ record { address = 16 * k; image = flat (16 * k) n (chunks_at k ms); code = ((code.0 + k) % 65536, code.1); stack = ((stack.0 + k) % 65536, stack.1) }
 
 -- The start of a module that moves with its start is its start, k paragraphs higher.

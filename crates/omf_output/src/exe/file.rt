@@ -85,10 +85,10 @@ fn paragraphs(program: &Program) -> usize
     (4 * program.words.len() + 43) / 16
 }
 
-/// The 14 words of the header.
-fn header(program: &Program) -> [u16; 14]
+/// The 14 words of the header. It asks DOS for at most `most` paragraphs after the image, or for what the program needs, if that is more.
+fn header(program: &Program, most: u16) -> [u16; 14]
     requires { CanBeWritten program.now }
-    ensures { result ≡ header program.now }
+    ensures { result ≡ header most program.now }
 {
     let paragraphs = paragraphs(program);
     let size = 16 * paragraphs + program.image.len();
@@ -99,7 +99,7 @@ fn header(program: &Program) -> [u16; 14]
         program.words.len() as u16,
         paragraphs as u16,
         program.extra,
-        0xFFFF,
+        program.extra.max(most),
         program.stack.selector,
         program.stack.offset,
         0,
@@ -149,22 +149,22 @@ fn put_table(file: &mut Vec<u8>, words: &[usize]) -> Result<(), AllocError>
 }
 
 /// The header and the relocation table of a program's file.
-fn front(alloc: Global, program: &Program) -> Result<Vec<u8>, AllocError>
+fn front(alloc: Global, program: &Program, most: u16) -> Result<Vec<u8>, AllocError>
     requires { CanBeWritten program.now }
-    ensures { IfOk result (λ v. v.items ≡ as_bytes (header program.now ++ flat_map entry_of program.now.words)) }
+    ensures { IfOk result (λ v. v.items ≡ as_bytes (header most program.now ++ flat_map entry_of program.now.words)) }
 {
     let mut file = Vec::with_capacity(alloc, 16 * paragraphs(program) + program.image.len())?;
-    put_words(&mut file, &header(program))?;
+    put_words(&mut file, &header(program, most))?;
     put_table(&mut file, &program.words)?;
     Ok(file)
 }
 
 /// The MZ file of a program that can be written.
-fn written(alloc: Global, program: &Program) -> Result<Vec<u8>, AllocError>
+fn written(alloc: Global, program: &Program, most: u16) -> Result<Vec<u8>, AllocError>
     requires { CanBeWritten program.now }
-    ensures { IfOk result (λ v. v.items ≡ exe program.now) }
+    ensures { IfOk result (λ v. v.items ≡ exe most program.now) }
 {
-    let mut file = front(alloc, program)?;
+    let mut file = front(alloc, program, most)?;
     file.resize(16 * paragraphs(program), 0)?;
     file.extend_from_slice(&program.image)?;
     Ok(file)
@@ -207,14 +207,14 @@ fn in_registers(selector: u16, offset: u16)
 
 /// The MZ file of a program: the header, the relocation table in the order of the program's words, zeros up to a whole paragraph, and the
 /// image. What DOS makes of it at any load paragraph is the image with the paragraph added at each word, and CS:IP and SS:SP with the
-/// paragraph added to CS and SS.
+/// paragraph added to CS and SS. The header asks for at most `most` paragraphs after the image, or for what the program needs, if that is more.
 ///
 /// # Errors
 ///
 /// `TooMany` for more than 65,535 words; else `TooLong` for an image of more than 2^20 bytes; else `Outside` with the first word that does
 /// not lie in the image; else `Memory` if memory runs out.
-pub fn write_exe(alloc: Global, program: &Program) -> Result<Vec<u8>, FileFault>
-    ensures file { IfOk result (λ v. v.items ≡ exe program.now) }
+pub fn write_exe(alloc: Global, program: &Program, most: u16) -> Result<Vec<u8>, FileFault>
+    ensures file { IfOk result (λ v. v.items ≡ exe most program.now) }
     ensures loaded { IfOk result (λ v. (k : ℕ) → loaded v.items k ≡ loaded_program program.now k) }
     ensures writable { IfOk result (λ v. CanBeWritten program.now) }
     ensures fault { IfErr result (IsFileFault program.now) }
@@ -223,6 +223,6 @@ pub fn write_exe(alloc: Global, program: &Program) -> Result<Vec<u8>, FileFault>
     in_registers(program.stack.selector, program.stack.offset);
     match file_fault(program) {
         Some(fault) => Err(fault),
-        None => Ok(written(alloc, program)?),
+        None => Ok(written(alloc, program, most)?),
     }
 }

@@ -145,14 +145,14 @@ fn program_of(alloc: Global, members: &[Member<'_>], plan: &Plan) -> Result<Prog
 }
 
 /// The MZ file of a program that lies in the first megabyte with its words.
-fn file_of(alloc: Global, program: &Program) -> Result<Vec<u8>, ExeFault>
+fn file_of(alloc: Global, program: &Program, most: u16) -> Result<Vec<u8>, ExeFault>
     requires short { length program.now.image ≤ 2 ^ 20 }
     requires inside { All (λ at. at + 2 ≤ length program.now.image) program.now.words }
-    ensures file { IfOk result (λ v. v.items ≡ exe program.now) }
+    ensures file { IfOk result (λ v. v.items ≡ exe most program.now) }
     ensures writable { IfOk result (λ v. CanBeWritten program.now) }
     ensures fault { IfErr result (IsManyOrMemory program.now) }
 {
-    match write_exe(alloc, program) {
+    match write_exe(alloc, program, most) {
         Ok(bytes) => Ok(bytes),
         Err(FileFault::TooMany) => Err(ExeFault::TooMany),
         Err(FileFault::Memory) => Err(ExeFault::Memory),
@@ -162,7 +162,7 @@ fn file_of(alloc: Global, program: &Program) -> Result<Vec<u8>, ExeFault>
 }
 
 /// The MZ file (.EXE) of linked modules. Each has a placement of a program that begins at paragraph 0, and the movers of it. The image is
-/// stored up to the last data byte; the memory after it, up to the end of the segments, is the minimum that the header asks for. CS:IP is the
+/// stored up to the last data byte; the memory after it, up to the end of the segments, is the minimum that the header asks for, and `most` paragraphs the maximum, if that is not less. CS:IP is the
 /// start of the one main module that names one; SS:SP is the end of the stack, which is all segments of the combine type STACK joined.
 ///
 /// What DOS loads at any paragraph is, byte for byte, what the modules lay at their placements moved to that paragraph, and CS:IP and SS:SP
@@ -174,8 +174,8 @@ fn file_of(alloc: Global, program: &Program) -> Result<Vec<u8>, ExeFault>
 /// records, or else `Stays` with the first part that does not move; else `NoStart`, `Starts` or `FarStart`; else `TooHigh` if the data or the segments end after 2^20; else `FarStack`; else `Overlap`
 /// with the first data record or fixup that overlaps a relocation word before it, by module, then by record; else `TooMany` for more than
 /// 65,535 relocation words. `Memory` if memory runs out, only if there is none of the faults up to `FarStack`.
-pub fn link_exe(alloc: Global, members: &[Member<'_>]) -> Result<ExeFile, ExeFault>
-    ensures file { IfOk result (λ e. e.bytes.items ≡ exe (linked members.now)) }
+pub fn link_exe(alloc: Global, members: &[Member<'_>], most: u16) -> Result<ExeFile, ExeFault>
+    ensures file { IfOk result (λ e. e.bytes.items ≡ exe most (linked members.now)) }
     ensures loaded { IfOk result (λ e. (k : ℕ) → loaded e.bytes.items k ≡ linked_at k members.now) }
     ensures stack { IfOk result (λ e. e.has_stack ≡ is_some (stack (portions members.now))) }
     ensures none { IfOk result (λ _. exe_fault members.now ≡ None) }
@@ -186,7 +186,7 @@ pub fn link_exe(alloc: Global, members: &[Member<'_>]) -> Result<ExeFile, ExeFau
     }
     let plan = plan_of(members)?;
     let program = program_of(alloc, members, &plan)?;
-    let bytes = file_of(alloc, &program)?;
+    let bytes = file_of(alloc, &program, most)?;
     let has_stack = plan.has_stack;
     Ok(ExeFile { bytes, has_stack })
 }

@@ -42,7 +42,7 @@ pub fn whole_pages()
 
 /// The file of a module that loads its own segment's base; its start is 0:0, and 1234H:0 at 1234H; and it is a program.
 pub fn file_of_a_module()
-    ensures written { exe (program 4 (at_0 ∷ []) (0, 0) (0, 256) 0) ≡ file }
+    ensures written { exe 0xFFFF (program 4 (at_0 ∷ []) (0, 0) (0, 256) 0) ≡ file }
     ensures begun { start at_0.places loads_its_segment ≡ Some (0, 0) }
     ensures moved_too { start (moved 0x1234 at_0.movers at_0.places) loads_its_segment ≡ Some (0x1234, 0) }
     ensures judged { pieces_move at_0.movers (pieces loads_its_segment) ≡ true }

@@ -13,8 +13,10 @@ struct Read {
     map: Option<&'static str>,
     folders: &'static [&'static str],
     default_libraries: bool,
+    left_out: &'static [&'static str],
     ignore_case: bool,
     stack: Option<u16>,
+    max_alloc: Option<u16>,
     order: Option<Order>,
     allows_twice: bool,
     allows_long: bool,
@@ -26,8 +28,10 @@ const NONE: Read = Read {
     map: None,
     folders: &[],
     default_libraries: true,
+    left_out: &[],
     ignore_case: false,
     stack: None,
+    max_alloc: None,
     order: None,
     allows_twice: false,
     allows_long: false,
@@ -37,7 +41,7 @@ const NONE: Read = Read {
 /// Arguments, separated by spaces, and the options that they give.
 type Case = (&'static str, Option<Read>);
 
-static CASES: [Case; 35] = [
+static CASES: [Case; 44] = [
     ("", Some(NONE)),
     (
         "--map a.map",
@@ -54,6 +58,22 @@ static CASES: [Case; 35] = [
             ..NONE
         }),
     ),
+    (
+        "-L b --library-path a",
+        Some(Read {
+            folders: &["b", "a"],
+            ..NONE
+        }),
+    ),
+    (
+        "--no-default-library b --no-default-library a",
+        Some(Read {
+            left_out: &["b", "a"],
+            ..NONE
+        }),
+    ),
+    ("-L", None),
+    ("--no-default-library", None),
     (
         "--ignore-case --map a.map",
         Some(Read {
@@ -76,6 +96,23 @@ static CASES: [Case; 35] = [
             ..NONE
         }),
     ),
+    (
+        "--max-alloc 0",
+        Some(Read {
+            max_alloc: Some(0),
+            ..NONE
+        }),
+    ),
+    (
+        "--max-alloc 65535",
+        Some(Read {
+            max_alloc: Some(65535),
+            ..NONE
+        }),
+    ),
+    ("--max-alloc 65536", None),
+    ("--max-alloc", None),
+    ("--max-alloc 1 --max-alloc 1", None),
     (
         "--order dos",
         Some(Read {
@@ -187,8 +224,10 @@ fn are_read(options: &ExeOptions<'_>, read: &Read) -> bool {
     options.map == read.map
         && options.folders.as_slice() == read.folders
         && options.default_libraries == read.default_libraries
+        && options.left_out.as_slice() == read.left_out
         && options.ignore_case == read.ignore_case
         && options.stack == read.stack
+        && options.max_alloc == read.max_alloc
         && options.order == read.order
         && options.allows_twice == read.allows_twice
         && options.allows_long == read.allows_long

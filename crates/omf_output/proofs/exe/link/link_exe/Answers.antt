@@ -56,7 +56,7 @@ returns-clause-file c =
     let p = c.in_ok-program.program in
     let e = c.in_ok-program.ensures in
     let r = ready ms c.in_ok-plan.ensures.hold (sym c.first_fault.ensures ∙ c.in_default.is) in
-    c.in_ok-bytes.ensures.file ∙ ap exe (program-linked ms c.in_ok-plan.plan c.in_ok-plan.ensures.plan p e.image (judged-of ms p.words r e.adds) e.registers.0 e.registers.1 e.extra)
+    c.in_ok-bytes.ensures.file ∙ ap (exe c.args.most) (program-linked ms c.in_ok-plan.plan c.in_ok-plan.ensures.plan p e.image (judged-of ms p.words r e.adds) e.registers.0 e.registers.1 e.extra)
 
 pub returns-clause-loaded : goal.returns-clause-loaded
 returns-clause-loaded c =
@@ -66,7 +66,7 @@ returns-clause-loaded c =
     let r = ready ms c.in_ok-plan.ensures.hold (sym c.first_fault.ensures ∙ c.in_default.is) in
     λ k.
     ap (λ l. loaded l k) c.in_ok-bytes.ensures.file
-    ∙ program-loaded ms c.in_ok-plan.plan c.in_ok-plan.ensures.plan p e.image (judged-of ms p.words r e.adds) e.registers.0 e.registers.1 e.extra c.in_ok-bytes.ensures.writable r k
+    ∙ program-loaded ms c.in_ok-plan.plan c.in_ok-plan.ensures.plan p e.image (judged-of ms p.words r e.adds) e.registers.0 e.registers.1 e.extra c.args.most c.in_ok-bytes.ensures.writable r k
 
 pub returns-clause-none : goal.returns-clause-none
 returns-clause-none c =

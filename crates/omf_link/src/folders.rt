@@ -1,0 +1,141 @@
+//! The folders in which files and libraries are looked for: the current one, those of the options, and those of the variable LIB.
+
+use omf_linker::exe::{ExeOptions, is_named};
+use std::alloc::AllocError;
+use std::env::VarError;
+use std::io::ErrorKind;
+use std::{env, fs, io};
+
+/// The endings of the names of files that may be left out, after the name as it is.
+const ENDINGS: [&str; 5] = ["", ".obj", ".lib", ".OBJ", ".LIB"];
+
+/// The folders of a search.
+#[derive(Drop)]
+pub(crate) struct Folders {
+    /// What comes before the name of a file in each folder, in the order of the search: nothing for the current folder.
+    fronts: Vec<String>,
+}
+
+/// None for a failure of the system; but out of memory is an error.
+fn unless_failed<T>(found: io::Result<T>) -> Result<Option<T>, AllocError> {
+    match found {
+        Ok(found) => Ok(Some(found)),
+        Err(error) if error.kind() == ErrorKind::OutOfMemory => Err(AllocError),
+        Err(_) => Ok(None),
+    }
+}
+
+/// The variable LIB; empty if it is not there, or is no text.
+fn library_variable(rt: &HostRuntime) -> Result<String, AllocError> {
+    match env::var(rt, "LIB") {
+        Ok(folders) => Ok(folders),
+        Err(VarError::OutOfMemory) => Err(AllocError),
+        Err(VarError::NotPresent | VarError::NotUnicode) => Ok(String::new(rt.alloc())),
+    }
+}
+
+/// Whether there is a file of this name, which is no folder.
+fn is_file(rt: &HostRuntime, path: &str) -> Result<bool, AllocError> {
+    match unless_failed(fs::metadata(rt, path))? {
+        Some(found) => Ok(!found.is_dir()),
+        None => Ok(false),
+    }
+}
+
+impl Folders {
+    /// The current folder, the folders of the options, and those of the variable LIB, which a semicolon or a colon separates.
+    pub(crate) fn of(rt: &HostRuntime, options: &ExeOptions<'_>) -> Result<Folders, AllocError> {
+        let mut fronts = Vec::new(rt.alloc());
+        fronts.push(String::new(rt.alloc()))?;
+        for folder in &options.folders {
+            fronts.push(format!(in rt.alloc(); "{folder}/")?)?;
+        }
+        let mut folders = Folders { fronts };
+        folders.add_all(rt, library_variable(rt)?.as_str())?;
+        Ok(folders)
+    }
+
+    /// Adds the folders of a list.
+    fn add_all(&mut self, rt: &HostRuntime, list: &str) -> Result<(), AllocError> {
+        for folder in list.split([';', ':']) {
+            if !folder.is_empty() {
+                self.fronts.push(format!(in rt.alloc(); "{folder}/")?)?;
+            }
+        }
+        Ok(())
+    }
+
+    /// What comes before the name of a file in each folder, in the order of the search.
+    pub(crate) fn fronts(&self) -> &[String] {
+        self.fronts.as_slice()
+    }
+
+    /// The file that an argument names: its name, with `.obj` or `.lib` after it where there is no file of the name alone, in the first folder
+    /// that has one. The argument itself, if there is none; a name with a `/` is not looked for in other folders.
+    pub(crate) fn file(&self, rt: &HostRuntime, name: &str) -> Result<String, AllocError> {
+        let mut fronts = self.fronts();
+        if name == "-" {
+            return String::from_str(rt.alloc(), name);
+        }
+        if name.contains('/') {
+            fronts = fronts.get(..1).unwrap_or(&[]);
+        }
+        for front in fronts {
+            if let Some(path) = with_ending(rt, front.as_str(), name)? {
+                return Ok(path);
+            }
+        }
+        String::from_str(rt.alloc(), name)
+    }
+
+    /// The files that arguments name.
+    pub(crate) fn files(
+        &self,
+        rt: &HostRuntime,
+        names: &[String],
+    ) -> Result<Vec<String>, AllocError> {
+        let mut files = Vec::with_capacity(rt.alloc(), names.len())?;
+        for name in names {
+            files.push(self.file(rt, name.as_str())?)?;
+        }
+        Ok(files)
+    }
+}
+
+/// The path of the file with this name in a folder, with the first ending that makes one. None if there is none.
+fn with_ending(rt: &HostRuntime, front: &str, name: &str) -> Result<Option<String>, AllocError> {
+    for ending in ENDINGS {
+        let path = format!(in rt.alloc(); "{front}{name}{ending}")?;
+        if is_file(rt, path.as_str())? {
+            return Ok(Some(path));
+        }
+    }
+    Ok(None)
+}
+
+/// The path of the only file in a folder that is named as a library where case does not count. None if there is none, or if there are several.
+pub(crate) fn without_case(
+    rt: &HostRuntime,
+    front: &str,
+    library: &str,
+) -> Result<Option<String>, AllocError> {
+    let folder = if front.is_empty() { "." } else { front };
+    let Some(entries) = unless_failed(fs::read_dir(rt, folder))? else {
+        return Ok(None);
+    };
+    let mut found = None;
+    for entry in entries {
+        let Some(entry) = unless_failed(entry)? else {
+            continue;
+        };
+        let name = entry.file_name();
+        if !is_named(name, library) {
+            continue;
+        }
+        if found.is_some() {
+            return Ok(None);
+        }
+        found = Some(format!(in rt.alloc(); "{front}{name}")?);
+    }
+    Ok(found)
+}
