@@ -7,6 +7,6 @@ use Rattle.omf_records.specs.Values.{Rec}
 use Rattle.omf_check.specs.Listed.{placed_from}
 use Rattle.omf_check.specs.WellFormed.{recs}
 
-pub listed-all : (names : Rec → List (List ℕ)) (number start : ℕ) (rs : List Raw) → flat_map (λ x. names x.1) (placed_from number start rs) ≡ flat_map names (recs rs)
+pub listed-all : {A : Type 0} (names : Rec → List A) (number start : ℕ) (rs : List Raw) → flat_map (λ x. names x.1) (placed_from number start rs) ≡ flat_map names (recs rs)
 listed-all names number start [] = refl
 listed-all names number start (r ∷ rs) = ap (λ xs. names (typed r) ++ xs) (listed-all names (number + 1) (start + length (raw_bytes r)) rs)

@@ -6,3 +6,4 @@ pub mod Search
 pub mod Walk
 pub mod Judging
 pub mod Making
+pub mod Weak

@@ -1,30 +1,56 @@
 -- Members by need: which members of the libraries a program takes. TIS OMF 1.1, appendix 2, has the dictionary, but not
 -- which of several members is taken: what follows is this profile's rule.
-use Rattle.std.specs.Prelude.{◌≡◌, ◌⊎◌, ℕ, zero, suc, ◌+◌, List, [], ◌∷◌, map, flat_map, Bool, false, ◌||◌, if◌then◌else◌, bytes_eq, Option, Some, None, option_map, slice_get, All, Contains}
+use Rattle.std.specs.Prelude.{◌≡◌, ◌⊎◌, ℕ, zero, suc, ◌+◌, List, [], ◌∷◌, map, flat_map, Bool, false, ◌||◌, ◌==◌, if◌then◌else◌, bytes_eq, Option, Some, None, option_map, slice_get, All, Contains}
+use Rattle.std.specs.List.{enumerate_from}
 use Rattle.std.specs.List.Sorted.{IsStrictlyIncreasing}
+use Rattle.omf_frame.specs.Bytes.{is_one_of}
 use Rattle.omf_frame.specs.Types.{is_local}
-use Rattle.omf_records.specs.Values.{Rec, Contents}
+use Rattle.omf_records.specs.Values.{Rec, Contents, Comment}
 use Rattle.omf_check.specs.Module.{Module, recs_of}
-use Rattle.omf_check.specs.Tables.{defined_externals}
+use Rattle.omf_placement.specs.Derive.{named_externals}
+use Rattle.omf_placement.specs.Weak.{indices, paired}
 use Rattle.omf_library.specs.LibraryMembers.{defined_publics, names_kept}
 use Rattle.omf_library.specs.declared.judged.LibraryMember.{LibraryMember}
 use Rattle.omf_library.specs.declared.judged.LibraryMember.TheVariants as member
 
--- The names of a record, unless it is local; and those of all records of a module.
-abbrev pub shared_of : (Contents → List (List ℕ)) → ℕ → Contents → List (List ℕ)
-shared_of names kind c = if is_local kind then [] else names c
+-- The names that a module defines for others: those of its PUBDEFs, not of its LPUBDEFs (TIS OMF 1.1, "PUBDEF", "LPUBDEF").
+abbrev pub public_names_of : ℕ → Contents → List (List ℕ)
+public_names_of kind c = if is_local kind then [] else defined_publics c
 
-abbrev pub shared : (Contents → List (List ℕ)) → List Rec → List (List ℕ)
-shared names m = flat_map (λ r. shared_of names r.kind r.contents) m
+abbrev pub public_names : List Rec → List (List ℕ)
+public_names m = flat_map (λ r. public_names_of r.kind r.contents) m
 
--- What counts of a module: the names that it defines for others, by its PUBDEFs; and those that it needs, by its EXTDEFs and
--- COMDEFs. Nothing else counts: no local name, no comment (a weak external is an external like any other), no dictionary.
+-- The weak externals of a module, by their indices: the first of each pair in its comments of class A8H (TIS OMF 1.1, "COMENT", WKEXT). The second, the
+-- default, is an external as any other. A comment of class A9H (LZEXT) has the same form; its externals are lazy, not weak.
+abbrev pub weak_of : List ℕ → List ℕ
+weak_of text = map (λ p. p.weak) (paired (indices text))
+
+abbrev pub weak_in : Contents → List ℕ
+weak_in (Comment byte class text) = if class == 0xA8 then weak_of text else []
+weak_in _ = []
+
+abbrev pub weak_indices : List Rec → List ℕ
+weak_indices m = flat_map (λ r. weak_in r.contents) m
+
+-- The names that a module needs: those of its externals that are neither local (LEXTDEF, LCOMDEF) nor weak. Externals are counted from 1,
+-- in the order of all EXTDEFs, LEXTDEFs, COMDEFs and LCOMDEFs. That no member is looked for a weak one is what it is for ("COMENT", WKEXT).
+abbrev pub name_unless : Bool → List ℕ → List (List ℕ)
+name_unless left_out name = if left_out then [] else name ∷ []
+
+abbrev pub needed_name : List ℕ → ℕ × (List ℕ × Bool) → List (List ℕ)
+needed_name weak e = name_unless (e.1.1 || is_one_of weak e.0) e.1.0
+
+abbrev pub needed_names : List Rec → List (List ℕ)
+needed_names m = flat_map (needed_name (weak_indices m)) (enumerate_from 1 (named_externals m))
+
+-- What counts of a module: the names that it defines for others, and those that it needs. Nothing else counts: no dictionary, and no
+-- comment but those of weak externals.
 pub record Linkage : Type 0 where
   pub publics : List (List ℕ)
   pub externals : List (List ℕ)
 
 abbrev pub linkage : Module → Linkage
-linkage m = record { publics = shared defined_publics (recs_of m.bytes); externals = shared defined_externals (recs_of m.bytes) }
+linkage m = record { publics = public_names (recs_of m.bytes); externals = needed_names (recs_of m.bytes) }
 
 -- A member that is refused defines its names, and needs none.
 abbrev pub member_linkage : LibraryMember → Linkage

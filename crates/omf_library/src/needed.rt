@@ -11,8 +11,10 @@
 mod defaults;
 pub mod laws;
 mod names;
+pub mod rows;
 mod search;
 mod walk;
+mod weak;
 
 pub use defaults::default_libraries;
 pub use walk::needed_members;

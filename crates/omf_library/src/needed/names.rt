@@ -1,25 +1,18 @@
 //! The names of a module by which modules find each other.
 
-ghost use Rattle.std.specs.Prelude.{◌≡◌, ◌++◌, OnOk, map};
+ghost use Rattle.std.specs.Prelude.{◌≡◌, ◌++◌, ◌||◌, OnOk, false, map, unwrap_or};
 ghost use Rattle.omf_check.specs.Module.{recs_of};
-ghost use Rattle.omf_check.specs.Tables.{defined_externals};
-ghost use Rattle.omf_library.specs.LibraryMembers.{defined_publics, names_kept};
-ghost use Rattle.omf_library.specs.Needed.{member_linkage, shared, shared_of};
-ghost use Rattle.omf_library.specs.Inner.Names.{names_by, names_seen};
+ghost use Rattle.omf_check.specs.Tables.{entry, locals};
+ghost use Rattle.omf_library.specs.LibraryMembers.{names_kept};
+ghost use Rattle.omf_library.specs.Needed.{linkage, member_linkage, name_unless, public_names_of};
+ghost use Rattle.omf_library.specs.Inner.Names.{names_seen};
+ghost use Rattle.omf_library.specs.Inner.Weak.{is_marked};
 
 use crate::judged::LibraryMember;
-use omf_check::{Checked, Externals, Undecoded};
-use omf_records::{Communal, Extern, Items, Public};
-use std::alloc::AllocError;
-
-/// Which names of a module.
-#[derive(Clone, Copy)]
-pub(crate) enum Side {
-    /// Those of its publics.
-    Publics,
-    /// Those of its externals.
-    Externals,
-}
+use crate::needed::weak::WeakExternals;
+use omf_check::{Checked, Undecoded};
+use omf_records::{Items, Public};
+use std::alloc::{AllocError, Global};
 
 /// Adds the names of publics.
 fn push_publics<'a>(names: &mut Vec<&'a [u8]>, items: Items<Public<'a>>) -> Result<(), AllocError>
@@ -31,32 +24,9 @@ fn push_publics<'a>(names: &mut Vec<&'a [u8]>, items: Items<Public<'a>>) -> Resu
     Ok(())
 }
 
-/// Adds the names of externals.
-fn push_externs<'a>(names: &mut Vec<&'a [u8]>, items: Items<Extern<'a>>) -> Result<(), AllocError>
-    ensures { OnOk result (names_seen names.new.items ≡ names_seen names.old.items ++ map (λ e. e.item.name) items.entry) }
-{
-    for external in items {
-        names.push(external.item.name.0)?;
-    }
-    Ok(())
-}
-
-/// Adds the names of communals.
-fn push_communals<'a>(
-    names: &mut Vec<&'a [u8]>,
-    items: Items<Communal<'a>>,
-) -> Result<(), AllocError>
-    ensures { OnOk result (names_seen names.new.items ≡ names_seen names.old.items ++ map (λ c. c.item.name) items.entry) }
-{
-    for communal in items {
-        names.push(communal.item.name.0)?;
-    }
-    Ok(())
-}
-
 /// Adds the names of a record's publics, unless they are local. No record but a PUBDEF is decoded.
 fn push_publics_of<'a>(names: &mut Vec<&'a [u8]>, rec: &Undecoded<'a>) -> Result<(), AllocError>
-    ensures { OnOk result (names_seen names.new.items ≡ names_seen names.old.items ++ shared_of defined_publics rec.now.kind rec.now.contents) }
+    ensures { OnOk result (names_seen names.new.items ≡ names_seen names.old.items ++ public_names_of rec.now.kind rec.now.contents) }
 {
     match rec.as_publics(false) {
         Some(publics) => push_publics(names, publics.items),
@@ -64,51 +34,56 @@ fn push_publics_of<'a>(names: &mut Vec<&'a [u8]>, rec: &Undecoded<'a>) -> Result
     }
 }
 
-/// Adds the names of a record's externals, communals among them, unless they are local. No record without external names is decoded.
-fn push_externals_of<'a>(names: &mut Vec<&'a [u8]>, rec: &Undecoded<'a>) -> Result<(), AllocError>
-    ensures { OnOk result (names_seen names.new.items ≡ names_seen names.old.items ++ shared_of defined_externals rec.now.kind rec.now.contents) }
-{
-    let Some(externals) = rec.as_externals() else {
-        return Ok(());
-    };
-    match &externals {
-        Externals::Externs {
-            local: false,
-            items,
-        } => push_externs(names, items.iter()),
-        Externals::Communals {
-            local: false,
-            items,
-        } => push_communals(names, items.iter()),
-        _ => Ok(()),
-    }
-}
-
-/// Adds the names of a record on this side, unless they are local. No record without such names is decoded.
-fn push_shared<'a>(
+/// Puts the names of a module's publics in the place of others, those of local ones left out.
+pub(crate) fn take_public_names<'a>(
     names: &mut Vec<&'a [u8]>,
-    side: Side,
-    rec: &Undecoded<'a>,
-) -> Result<(), AllocError>
-    ensures { OnOk result (names_seen names.new.items ≡ names_seen names.old.items ++ shared_of (names_by side) rec.now.kind rec.now.contents) }
-{
-    match side {
-        Side::Publics => push_publics_of(names, rec),
-        Side::Externals => push_externals_of(names, rec),
-    }
-}
-
-/// Puts the names of a module's publics or externals in the place of others, those of local ones left out.
-pub(crate) fn take_names<'a>(
-    names: &mut Vec<&'a [u8]>,
-    side: Side,
     module: &'a Checked,
 ) -> Result<(), AllocError>
-    ensures { OnOk result (names_seen names.new.items ≡ shared (names_by side) (recs_of «module».entry.now.bytes)) }
+    ensures { OnOk result (names_seen names.new.items ≡ (linkage «module».entry.now).publics) }
 {
     names.clear();
     for (_, rec) in module.undecoded() {
-        push_shared(names, side, &rec)?;
+        push_publics_of(names, &rec)?;
+    }
+    Ok(())
+}
+
+/// Whether an external is local or weak.
+fn is_left_out(weak: &WeakExternals, module: &Checked, i: u16) -> bool
+    ensures { result ≡ (unwrap_or (entry (locals (recs_of «module».now.bytes)) i) false || is_marked weak.now.marks.items i) }
+{
+    module.local(i).unwrap_or(false) || weak.has(i)
+}
+
+/// Adds a name, unless it is left out.
+fn push_unless<'a>(
+    names: &mut Vec<&'a [u8]>,
+    name: &'a [u8],
+    left_out: bool,
+) -> Result<(), AllocError>
+    ensures { OnOk result (names_seen names.new.items ≡ names_seen names.old.items ++ name_unless left_out name.entry.now) }
+{
+    if !left_out {
+        names.push(name)?;
+    }
+    Ok(())
+}
+
+/// Puts the names that a module needs in the place of others: those of its externals, local and weak ones left out.
+pub(crate) fn take_needed_names<'a>(
+    alloc: Global,
+    names: &mut Vec<&'a [u8]>,
+    module: &'a Checked,
+) -> Result<(), AllocError>
+    ensures { OnOk result (names_seen names.new.items ≡ (linkage «module».entry.now).externals) }
+{
+    names.clear();
+    let weak = WeakExternals::of(alloc, module)?;
+    for i in 1..module.externals() + 1 {
+        match module.external(i) {
+            Some(name) => push_unless(names, name.0, is_left_out(&weak, module, i))?,
+            None => unreachable!(),
+        }
     }
     Ok(())
 }
@@ -131,7 +106,7 @@ pub(crate) fn take_publics<'a>(
     ensures { OnOk result (names_seen names.new.items ≡ (member_linkage member.entry.now).publics) }
 {
     match member {
-        LibraryMember::Module(module) => take_names(names, Side::Publics, module),
+        LibraryMember::Module(module) => take_public_names(names, module),
         LibraryMember::Refused(refused) => {
             names.clear();
             push_kept(names, refused.publics.as_slice())
@@ -139,15 +114,16 @@ pub(crate) fn take_publics<'a>(
     }
 }
 
-/// Puts the names of a member's externals in the place of others, those of local ones left out. A member that is refused has none.
+/// Puts the names that a member needs in the place of others. A member that is refused needs none.
 pub(crate) fn take_externals<'a>(
+    alloc: Global,
     names: &mut Vec<&'a [u8]>,
     member: &'a LibraryMember,
 ) -> Result<(), AllocError>
     ensures { OnOk result (names_seen names.new.items ≡ (member_linkage member.entry.now).externals) }
 {
     match member {
-        LibraryMember::Module(module) => take_names(names, Side::Externals, module),
+        LibraryMember::Module(module) => take_needed_names(alloc, names, module),
         LibraryMember::Refused(_) => {
             names.clear();
             Ok(())

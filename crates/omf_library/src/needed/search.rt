@@ -7,7 +7,7 @@ ghost use Rattle.omf_library.specs.Inner.Search.{HasMore, IsReady, IsTable, numb
 ghost use Rattle.omf_library.specs.declared.needed.search.Definer.TheVariants.{Member};
 
 use crate::judged::LibraryMember;
-use crate::needed::names::{Side, take_names, take_publics};
+use crate::needed::names::{take_public_names, take_publics};
 use omf_check::Checked;
 use omf_names::NameKey;
 use std::alloc::{AllocError, Global};
@@ -66,7 +66,7 @@ impl<'a> Definers<'a> {
     ) -> Result<(), AllocError>
         ensures { OnOk result (HasMore self.old self.new (linkage «module».entry.now).publics definer) }
     {
-        take_names(names, Side::Publics, module)?;
+        take_public_names(names, module)?;
         self.add_names(names, definer)
     }
 

@@ -7,7 +7,7 @@ ghost use Rattle.omf_library.specs.Inner.Search.{IsReady, offered};
 ghost use Rattle.omf_library.specs.Inner.Walk.{AreTaken, IsCalled, IsGrown, IsWalk, IsWalked, numbers_from, queued};
 
 use crate::judged::LibraryMember;
-use crate::needed::names::{Side, take_externals, take_names};
+use crate::needed::names::{take_externals, take_needed_names};
 use crate::needed::search::Search;
 use omf_check::Checked;
 use std::alloc::{AllocError, Global};
@@ -75,6 +75,7 @@ impl Walk {
     /// Lets the members join that a module needs, and takes their names.
     fn join_module<'a>(
         &mut self,
+        alloc: Global,
         names: &mut Vec<&'a [u8]>,
         search: &Search<'a>,
         module: &'a Checked,
@@ -84,13 +85,14 @@ impl Walk {
         requires called { All (IsCalled (offered search.now)) (linkage «module».now).externals }
         ensures { OnOk result (IsGrown (offered search.now) self.old.joined.items self.old.queue.items self.new.joined.items self.new.queue.items (linkage «module».entry.now).externals) }
     {
-        take_names(names, Side::Externals, module)?;
+        take_needed_names(alloc, names, module)?;
         self.join_names(search, names)
     }
 
     /// Lets the members join that a member needs, and takes their names.
     fn join_member<'a>(
         &mut self,
+        alloc: Global,
         names: &mut Vec<&'a [u8]>,
         search: &Search<'a>,
         member: &'a LibraryMember,
@@ -100,7 +102,7 @@ impl Walk {
         requires called { All (IsCalled (offered search.now)) (member_linkage member.now).externals }
         ensures { OnOk result (IsGrown (offered search.now) self.old.joined.items self.old.queue.items self.new.joined.items self.new.queue.items (member_linkage member.entry.now).externals) }
     {
-        take_externals(names, member)?;
+        take_externals(alloc, names, member)?;
         self.join_names(search, names)
     }
 
@@ -113,7 +115,7 @@ impl Walk {
         let mut names = Vec::new(alloc);
         let mut walk = Walk::new(alloc, search.members.len())?;
         for module in search.modules {
-            walk.join_module(&mut names, search, module)?;
+            walk.join_module(alloc, &mut names, search, module)?;
         }
         Ok(walk)
     }
@@ -129,7 +131,7 @@ impl Walk {
         let mut at = 0;
         while at < self.queue.len() {
             let number = self.queue[at];
-            self.join_member(&mut names, search, &search.members[number])?;
+            self.join_member(alloc, &mut names, search, &search.members[number])?;
             at += 1;
         }
         Ok(())
@@ -168,8 +170,9 @@ fn by_walk(
 ///
 /// `members` are those of all libraries, in the order in which the libraries are searched. The first member that defines
 /// an external of a given module joins, unless a given module defines it; so do the members that its externals need, and
-/// so on. No other member does. A name is defined by a PUBDEF, and needed by an EXTDEF or a COMDEF; local names,
-/// dictionaries and comments do not count. A member that is refused has its names, and needs none.
+/// so on. No other member does. A name is defined by a PUBDEF, and needed by an EXTDEF or a COMDEF, unless a comment of class
+/// A8H (WKEXT) has this external as weak. Local names, dictionaries and other comments do not count. A member that is
+/// refused has its names, and needs none.
 ///
 /// # Errors
 ///

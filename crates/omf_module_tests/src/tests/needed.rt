@@ -1,6 +1,6 @@
 //! Which members a program takes, worked out by hand. A module is given by a text: a capital begins records of a kind, and each small letter or
 //! digit after it is the name in one of them. P is a PUBDEF, Q an LPUBDEF, X an EXTDEF, Y a LEXTDEF, C a COMDEF; L is a comment with the name of
-//! a library, N another comment.
+//! a library, N another comment. After W comes the index of a weak external, after Z that of a lazy one; the default is the external 2.
 
 use super::verdicts::ANY;
 use omf_check::Checked;
@@ -19,6 +19,8 @@ fn around(kind: u8) -> (&'static [u8], &'static [u8]) {
         b'Y' => (b"\xB4\x04\0\x01", b"\0\0"),
         b'C' => (b"\xB0\x06\0\x01", b"\0\x62\x01\0"),
         b'L' => (b"\x88\x04\0\0\x9F", b"\0"),
+        b'W' => (b"\x88\x05\0\0\xA8", b"\x02\0"),
+        b'Z' => (b"\x88\x05\0\0\xA9", b"\x02\0"),
         _ => (b"\x88\x04\0\0\0", b"\0"),
     }
 }
@@ -68,7 +70,7 @@ fn modules_of(alloc: Global, texts: &str) -> Option<Vec<Checked>> {
 /// Modules, members, and the numbers of the members that the modules take.
 type Taken = (&'static str, &'static str, &'static [usize]);
 
-static TAKEN: [Taken; 13] = [
+static TAKEN: [Taken; 20] = [
     // A chain; a member that nobody needs; a member that is found after the one that needs it, and before it.
     ("Xa", "PaXb;Pc;Pb", &[0, 2]),
     ("Xb", "PaXb;Pc;Pb", &[2]),
@@ -85,6 +87,15 @@ static TAKEN: [Taken; 13] = [
     ("Ya", "Qa", &[]),
     ("Xa", "Qa;Pa", &[1]),
     ("C1", "C1;P1", &[1]),
+    // A weak external is looked for by no one; its default is, and a lazy one.
+    ("XabW\x01", "Pa;Pb", &[1]),
+    ("CaXbW\x01", "Pa;Pb", &[1]),
+    ("XabZ\x01", "Pa;Pb", &[0, 1]),
+    // It counts in its own module alone, given or member; local externals have an index too. No external has the index 3.
+    ("XabW\x01;Xa", "Pa;Pb", &[0, 1]),
+    ("Xd", "PdXacW\x01;Pa;Pc", &[0, 2]),
+    ("YaXbcW\x02", "Pb;Pc", &[1]),
+    ("XabW\x03", "Pa;Pb", &[0, 1]),
 ];
 
 /// Modules as members of libraries.

@@ -37,6 +37,17 @@ const WEAK: &str =
 const WEAK_STAYS: &str =
     "80030001413B 96040000015400 98070028040002010100 8C070001770001640000 88050080A8010200 900A0000000000016434120000 A00800010000B80000CB00 9C0500C801560100 8A0700C1000101000000";
 
+/// A main module: `call far f` in the segment T, where f is weak and has the default d, which is at the start of T.
+const CALLS_WEAK: &str =
+    "80030001413B 96040000015400 98070028050002010100 8C070001660001640000 88050080A8010200 9008000001016400000000 A009000100009A0000000000 9C0500CC01560100 8A0700C1000101000000";
+
+/// The same where f is lazy.
+const CALLS_LAZY: &str =
+    "80030001413B 96040000015400 98070028050002010100 8C070001660001640000 88050080A9010200 9008000001016400000000 A009000100009A0000000000 9C0500CC01560100 8A0700C1000101000000";
+
+/// A module without bytes that has f as an external.
+const ASKS: &str = "800300014200 8C040001660000 8A02000000";
+
 /// A library of two members, which have the publics g and f, each in the segment T of one byte.
 const LIBRARY: &str =
     "F00D0000000000000000000000000000 80030001420096040000015400980700280100020101009008000001016700000000A0050001000090008A020000000080030001420096040000015400980700280100020101009008000001016600000000A00500010000CB008A0200000000F1";
@@ -80,7 +91,7 @@ const NOTHING_LIES_THERE: &str =
 const ONE_LIES_THERE: &str =
     "800300014200 96040000015500 980A0000400000040002010100 A00500010000AB00 8A02000000";
 
-static CASES: [Case; 20] = [
+static CASES: [Case; 23] = [
     // The word at 1 moves. Two paragraphs from the end of the image on, the stack ends at 1:10H.
     Case {
         files: &[("one.obj", ONE)],
@@ -97,6 +108,25 @@ static CASES: [Case; 20] = [
     // Only the second member takes part: its byte is at 5, and the selector at 3 moves.
     Case {
         files: &[("calls.obj", CALLS), ("l.lib", LIBRARY)],
+        program: "4D5A2600010001000200 0000FFFF0000000000000000 00001C000000 03000000 9A05000000CB",
+        has_stack: false,
+        line: "",
+    },
+    // No member is looked for a weak external: f is its default, at 0. A lazy one takes the second member, and so does another module that asks for f.
+    Case {
+        files: &[("calls.obj", CALLS_WEAK), ("l.lib", LIBRARY)],
+        program: "4D5A2500010001000200 0000FFFF0000000000000000 00001C000000 03000000 9A00000000",
+        has_stack: false,
+        line: "",
+    },
+    Case {
+        files: &[("calls.obj", CALLS_LAZY), ("l.lib", LIBRARY)],
+        program: "4D5A2600010001000200 0000FFFF0000000000000000 00001C000000 03000000 9A05000000CB",
+        has_stack: false,
+        line: "",
+    },
+    Case {
+        files: &[("calls.obj", CALLS_WEAK), ("asks.obj", ASKS), ("l.lib", LIBRARY)],
         program: "4D5A2600010001000200 0000FFFF0000000000000000 00001C000000 03000000 9A05000000CB",
         has_stack: false,
         line: "",

@@ -7,4 +7,4 @@ use Rattle.omf_library.proofs.needed.walk.Walk.join_module.Goals as goal
 
 pub join_names-requires-clause-called : goal.join_names-requires-clause-called
 join_names-requires-clause-called c =
-    subst (All (IsCalled (offered c.args.search.now))) (sym (ap names_seen c.deref.ensures.value ∙ c.in_ok-take_names.ensures)) c.requires.called
+    subst (All (IsCalled (offered c.args.search.now))) (sym (ap names_seen c.deref.ensures.value ∙ c.in_ok-take_needed_names.ensures)) c.requires.called

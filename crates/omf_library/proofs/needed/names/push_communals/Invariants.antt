@@ -1,8 +1,0 @@
-use Rattle.std.proofs.Common.{◌≡◌, ◌++◌}
-use Rattle.std.specs.Prelude.{map}
-use Rattle.omf_library.specs.Inner.Names.{names_seen}
-use Rattle.omf_library.proofs.needed.names.push_communals.Given as goal
-
--- the names so far and those to come are all
-abbrev pub invariant-loop-communal : goal.invariant-loop-communal
-invariant-loop-communal l = names_seen l.names.items ++ map (λ q. q.item.name) l.communal-iterator ≡ names_seen l.fn.names.items ++ map (λ q. q.item.name) l.fn.items
