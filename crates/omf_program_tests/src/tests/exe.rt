@@ -126,7 +126,11 @@ static CASES: [Case; 23] = [
         line: "",
     },
     Case {
-        files: &[("calls.obj", CALLS_WEAK), ("asks.obj", ASKS), ("l.lib", LIBRARY)],
+        files: &[
+            ("calls.obj", CALLS_WEAK),
+            ("asks.obj", ASKS),
+            ("l.lib", LIBRARY),
+        ],
         program: "4D5A2600010001000200 0000FFFF0000000000000000 00001C000000 03000000 9A05000000CB",
         has_stack: false,
         line: "",
@@ -397,4 +401,28 @@ fn a_stack_is_added(rt: HostRuntime) {
         Some(files) => assert!(rt; has_added_stack(rt.alloc(), files)),
         None => assert!(rt; false),
     }
+}
+
+/// Whether the header of the program of a case asks for this minimum and maximum of paragraphs after the image, with this limit.
+fn has_limits(alloc: Global, case: &Case, max_alloc: Option<u16>, limits: [u8; 4]) -> bool {
+    let Some(files) = files_of(alloc, case) else {
+        return false;
+    };
+    let mut options = ExeOptions::new(alloc, ProgramKind::Exe);
+    options.max_alloc = max_alloc;
+    match made_of(alloc, files, &options) {
+        Ok(made) => made.bytes.get(10..14) == Some(&limits),
+        Err(_) => false,
+    }
+}
+
+/// The image has 4 bytes, and the stack ends at 20H: the program needs two paragraphs after the image.
+#[test]
+fn memory_is_limited_but_not_below_what_is_needed(rt: HostRuntime) {
+    let case = &CASES[0];
+    assert!(rt; has_limits(rt.alloc(), case, None, [2, 0, 0xFF, 0xFF]));
+    assert!(rt; has_limits(rt.alloc(), case, Some(0x1234), [2, 0, 0x34, 0x12]));
+    assert!(rt; has_limits(rt.alloc(), case, Some(3), [2, 0, 3, 0]));
+    assert!(rt; has_limits(rt.alloc(), case, Some(1), [2, 0, 2, 0]));
+    assert!(rt; has_limits(rt.alloc(), case, Some(0), [2, 0, 2, 0]));
 }
