@@ -1,11 +1,12 @@
 -- Arguments, part by part.
 use Rattle.std.proofs.Math.Seq.{take-length}
 use Rattle.std.proofs.lemmas.List.{length-append}
-use Rattle.std.proofs.Common.{◌+◌, ◌-◌, ◌≤◌, arith, inl, inr, length, get_or, take, drop, ◌≡◌, ℕ, List, [], ◌∷◌, ◌++◌, Bool, true, false, Option, Some, None, refl, sym, ap, ◌∙◌, append_assoc, append-nil}
-use Rattle.std.specs.Prelude.{◌⊎◌, flat_map, map, option_map, option_to_list, string_bytes}
+use Rattle.std.proofs.Common.{◌+◌, ◌-◌, ◌≤◌, arith, inl, inr, length, get_or, take, drop, ◌≡◌, ℕ, List, [], ◌∷◌, ◌++◌, Bool, true, false, Option, Some, None, refl, sym, subst, ap, ap₂, ◌∙◌, append_assoc, append-nil, cond}
+use Rattle.std.specs.Prelude.{◌⊎◌, ◌||◌, bytes_eq, codes, flat_map, map, option_map, option_to_list, string_bytes}
 use Rattle.std.proofs.lemmas.Grind.{flat_map-append}
+use Rattle.std.proofs.lemmas.Slice.Eq.{bytes_eq-Decides}
 use Rattle.omf_linker.specs.declared.asked.Asked.{Asked}
-use Rattle.omf_linker.specs.Asked.{AreSorted, IsAdded, IsAddedOnce, Part, file_in, option_in, output_in, parts_of, takes_value, text_in}
+use Rattle.omf_linker.specs.Asked.{AreSorted, IsAdded, IsAddedOnce, Part, file_in, is_file, is_output, is_text, is_valued, option_in, output_in, parts_of, takes_value, text_in}
 
 -- ---- the front of the arguments
 
@@ -90,3 +91,75 @@ front_is f [] x some is = absurd (omega (arith, some))
 front_is f (y ∷ ys) x some is =
     let n : length (y ∷ ys) - 1 ≡ length ys = omega arith in
     ap (λ z. f z ∷ map f ys) (sym is) ∙ ap (λ zs. f x ∷ map f zs) (sym (ap (λ (k : ℕ). take k ys) n ∙ take-length ys))
+
+-- ---- an option that takes a value
+
+abbrev is_other : List ℕ → Bool
+is_other a = is_text a || (is_output a || is_file a)
+
+abbrev one_of : List ℕ → List (List ℕ) → Bool
+one_of a [] = false
+one_of a (l ∷ []) = bytes_eq a l
+one_of a (l ∷ k ∷ ls) = bytes_eq a l || one_of a (k ∷ ls)
+
+abbrev none_other : List (List ℕ) → Bool
+none_other [] = true
+none_other (l ∷ ls) = cond (is_other l) false (none_other ls)
+
+split : (b r : Bool) → cond b false r ≡ true → (b ≡ false) × (r ≡ true)
+split true r e = absurd cc
+split false r e = (refl, e)
+
+one_is : (a l : List ℕ) → is_other l ≡ false → bytes_eq a l ≡ true → is_other a ≡ false
+one_is a l h e = subst (λ x. is_other x ≡ false) (sym ((bytes_eq-Decides a l).0 e)) h
+
+never : (a : List ℕ) → false ≡ true → is_other a ≡ false
+never a e = absurd cc
+
+no_other : (a : List ℕ) (ls : List (List ℕ)) → none_other ls ≡ true → one_of a ls ≡ true → is_other a ≡ false
+no_other a [] h e = never a e
+no_other a (l ∷ []) h e = one_is a l (split (is_other l) true h).0 e
+no_other a (l ∷ k ∷ ls) h e = by (bytes_eq a l) refl e (no_other a (k ∷ ls) s.1)
+  where
+    s : (is_other l ≡ false) × (none_other (k ∷ ls) ≡ true)
+    s = split (is_other l) (none_other (k ∷ ls)) h
+
+    by : (b : Bool) → bytes_eq a l ≡ b → (b || one_of a (k ∷ ls)) ≡ true → (one_of a (k ∷ ls) ≡ true → is_other a ≡ false) → is_other a ≡ false
+    by true f g rest = one_is a l s.0 f
+    by false f g rest = rest g
+
+abbrev valued : List (List ℕ)
+valued = codes "--base" ∷ codes "--flat" ∷ codes "--size" ∷ codes "--fill" ∷ codes "--addresses" ∷ codes "--map" ∷ codes "--library-path" ∷ codes "-L" ∷ codes "--no-default-library" ∷ codes "--stack" ∷ codes "--max-alloc" ∷ codes "--order" ∷ codes "--allow" ∷ []
+
+valued_is_no_other : (a : List ℕ) → is_valued a ≡ true → is_other a ≡ false
+valued_is_no_other a h = no_other a valued refl h
+
+-- What such an option is: the first of its words is its name, the second its value.
+pub valued_option : (a : List ℕ) → is_valued a ≡ true → (v : List ℕ) → option_in (record { name = a; value = Some v }) ≡ a ∷ v ∷ []
+valued_option a h v = ap (λ b. cond b [] (a ∷ v ∷ [])) (valued_is_no_other a h)
+
+parts_false : (t o f : Bool) → (t || (o || f)) ≡ false → (t ≡ false) × (o ≡ false) × (f ≡ false)
+parts_false true o f e = absurd cc
+parts_false false true f e = absurd cc
+parts_false false false true e = absurd cc
+parts_false false false false e = (refl, refl, refl)
+
+pub valued_no_file : (a : List ℕ) → is_valued a ≡ true → (v : List ℕ) → file_in (record { name = a; value = Some v }) ≡ []
+valued_no_file a h v = ap (λ b. cond b (a ∷ []) []) (parts_false (is_text a) (is_output a) (is_file a) (valued_is_no_other a h)).2
+
+pub valued_no_text : (a : List ℕ) → is_valued a ≡ true → (v : List ℕ) → text_in (record { name = a; value = Some v }) ≡ []
+valued_no_text a h v = ap (λ b. cond b (v ∷ []) []) (parts_false (is_text a) (is_output a) (is_file a) (valued_is_no_other a h)).0
+
+pub valued_no_output : (a : List ℕ) → is_valued a ≡ true → (v : List ℕ) → output_in (record { name = a; value = Some v }) ≡ []
+valued_no_output a h v = ap (λ b. cond b (v ∷ []) []) (parts_false (is_text a) (is_output a) (is_file a) (valued_is_no_other a h)).1
+
+-- Two words after others, as their bytes.
+pub two_words : {A : Type 0} (f : A → List ℕ) (xs ys zs : List A) (x y : A) (a b : List ℕ) → ys ≡ xs ++ x ∷ [] → zs ≡ ys ++ y ∷ [] → f x ≡ a → f y ≡ b → map f zs ≡ map f xs ++ a ∷ b ∷ []
+two_words {A = A} f xs ys zs x y a b e g p q =
+    ap (map f) (g ∙ ap (λ l. l ++ y ∷ []) e ∙ append_assoc xs (x ∷ []) (y ∷ []))
+    ∙ spread xs
+    ∙ ap₂ (λ k l. map f xs ++ k ∷ l ∷ []) p q
+  where
+    spread : (l : List A) → map f (l ++ x ∷ y ∷ []) ≡ map f l ++ f x ∷ f y ∷ []
+    spread [] = refl
+    spread (z ∷ l) = ap (λ m. f z ∷ m) (spread l)

@@ -1,7 +1,7 @@
 //! What is written of a DOS program: its bytes, its map, and lines of what is found in it.
 
 ghost use Rattle.std.specs.Prelude.{◌≡◌, IfErr, IfOk, false, is_some};
-ghost use Rattle.omf_linker.specs.Exe.Making.{AreBytesOf, HaveNoBytes, IsAllowed, IsAlone, IsLookFault, IsMadeOf, IsMapIf, IsNotMadeOf, maximum};
+ghost use Rattle.omf_linker.specs.Exe.Making.{AreBytesOf, HaveNoBytes, IsAllowed, IsAlone, IsLookFault, IsMadeOf, IsMapIf, IsNotMadeOf};
 ghost use Rattle.omf_linker.specs.declared.exe.options.ProgramKind.TheVariants.{Exe};
 ghost use Rattle.omf_linker.specs.Exe.Program.{IsBetweenOf, IsLongOf, IsNearOf};
 ghost use Rattle.omf_linker.specs.Exe.Refusing.{AreUnplaced, Finds, IsNotAllowed, IsRefusalFor};
@@ -36,19 +36,20 @@ struct ProgramBytes {
     lacks_stack: bool,
 }
 
-/// The bytes of the program of modules.
+/// The bytes of the program of modules. An .EXE file asks DOS for at most `most` paragraphs after its image.
 fn bytes_of(
     alloc: Global,
     modules: &LinkedModules<'_>,
     files: &[InputFile],
-    options: &ExeOptions<'_>,
+    kind: ProgramKind,
+    most: u16,
 ) -> Result<ProgramBytes, Refusal>
-    ensures bytes { IfOk result (λ b. AreBytesOf options.now.kind (maximum options.now) modules.now.modules b.bytes.items b.lacks_stack) }
-    ensures refused { IfErr result (IsRefusalFor (HaveNoBytes options.now.kind modules.now.modules)) }
+    ensures bytes { IfOk result (λ b. AreBytesOf kind most modules.now.modules b.bytes.items b.lacks_stack) }
+    ensures refused { IfErr result (IsRefusalFor (HaveNoBytes kind modules.now.modules)) }
 {
-    match options.kind {
+    match kind {
         ProgramKind::Exe => {
-            let file = modules.exe(alloc, files, options.maximum())?;
+            let file = modules.exe(alloc, files, most)?;
             Ok(ProgramBytes {
                 bytes: file.bytes,
                 lacks_stack: !file.has_stack,
@@ -138,7 +139,14 @@ pub(crate) fn made_of(
     ensures made { IfOk result (IsMadeOf options.now files.now modules.now) }
     ensures refused { IfErr result (IsRefusalFor (IsNotMadeOf options.now modules.now.modules)) }
 {
-    let ProgramBytes { bytes, lacks_stack } = match bytes_of(alloc, modules, files, options) {
+    let most = options.maximum();
+    let ProgramBytes { bytes, lacks_stack } = match bytes_of(
+        alloc,
+        modules,
+        files,
+        options.kind,
+        most,
+    ) {
         Ok(program) => program,
         Err(Refusal::Undefined(lines)) => return Err(Refusal::Undefined(lines)),
         Err(refusal) => {
