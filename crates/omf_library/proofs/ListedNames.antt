@@ -1,4 +1,4 @@
--- The names of the records of a module, read one after another.
+-- What the records of a module have, such as names, read one after another.
 use Rattle.std.proofs.Common.{◌≡◌, ℕ, ◌+◌, List, [], ◌∷◌, ◌++◌, length, refl, ap}
 use Rattle.std.specs.Prelude.{flat_map}
 use Rattle.omf_frame.specs.Framing.{Raw, raw_bytes}

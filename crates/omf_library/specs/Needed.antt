@@ -84,7 +84,7 @@ definer (m ∷ ms) name = if has_name m.publics name then Some 0 else option_map
 abbrev pub member_of : Offer → List ℕ → Option ℕ
 member_of o name = if is_defined o.given name then None else definer o.members name
 
--- A module needs a member: the one that defines one of its externals.
+-- A module needs a member: the one that defines a name that it needs.
 abbrev pub Needs : Offer → Linkage → ℕ → Type 0
 Needs o m n = (name : List ℕ) × Contains m.externals name × (member_of o name ≡ Some n)
 

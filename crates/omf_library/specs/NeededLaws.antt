@@ -21,7 +21,7 @@ pub record IsFirst (o : Offer) (name : List ℕ) (n : ℕ) : Type 0 where
 abbrev pub MembersAreFirst : Type 0
 MembersAreFirst = (o : Offer) (name : List ℕ) (n : ℕ) → (member_of o name ≡ Some n) ↔ IsFirst o name n
 
--- An external of a module that takes part, which no module that takes part defines, is defined by no member at all.
+-- A name that a module which takes part needs, and no module that takes part defines, is defined by no member at all.
 abbrev pub UndefinedAreNowhere : Type 0
 UndefinedAreNowhere = (o : Offer) (numbers : List ℕ) (m : Linkage) (name : List ℕ) → AreNeeded o numbers → TakesPart o numbers m → Contains m.externals name
     → ((d : Linkage) → TakesPart o numbers d → has_name d.publics name ≡ false) → is_defined o.members name ≡ false

@@ -12,7 +12,7 @@ pub fn members_are_first()
     ensures { MembersAreFirst }
 {}
 
-/// An external that stays undefined is defined by no member at all.
+/// A needed name that stays undefined is defined by no member at all.
 pub fn undefined_are_nowhere()
     ensures { UndefinedAreNowhere }
 {}
