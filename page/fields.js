@@ -66,10 +66,25 @@ function itemPlaces(type, cursor, wide, data) {
   if (type === "LINNUM" || type === "LINSYM") return { line: cursor.take(2), offset: cursor.take(wide ? 4 : 2) };
   if (type === "ALIAS") return { alias: cursor.name(), substitute: cursor.name() };
   if (type === "TYPDEF") return leafPlaces(cursor);
+  if (type === "CEXTDEF") return { name: cursor.index(), type: cursor.index() };
+  if (type === "BAKPAT" || type === "NBKPAT") return { offset: cursor.take(wide ? 4 : 2), value: cursor.take(wide ? 4 : 2) };
   if (type === "LIDATA") return blockPlaces(cursor, wide);
   if (type === "FIXUPP") return subrecordPlaces(cursor, wide, data);
   if (type === "MODEND") return referencePlaces(cursor, wide);
   return {};
+}
+
+// The places of the fields of a COMDAT. Allocation 0 has a group and a segment.
+function comdatPlaces(cursor, wide, end) {
+  const flags = cursor.take(1), attributes = cursor.take(1), places = { flags, continued: flags, iterated: flags, local: flags, "in-code": flags };
+  Object.assign(places, { selection: attributes, allocation: attributes, align: cursor.take(1), offset: cursor.take(wide ? 4 : 2), "type-index": cursor.index() });
+  if ((cursor.bytes[attributes[0]] & 0x0F) === 0) {
+    places.group = cursor.index();
+    places.segment = cursor.index();
+    if (cursor.bytes[places.segment[0]] === 0) places.frame = cursor.take(2);
+  }
+  places.public = cursor.index();
+  return { ...places, data: [cursor.at, end - 1] };
 }
 
 // The places of a record's own fields.
@@ -101,6 +116,10 @@ function recordPlaces(type, cursor, wide, end) {
   else if (type === "LINNUM") { places.group = cursor.index(); places.segment = cursor.index(); }
   else if (type === "LINSYM") { places.flags = places.continued = cursor.take(1); places.public = cursor.index(); }
   else if (type === "VERNUM") places.version = contents;
+  else if (type === "COMDAT") Object.assign(places, comdatPlaces(cursor, wide, end));
+  else if (type === "BAKPAT") { places.segment = cursor.index(); places.location = cursor.take(1); }
+  else if (type === "NBKPAT") { places.location = cursor.take(1); places.public = cursor.index(); }
+  else if (type === "VENDEXT") { places.vendor = cursor.take(2); places.data = [cursor.at, end - 1]; }
   else if (type === "MODEND") places.flags = places.main = places["has-start"] = cursor.take(1);
   else places.data = places.length = contents;
   return places;
@@ -130,33 +149,46 @@ function shownValue(key, value, type, wide, isOfItem) {
   }
   if (type === "COMENT" || key === "flags" || key === "EN" || key === "byte" || (key === "offset" && type === "SEGDEF")) return hex(value, 2) + "H";
   if ((key === "type" || key === "checksum") && !isOfItem) return hex(value, 2) + "H";
-  if (["offset", "at", "displacement", "length"].includes(key)) return hex(value, digits) + "H";
+  if (["offset", "at", "displacement", "length", "value"].includes(key)) return hex(value, digits) + "H";
   if (["frame", "count", "size", "bits", "elements"].includes(key)) return hex(value, 4) + "H";
   return String(value);
 }
 
+// Why a record is refused, in a line.
+const refusal = dump => "refused" in dump ? `refused ${dump.refused} ${dump.reason}` : "";
+
+// The fields of a record: in the dump of the record at fault they are apart.
+const fieldsOf = dump => "refused" in dump ? dump.fields || {} : dump;
+
 // The rows below a record in the tree: {level, key, value, from, to, children}.
 function recordTree(bytes, from, to, dump, dataAt) {
-  const kind = bytes[from], type = dump.record, wide = (kind & 1) === 1, cursor = new Cursor(bytes, from + 3), rows = [];
-  if ("refused" in dump) {
-    const at = Math.min(from + dump.within, bytes.length);
-    for (const [key, value] of Object.entries(dump)) {
-      if (FRAME.has(key) && key !== "within") continue;
-      const place = key === "type" ? [from, from + 1] : key === "byte" || key === "within" ? [at, at + 1] : [from, to];
-      rows.push({ level: 2, key, value: shownValue(key, value, type, wide), from: place[0], to: place[1] });
-    }
-    return rows;
+  const rows = fieldRows(bytes, from, to, dump.record, fieldsOf(dump), dataAt);
+  return "refused" in dump ? [...refusalRows(bytes, from, to, dump), ...rows] : rows;
+}
+
+// Why it is refused. The bytes around the fault are only for a record without fields.
+function refusalRows(bytes, from, to, dump) {
+  const wide = (bytes[from] & 1) === 1, at = Math.min(from + dump.within, bytes.length), rows = [];
+  for (const [key, value] of Object.entries(dump)) {
+    if ((FRAME.has(key) && key !== "within") || key === "fields" || (key === "data" && dump.fields)) continue;
+    const place = key === "type" ? [from, from + 1] : key === "byte" || key === "within" ? [at, at + 1] : [from, to];
+    rows.push({ level: 2, key, value: shownValue(key, value, "", wide), from: place[0], to: place[1] });
   }
-  const places = recordPlaces(type, cursor, wide, to);
+  return rows;
+}
+
+// Its fields, and its items with theirs.
+function fieldRows(bytes, from, to, type, shown, dataAt) {
+  const wide = (bytes[from] & 1) === 1, cursor = new Cursor(bytes, from + 3), rows = [], places = recordPlaces(type, cursor, wide, to);
   places.type = [from, from + 1];
   places.checksum = [to - 1, to];
-  for (const [key, value] of Object.entries(dump)) {
+  for (const [key, value] of Object.entries(shown)) {
     if (FRAME.has(key)) continue;
     const [first, end] = places[key] || [from, to];
-    const cut = key === "data" && dump["left-out"] ? " .." : "";
+    const cut = key === "data" && shown["left-out"] ? " .." : "";
     rows.push({ level: 2, key, value: shownValue(key, value, type, wide) + cut, from: first, to: end });
   }
-  for (const item of dump.items || []) {
+  for (const item of shown.items || []) {
     cursor.at = from + item.within;
     const inside = itemPlaces(type, cursor, wide, dataAt), children = [];
     cursor.at = Math.min(cursor.at, to - 1);
@@ -175,13 +207,12 @@ function recordTree(bytes, from, to, dump, dataAt) {
 
 // One line for a record: its fields as in omf-dump's text, without their data.
 function recordSummary(dump, wide) {
-  if ("refused" in dump) return `refused ${dump.refused} ${dump.reason}`;
-  const words = [];
-  for (const [key, value] of Object.entries(dump)) {
+  const shown = fieldsOf(dump), words = [];
+  for (const [key, value] of Object.entries(shown)) {
     if (FRAME.has(key) || key === "type" || key === "checksum" || key === "data" || key === "left-out" || value === false) continue;
     words.push(value === true ? key : `${key} ${shownValue(key, value, dump.record, wide)}`);
   }
-  const items = dump.items || [];
+  const items = shown.items || [];
   if (items.length && dump.record !== "MODEND") words.push(count(items.length, "item"));
   return words.join("  ");
 }

@@ -24,7 +24,7 @@ class Search {
   places(record, words) {
     const { look } = this.tree, [from, to] = look.placeOf(record), dump = this.tree.dumpOf(record), found = [];
     if (`${record} ${hex(from, 8)} ${this.tree.lineOf(record)}`.toLowerCase().includes(words)) found.push(null);
-    if (!dump.items) return found;
+    if (!fieldsOf(dump).items) return found;
     for (const row of recordTree(look.bytes, from, to, dump, look.dataBefore(record))) {
       if (row.within !== undefined && row.value.toLowerCase().includes(words)) found.push(row.within);
     }

@@ -107,9 +107,8 @@ class Tree {
   // The line of a record, without its number and offset.
   lineOf(record) {
     const dump = this.dumpOf(record), [from, to] = this.look.placeOf(record);
-    if (from === to) return `end ${recordSummary(dump)}`;
-    const kind = this.look.bytes[from];
-    return `${hex(kind, 2)} ${dump.record || TYPES[kind] || ""} ${recordSummary(dump, kind & 1)}`;
+    const kind = this.look.bytes[from], words = [refusal(dump), recordSummary(dump, kind & 1)].filter(Boolean).join("  ");
+    return from === to ? `end ${words}` : `${hex(kind, 2)} ${dump.record || TYPES[kind] || ""} ${words}`;
   }
 
   // The offset in its record of the item that a row is of, or null.
@@ -168,10 +167,10 @@ class Tree {
       "aria-selected": i === this.at ? "true" : "false", "aria-expanded": isParent ? String(Boolean(it.isOpen)) : null });
     row.append(element("span", { class: "twist" }, isParent ? it.isOpen ? "▾" : "▸" : ""));
     if (it.level === 1) {
-      const kind = this.look.bytes[it.from], dump = this.dumpOf(it.record), isBad = "refused" in dump || "fault" in dump;
+      const kind = this.look.bytes[it.from], dump = this.dumpOf(it.record), why = refusal(dump);
       row.append(element("span", { class: "number" }, String(it.record)), " ", element("span", { class: "offset" }, hex(it.from, 8)), " ",
         element("span", { class: "type " + colour(kind) }, it.from < it.to ? `${hex(kind, 2)} ${dump.record || TYPES[kind] || ""}` : "end"), " ",
-        element("span", { class: isBad ? "bad" : "summary" }, recordSummary(dump, kind & 1)));
+        why ? element("span", { class: "bad" }, why) : "", why ? "  " : "", element("span", { class: "fault" in dump ? "bad" : "summary" }, recordSummary(dump, kind & 1)));
       if (dump.unjudged) row.classList.add("unjudged");
     } else row.append(element("span", { class: "name" }, it.key), " ", element("span", { class: "value" }, it.value));
     return row;

@@ -42,7 +42,7 @@ def no_doubles(pairs):
 
 
 def look_at_records(lines, bytes_, most):
-    """The records of JSON: numbered from 0, one after another in the file; those after one at fault are not judged. Returns them."""
+    """The records of JSON: numbered from 0, one after another in the file; those after one at fault are not judged, nor are its fields. Returns them."""
     found, at, is_judged = [], 0, True
     for number, line in enumerate(lines):
         one = json.loads(line, object_pairs_hook=no_doubles)
@@ -50,11 +50,14 @@ def look_at_records(lines, bytes_, most):
         promised(one["number"] == number and one["start"] == at, f"record {number}: number or start")
         promised(("unjudged" not in one) == is_judged, "a record after the one at fault")
         is_judged = is_judged and "refused" not in one
+        promised(("fields" in one) == ("refused" in one and one.get("record", "") != ""), f"record {number}: fields beside a refusal")
+        shown = one.get("fields", {}) if "refused" in one else one
+        promised("refused" not in one or not shown or shown["unjudged"] is True, f"record {number}: judged fields of a record at fault")
         size = 3 + struct.unpack_from("<H", bytes_, at + 1)[0] if len(bytes_) - at >= 3 else len(bytes_) - at
         promised("type" not in one or one["type"] == bytes_[at], f"record {number}: type")
-        deltas = deltas_of(bytes_[at + 3:at + size - 1]) if one.get("subtype") == "INCDEF" else {}
-        promised({it: one[it] for it in DELTAS if it in one} == deltas, f"record {number}: deltas {deltas}")
-        promised(all(3 <= it["within"] < size for it in one.get("items", ())), f"record {number}: within")
+        deltas = deltas_of(bytes_[at + 3:at + size - 1]) if shown.get("subtype") == "INCDEF" else {}
+        promised({it: shown[it] for it in DELTAS if it in shown} == deltas, f"record {number}: deltas {deltas}")
+        promised(all(3 <= it["within"] < size for it in shown.get("items", ())), f"record {number}: within")
         if "refused" in one and "byte" in one:
             promised(one["byte"] == bytes_[at + one["within"]], "the byte at fault")
         found.append(one)
@@ -86,7 +89,7 @@ def compare_list(listed, found):
 
 
 def compare_text(text, found):
-    """The lines of records in the text, and the records of JSON."""
+    """The lines of records in the text, and the records of JSON. A record at fault has two lines, if its fields are shown."""
     rows = re.findall(r"^(\d+) ([0-9A-F]+) (?:([0-9A-F]{2}) (\S*))?", text.decode(), re.M)
-    shown = [(str(it["number"]), f"{it['start']:08X}", f"{it['type']:02X}" if "type" in it else "", it.get("record", "")) for it in found]
+    shown = [(str(it["number"]), f"{it['start']:08X}", f"{it['type']:02X}" if "type" in it else "", it.get("record", "")) for it in found for _ in range(1 + ("fields" in it))]
     promised(rows == shown, f"text {rows[-1:]}, JSON {shown[-1:]}")

@@ -169,6 +169,11 @@ def keys(tab, tries, folder):
     tab.value("page.tree.choose(0); document.activeElement.blur(); 0")
     tab.press("n")
     tries.see("key n", tab.value(at), 3)
+    row = tab.value("document.getElementById('row' + page.tree.indexOf(3)).innerText.split(/\\s+/).join(' ')")
+    tries.see("the record at fault", 'A0 LEDATA refused 26 OutsideSegment unjudged segment 1 "T" offset 0002H length 0004H' in row, True)
+    rows = tab.value("page.tree.openRecord(3).rows.map(it => [it.key, it.value, it.from, it.to])")
+    for wanted in (["within", "4", 27, 28], ["segment", '1 "T"', 26, 27], ["offset", "0002H", 27, 29], ["data", "B8 00 00 90", 29, 33]):
+        tries.see("the record at fault: " + wanted[0], wanted in rows, True)
     row = tab.value("(() => { const i = page.tree.indexOf(4); page.tree.choose(i); return document.getElementById('row' + i).innerText; })()")
     tries.see("the record after the fault", "8A MODEND unjudged  flags 00H" in row, True)
 

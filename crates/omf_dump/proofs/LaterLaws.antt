@@ -5,7 +5,7 @@ use Rattle.std.proofs.lemmas.Bool.{leb-true}
 use Rattle.omf_frame.specs.Framing.{after_front, is_end, is_whole, record_len, stated_length}
 use Rattle.omf_frame.specs.Types.{type_of}
 use Rattle.omf_dump.specs.Inner.Later.{following}
-use Rattle.omf_dump.specs.Later.{faulty_record, front_kind, goes_on, is_listed, kept_record, later_from, later_text, lost_by, lost_with, unjudged_text}
+use Rattle.omf_dump.specs.Later.{front_kind, goes_on, is_listed, kept_record, later_from, later_text, lost_by, lost_with, unjudged_text}
 use Rattle.omf_dump.specs.Library.{after_member}
 use Rattle.omf_dump.specs.declared.format.Style.{Style}
 use Rattle.omf_dump.specs.declared.known.Known.{Known}
@@ -151,11 +151,11 @@ goes_whole number bytes e = whole_fits bytes (both_left (is_whole bytes) _ e)
 
 pub later_is : (f : Style) (before : List Rec) (number start : ℕ) (bytes : List ℕ) → goes_on number bytes ≡ true
     → later_text f before number start bytes
-    ≡ later_from f (before ++ faulty_record bytes ∷ []) (lost_with bytes) (number + 1) (start + (3 + stated_length bytes)) 0 (drop (3 + stated_length bytes) bytes)
+    ≡ later_from f before (lost_with bytes) (number + 1) (start + (3 + stated_length bytes)) 0 (drop (3 + stated_length bytes) bytes)
 later_is f before number start bytes e =
     let fits = goes_whole number bytes e in
     by_true (goes_on number bytes) _ [] e
-    ∙ ap₂ (λ (n : ℕ) (bs : List ℕ). later_from f (before ++ faulty_record bytes ∷ []) (lost_with bytes) (number + 1) (start + n) 0 bs) (record_len_is bytes fits) (sym (after_is bytes fits))
+    ∙ ap₂ (λ (n : ℕ) (bs : List ℕ). later_from f before (lost_with bytes) (number + 1) (start + n) 0 bs) (record_len_is bytes fits) (sym (after_is bytes fits))
 
 pub none_follows : (f : Style) (before : List Rec) (number start : ℕ) (bytes : List ℕ) → goes_on number bytes ≡ false → later_text f before number start bytes ≡ []
 none_follows f before number start bytes e = by_false (goes_on number bytes) _ [] e

@@ -4,6 +4,8 @@ use Rattle.std.specs.Prelude.{◌&&◌, is_ok, None, OnOk}
 use Rattle.omf_frame.specs.Framing.{stated_length}
 use Rattle.omf_frame.specs.Types.{type_of}
 use Rattle.omf_frame.specs.Fault.{Fault}
+use Rattle.omf_frame.specs.declared.fault.Place.{Place}
+use Rattle.omf_frame.specs.declared.fault.Reason.{Reason}
 use Rattle.omf_records.specs.Inner.Reading.{contents_or, read_body}
 use Rattle.omf_records.specs.Values.{Carried, Contents, Rec}
 use Rattle.omf_check.specs.Tables.{subrecords}
@@ -12,8 +14,9 @@ use Rattle.omf_dump.specs.Known.{fixed_data, tables}
 use Rattle.omf_dump.specs.Inner.Later.{unjudged_shown}
 use Rattle.omf_dump.specs.Inner.Showing.{Keeps, shown_by}
 use Rattle.omf_dump.specs.Inner.Walking.{Holds}
-use Rattle.omf_dump.specs.Later.{body_of, faulty_record, front_kind, goes_on, has_data_if, is_plain, is_read, kept_contents, kept_record, lose_if, later_from, later_text, lost_after, lost_with, stand_in, unjudged_contents, unknown_data}
+use Rattle.omf_dump.specs.Later.{body_of, front_kind, goes_on, has_data_if, is_plain, is_read, kept_contents, kept_record, lose_if, later_from, later_text, lost_after, lost_with, stand_in, unjudged_contents, unknown_data}
 use Rattle.omf_dump.specs.Raw.{raw_shown}
+use Rattle.omf_dump.specs.Refused.{fault_record, fault_text, faulty_record, has_fields, refused_record, unread_record}
 use Rattle.omf_dump.specs.Render.{shown_text}
 use Rattle.omf_dump.specs.declared.format.Style.{Style}
 use Rattle.omf_dump.specs.declared.known.Known.{Known}
@@ -36,6 +39,26 @@ head_written r old a b c new place kind sum flag x y z h =
   where
     regroup : (o p k s f : List ℕ) → (((o ++ p) ++ k) ++ s) ++ f ≡ o ++ ((p ++ k) ++ (s ++ f))
     regroup o p k s f = simp append_assoc
+
+-- three texts
+pub three_written : {A E : Type 0} (r : Result A E) (old a b new head body end : List ℕ) → a ≡ old ++ head → b ≡ a ++ body → OnOk r (new ≡ b ++ end) → OnOk r (new ≡ old ++ (head ++ (body ++ end)))
+three_written r old a b new head body end x y h =
+    on_ok r (λ (q : new ≡ b ++ end). q ∙ ap (λ (t : List ℕ). t ++ end) (y ∙ ap (λ (t : List ℕ). t ++ body) x) ∙ regroup old head body end) h
+  where
+    regroup : (o p q s : List ℕ) → ((o ++ p) ++ q) ++ s ≡ o ++ (p ++ (q ++ s))
+    regroup o p q s = simp append_assoc
+
+-- four texts
+pub four_written : {A E : Type 0} (r : Result A E) (old a b c new head sum body end : List ℕ) → a ≡ old ++ head → b ≡ a ++ sum → c ≡ b ++ body → OnOk r (new ≡ c ++ end) → OnOk r (new ≡ old ++ (head ++ (sum ++ (body ++ end))))
+four_written r old a b c new head sum body end x y z h =
+    on_ok r (λ (q : new ≡ c ++ end). q ∙ ap (λ (t : List ℕ). t ++ end) (z ∙ ap (λ (t : List ℕ). t ++ body) (y ∙ ap (λ (t : List ℕ). t ++ sum) x)) ∙ regroup old head sum body end) h
+  where
+    regroup : (o p q r s : List ℕ) → (((o ++ p) ++ q) ++ r) ++ s ≡ o ++ (p ++ (q ++ (r ++ s)))
+    regroup o p q r s = simp append_assoc
+
+-- two texts
+pub two_written : {A E : Type 0} (r : Result A E) (old a new head end : List ℕ) → a ≡ old ++ head → OnOk r (new ≡ a ++ end) → OnOk r (new ≡ old ++ (head ++ end))
+two_written r old a new head end x h = on_ok r (λ (q : new ≡ a ++ end). q ∙ ap (λ (t : List ℕ). t ++ end) x ∙ append_assoc old head end) h
 
 -- ---- a record that is read
 
@@ -97,11 +120,25 @@ pub held_after : (old new : Known) (before : List Rec) (lost : Lost) (kind : ℕ
 held_after old new before lost kind body bytes a b h k =
     holds_more old new before (kept_record lost bytes) h (subst (λ (c : Contents). Keeps old c new) (ap₂ (kept_contents lost) a b) k)
 
-pub held_faulty : (old new : Known) (before : List Rec) (kind : ℕ) (body bytes : List ℕ) → kind ≡ front_kind bytes → body ≡ body_of bytes → Holds old before → Keeps old (stand_in kind body) new
-    → Holds new (before ++ faulty_record bytes ∷ [])
-held_faulty old new before kind body bytes a b h k = holds_more old new before (faulty_record bytes) h (subst (λ (c : Contents). Keeps old c new) (ap₂ stand_in a b) k)
+pub held_unread : (old new : Known) (before : List Rec) (kind : ℕ) (body bytes : List ℕ) → kind ≡ front_kind bytes → body ≡ body_of bytes → Holds old before → Keeps old (stand_in kind body) new
+    → Holds new (before ++ unread_record bytes ∷ [])
+held_unread old new before kind body bytes a b h k = holds_more old new before (unread_record bytes) h (subst (λ (c : Contents). Keeps old c new) (ap₂ stand_in a b) k)
 
 -- the records that follow the one at fault were written
 pub followed : (f : Style) (before : List Rec) (lost : Lost) (number start next at : ℕ) (bytes rest : List ℕ) → goes_on number bytes ≡ true → lost ≡ lost_with bytes → next ≡ number + 1 → at ≡ start + (3 + stated_length bytes)
-    → rest ≡ drop (3 + stated_length bytes) bytes → later_from f (before ++ faulty_record bytes ∷ []) lost next at 0 rest ≡ later_text f before number start bytes
+    → rest ≡ drop (3 + stated_length bytes) bytes → later_from f before lost next at 0 rest ≡ later_text f before number start bytes
 followed f before lost number start next at bytes rest g l n s r = rw (l, n, s, r) (sym (later_is f before number start bytes g))
+
+-- ---- the record at fault, by whether its type is known
+
+pub fault_known : (style : Style) (before : List Rec) (lost : Lost) (at : Place) (why : Reason) (rest : List ℕ) → has_fields rest ≡ true → fault_text style.format style before lost at why rest ≡ fault_record style before lost at why rest
+fault_known style before lost at why rest e = sym (by_true (has_fields rest) (fault_text style.format style before lost at why rest) (refused_record style.format at why rest) e)
+
+pub fault_unknown : (style : Style) (before : List Rec) (lost : Lost) (at : Place) (why : Reason) (rest : List ℕ) → has_fields rest ≡ false → refused_record style.format at why rest ≡ fault_record style before lost at why rest
+fault_unknown style before lost at why rest e = sym (by_false (has_fields rest) (fault_text style.format style before lost at why rest) (refused_record style.format at why rest) e)
+
+pub kept_known : (lost : Lost) (rest : List ℕ) → has_fields rest ≡ true → kept_record lost rest ≡ faulty_record lost rest
+kept_known lost rest e = sym (by_true (has_fields rest) (kept_record lost rest) (unread_record rest) e)
+
+pub kept_unknown : (lost : Lost) (rest : List ℕ) → has_fields rest ≡ false → unread_record rest ≡ faulty_record lost rest
+kept_unknown lost rest e = sym (by_false (has_fields rest) (kept_record lost rest) (unread_record rest) e)

@@ -153,24 +153,26 @@ reference_fields t width frame target r = field (codes "target") (target_value t
 abbrev pub location_place : Option Data → ℕ → ℕ
 location_place fixed locat = unwrap_or (option_map (λ d. d.offset) fixed) 0 + location_offset locat
 
-abbrev pub data_or_none : Option Data → List ℕ
-data_or_none fixed = unwrap_or (option_map (λ d. d.bytes) fixed) []
+abbrev pub bytes_before : List ℕ → ℕ → List ℕ
+bytes_before bytes locat = drop (location_offset locat - 4) (take (location_offset locat) bytes)
 
-abbrev pub bytes_before : Option Data → ℕ → List ℕ
-bytes_before fixed locat = drop (location_offset locat - 4) (take (location_offset locat) (data_or_none fixed))
+abbrev pub location_bytes : List ℕ → ℕ → List ℕ
+location_bytes bytes locat = take ((row_of (location_type locat)).size) (drop (location_offset locat) bytes)
 
-abbrev pub location_bytes : Option Data → ℕ → List ℕ
-location_bytes fixed locat = take ((row_of (location_type locat)).size) (drop (location_offset locat) (data_or_none fixed))
+abbrev pub bytes_after : List ℕ → ℕ → List ℕ
+bytes_after bytes locat = take 4 (drop (location_offset locat + (row_of (location_type locat)).size) bytes)
 
-abbrev pub bytes_after : Option Data → ℕ → List ℕ
-bytes_after fixed locat = take 4 (drop (location_offset locat + (row_of (location_type locat)).size) (data_or_none fixed))
+abbrev pub marked_location : List ℕ → ℕ → Value
+marked_location bytes locat = Marked (bytes_before bytes locat) (location_bytes bytes locat) (bytes_after bytes locat)
 
-abbrev pub marked_location : Option Data → ℕ → Value
-marked_location fixed locat = Marked (bytes_before fixed locat) (location_bytes fixed locat) (bytes_after fixed locat)
+-- Where no LEDATA is changed, or its data are not known, no bytes are shown.
+abbrev pub bytes_if : Option Data → ℕ → List Field
+bytes_if None locat = []
+bytes_if (Some d) locat = field (codes "bytes") (marked_location d.bytes locat) ∷ []
 
 abbrev pub location_fields : Option Data → Width → ℕ → List Field
-location_fields fixed width locat = field (codes "at") (Hex (digits width) (location_place fixed locat)) ∷ field (codes "bytes") (marked_location fixed locat)
-    ∷ field (codes "location") (Word (location_word (location_type locat))) ∷ field (codes "self-relative") (Flag (not (is_segment_relative locat))) ∷ []
+location_fields fixed width locat = field (codes "at") (Hex (digits width) (location_place fixed locat)) ∷ (bytes_if fixed locat
+    ++ field (codes "location") (Word (location_word (location_type locat))) ∷ field (codes "self-relative") (Flag (not (is_segment_relative locat))) ∷ [])
 
 -- A THREAD: its kind and number, and the method that it sets.
 abbrev pub thread_fields : Tables → ℕ → Option (At ℕ) → List Field

@@ -1,4 +1,4 @@
--- The records after a record at fault, as far as they can be read (this profile's rule). They are not judged.
+-- The record at fault and those after it, as far as they can be read (this profile's rule). They are not judged.
 use Rattle.std.specs.Prelude.{ℕ, zero, suc, ◌+◌, ◌-◌, List, [], ◌∷◌, ◌++◌, drop, Bool, true, false, not, ◌&&◌, ◌==◌, is_ok, is_some, codes, Option, None, Some, if◌then◌else◌}
 use Rattle.omf_frame.specs.Framing.{after_front, front_record, is_end, is_taken, is_whole, record_len, stated_length}
 use Rattle.omf_frame.specs.Types.{type_of}
@@ -12,7 +12,7 @@ use Rattle.omf_dump.specs.Contents.{shown}
 use Rattle.omf_dump.specs.Fields.{Flag, Hex, Field, field}
 use Rattle.omf_dump.specs.Known.{tables, fixed_data}
 use Rattle.omf_dump.specs.Looks.{is_foreign}
-use Rattle.omf_dump.specs.Render.{fields_text, head_text, shown_text, value_text}
+use Rattle.omf_dump.specs.Render.{fields_text, head_text, record_end, shown_text, value_text}
 use Rattle.omf_dump.specs.declared.format.Format.{Format}
 use Rattle.omf_dump.specs.declared.format.Style.{Style}
 use Rattle.omf_dump.specs.declared.lost.Lost.{Lost}
@@ -125,9 +125,11 @@ checksum_if bytes = if stated_length bytes == 0 then [] else checksum_at (drop (
 abbrev pub unjudged_head : Format → ℕ → ℕ → List ℕ → List ℕ
 unjudged_head f number start bytes = head_text f number start (front_kind bytes) ++ (fields_text f (checksum_if bytes) ++ value_text f (codes "unjudged") (Flag true))
 
+abbrev pub unjudged_body : Style → List Rec → Lost → List ℕ → List ℕ
+unjudged_body style before lost bytes = shown_text style (shown (tables before) (fixed_data before) (subrecords before) (front_kind bytes) (unjudged_contents lost (front_kind bytes) (body_of bytes)))
+
 abbrev pub unjudged_text : Style → List Rec → Lost → ℕ → ℕ → List ℕ → List ℕ
-unjudged_text style before lost number start bytes = unjudged_head style.format number start bytes
-    ++ shown_text style (shown (tables before) (fixed_data before) (subrecords before) (front_kind bytes) (unjudged_contents lost (front_kind bytes) (body_of bytes)))
+unjudged_text style before lost number start bytes = unjudged_head style.format number start bytes ++ (unjudged_body style before lost bytes ++ record_end style.format)
 
 -- The records from an offset on, as far as they are whole and of known types, up to the first MODEND. The first `skipped` bytes are those of
 -- the record before.
@@ -145,14 +147,11 @@ later_from f before lost number start zero (kind ∷ bytes) =
 abbrev pub goes_on : ℕ → List ℕ → Bool
 goes_on number bytes = is_whole bytes && (not (is_end (front_kind bytes)) && not (is_foreign number bytes))
 
--- The record at fault, for later ones: nothing that it may define is known.
-abbrev pub faulty_record : List ℕ → Rec
-faulty_record bytes = record { kind = front_kind bytes; contents = stand_in (front_kind bytes) (body_of bytes) }
-
+-- What is not known after it: entries that it defines may be too many or too few.
 abbrev pub lost_with : List ℕ → Lost
 lost_with bytes = lose_if none_lost (type_of (front_kind bytes))
 
--- The records that follow the one at fault, which is at the front and has this number and offset, after these records.
+-- The records that follow the one at fault, which is at the front and has this number and offset. `before` are the records up to it, with it.
 abbrev pub later_text : Style → List Rec → ℕ → ℕ → List ℕ → List ℕ
 later_text f before number start bytes =
-    if goes_on number bytes then later_from f (before ++ faulty_record bytes ∷ []) (lost_with bytes) (number + 1) (start + record_len bytes) 0 (after_front bytes) else []
+    if goes_on number bytes then later_from f before (lost_with bytes) (number + 1) (start + record_len bytes) 0 (after_front bytes) else []

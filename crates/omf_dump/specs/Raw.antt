@@ -179,12 +179,12 @@ comment_class b = field (codes "class") (Hex 2 b) ∷ field (codes "meaning") (W
 abbrev pub end_flags : ℕ → List Field
 end_flags b = field (codes "flags") (Hex 2 b) ∷ field (codes "main") (Flag (has_bit b 7)) ∷ field (codes "has-start") (Flag (has_bit b 6)) ∷ []
 
--- FIXUPP: a frame method without a datum.
+-- FIXUPP: a frame method without a datum. Methods 6 and 7 are reserved (TIS OMF 1.1, "FIXUPP").
 abbrev pub methods : List (ℕ × List ℕ)
 methods = (4, codes "location") ∷ (5, codes "target") ∷ []
 
 abbrev pub method_if : ℕ → List Field
-method_if m = if nat_lt m 4 then [] else field (codes "frame") (Method (word_in methods (codes "undefined") m) None) ∷ []
+method_if m = if nat_lt m 4 then [] else field (codes "frame") (Method (word_in methods (codes "reserved") m) None) ∷ []
 
 -- A THREAD: its number. Fix data: the numbers of the threads that give frame and target.
 abbrev pub thread_number : ℕ → List Field

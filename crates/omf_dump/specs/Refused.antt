@@ -1,20 +1,23 @@
 -- What is shown of a refused module: the records before the fault, the record at fault, and those after it (this profile's rule).
-use Rattle.std.specs.Prelude.{ℕ, ◌+◌, ◌-◌, ◌*◌, ◌/◌, ◌%◌, List, [], ◌∷◌, ◌++◌, length, take, drop, replicate, slice_index, nat_le, ◌==◌, if◌then◌else◌, Bool, true, false, codes, decimal}
+use Rattle.std.specs.Prelude.{ℕ, ◌+◌, ◌-◌, ◌*◌, ◌/◌, ◌%◌, List, [], ◌∷◌, ◌++◌, length, take, drop, replicate, slice_index, nat_le, ◌==◌, if◌then◌else◌, is_some, Bool, true, false, codes, decimal}
 use Rattle.omf_frame.specs.Fault.{reason_number, reason_name, sentence}
 use Rattle.omf_frame.specs.Framing.{present}
 use Rattle.omf_frame.specs.declared.kinds.Width.TheVariants.{Bits32}
 use Rattle.omf_frame.specs.declared.fault.Place.{Place}
 use Rattle.omf_frame.specs.declared.fault.Reason.{Reason}
+use Rattle.omf_frame.specs.declared.fault.Reason.TheVariants as reason
+use Rattle.omf_frame.specs.Types.{type_of}
 use Rattle.omf_records.specs.Values.{Rec}
 use Rattle.omf_library.specs.Library.{is_page_size, library_header, page_size}
 use Rattle.omf_dump.specs.Fields.{Number, Hex, Word, Characters, Field, field}
-use Rattle.omf_dump.specs.Later.{later_text}
+use Rattle.omf_dump.specs.Later.{body_of, checksum_if, front_kind, kept_record, later_text, lost_with, none_lost, stand_in, unjudged_body, unjudged_text}
 use Rattle.omf_dump.specs.Looks.{is_foreign, looks_like}
 use Rattle.omf_dump.specs.Render.{bytes_block, digits, fields_text, kind_head, line_end, place_head, record_end, rows}
 use Rattle.omf_dump.specs.Words.{type_word}
 use Rattle.omf_dump.specs.declared.format.Format.{Format}
 use Rattle.omf_dump.specs.declared.format.Style.{Style}
 use Rattle.omf_dump.specs.declared.format.Format.TheVariants as format
+use Rattle.omf_dump.specs.declared.lost.Lost.{Lost}
 
 -- The byte at the fault, if it is present.
 abbrev pub byte_if : List ℕ → List Field
@@ -84,9 +87,43 @@ abbrev pub refused_line : Format → Place → Reason → List ℕ → List ℕ
 refused_line f at why rest = place_head f at.number at.start ++ (kind_if f rest
     ++ (fields_text f (reason_fields why at.within (present rest)) ++ fields_text f (look_if (is_foreign at.number rest) rest)))
 
+abbrev pub refused_front : Format → Place → Reason → List ℕ → List ℕ
+refused_front f at why rest = refused_line f at why rest ++ (line_end f ++ refused_bytes f at.within (present rest))
+
 abbrev pub refused_record : Format → Place → Reason → List ℕ → List ℕ
-refused_record f at why rest = refused_line f at why rest ++ (line_end f ++ (refused_bytes f at.within (present rest) ++ record_end f))
+refused_record f at why rest = refused_front f at why rest ++ record_end f
+
+-- The record at fault is shown with its fields too, if its type is known.
+abbrev pub has_fields : List ℕ → Bool
+has_fields [] = false
+has_fields (kind ∷ _) = is_some (type_of kind)
+
+-- What its fields go by that is not known: nothing, as the records before it are sound. But where the checksum is wrong, each of its bytes may be:
+-- the entries that it defines have no numbers.
+abbrev pub own_lost : Reason → List ℕ → Lost
+own_lost reason.Checksum rest = lost_with rest
+own_lost _ rest = none_lost
+
+-- Its fields, in JSON as an object in its line.
+abbrev pub fields_object : Style → List Rec → Lost → List ℕ → List ℕ
+fields_object style before lost rest = codes ",\"fields\":{\"unjudged\":true" ++ (fields_text style.format (checksum_if rest) ++ (unjudged_body style before lost rest ++ 125 ∷ []))
+
+-- In text its fields are shown like a later record, and then it is refused; in JSON one line has both.
+abbrev pub fault_text : Format → Style → List Rec → Lost → Place → Reason → List ℕ → List ℕ
+fault_text format.Text style before lost at why rest = unjudged_text style before lost at.number at.start rest ++ refused_record format.Text at why rest
+fault_text format.Json style before lost at why rest = refused_front format.Json at why rest ++ (fields_object style before lost rest ++ record_end format.Json)
+
+abbrev pub fault_record : Style → List Rec → Lost → Place → Reason → List ℕ → List ℕ
+fault_record style before lost at why rest = if has_fields rest then fault_text style.format style before lost at why rest else refused_record style.format at why rest
+
+-- The record at fault, for later ones: what it gives, if it can be read.
+abbrev pub unread_record : List ℕ → Rec
+unread_record rest = record { kind = front_kind rest; contents = stand_in (front_kind rest) (body_of rest) }
+
+abbrev pub faulty_record : Lost → List ℕ → Rec
+faulty_record lost rest = if has_fields rest then kept_record lost rest else unread_record rest
 
 -- The record at fault, after these records, and then the records that follow it, unjudged.
 abbrev pub refusal_text : Style → List Rec → Place → Reason → List ℕ → List ℕ
-refusal_text style before at why rest = refused_record style.format at why rest ++ later_text style before at.number at.start rest
+refusal_text style before at why rest =
+    fault_record style before (own_lost why rest) at why rest ++ later_text style (before ++ faulty_record (own_lost why rest) rest ∷ []) at.number at.start rest

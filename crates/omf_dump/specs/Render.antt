@@ -214,9 +214,9 @@ abbrev pub record_end : Format → List ℕ
 record_end format.Text = []
 record_end format.Json = 125 ∷ 10 ∷ []
 
--- What follows the fields of a record.
+-- What follows the fields of a record, up to its end.
 abbrev pub closing : Style → Option (List Item) → Option Block → List ℕ
-closing style items block = line_end style.format ++ (list_text style.format items ++ (block_text style block ++ record_end style.format))
+closing style items block = line_end style.format ++ (list_text style.format items ++ block_text style block)
 
 abbrev pub shown_text : Style → Shown → List ℕ
 shown_text style s = fields_text style.format s.fields ++ closing style s.items s.block
@@ -229,4 +229,4 @@ abbrev pub framed_head : Format → ℕ → ℕ → ℕ → ℕ → List ℕ
 framed_head f number start kind checksum = head_text f number start kind ++ checksum_text f checksum
 
 abbrev pub record_text : Style → ℕ → ℕ → ℕ → ℕ → Shown → List ℕ
-record_text style number start kind checksum s = framed_head style.format number start kind checksum ++ shown_text style s
+record_text style number start kind checksum s = framed_head style.format number start kind checksum ++ (shown_text style s ++ record_end style.format)

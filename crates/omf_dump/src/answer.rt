@@ -14,13 +14,13 @@ ghost use Rattle.omf_dump.specs.Library.{IsModuleText, IsShown, Shows};
 ghost use Rattle.omf_dump.specs.Refused.{refusal_text};
 
 use crate::fault::DumpFault;
+use crate::faulty::{own_lost, show_fault};
 use crate::file::show_file;
 use crate::format::{Mode, Style};
 use crate::known::Known;
-use crate::later::{Fault, put_later};
+use crate::later::{Fault, State, put_later};
 use crate::library::show_library;
 use crate::output::send;
-use crate::refused::show_refusal;
 use crate::walk::{dump, nothing_known};
 use omf_check::{CheckFault, Checked, check};
 use omf_frame::{Bytes, Place, Reason, Sink};
@@ -53,11 +53,14 @@ fn dump_fault<'a, K: Sink>(
     ensures { (before : List Rec) → Holds known.entry before → Writes (K.seen writer.old).bytes (K.seen writer.new).bytes result (refusal_text style before fault.entry.place fault.entry.reason fault.entry.rest.now) }
 {
     let mut text = Vec::new(alloc);
-    let format = style.format;
-    let Ok(()) = show_refusal(&mut text, format, fault.place, fault.reason, fault.rest) else {
+    let mut state = State {
+        known,
+        lost: own_lost(fault.reason, fault.rest),
+    };
+    let Ok(()) = show_fault(&mut text, style, &mut state, fault) else {
         return Err(DumpFault::Memory);
     };
-    put_later(writer, &mut text, style, known, fault)?;
+    put_later(writer, &mut text, style, state.known, fault)?;
     send(writer, &text)
 }
 

@@ -92,12 +92,12 @@ pub(crate) fn variable_word(code: u8) -> &'static str
 
 /// The word for a frame method without a datum.
 fn method_word(code: u8) -> &'static str
-    ensures { result.now ≡ word_in methods (codes "undefined") code }
+    ensures { result.now ≡ word_in methods (codes "reserved") code }
 {
     match code {
         4 => "location",
         5 => "target",
-        _ => "undefined",
+        _ => "reserved",
     }
 }
 

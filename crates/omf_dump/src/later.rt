@@ -1,4 +1,4 @@
-//! The record at fault and the records after it, as far as they can be read. They are not judged.
+//! Records that are not judged, as far as they can be read: those after a record at fault.
 
 ghost use Rattle.std.specs.Prelude.{◌≡◌, ◌≤◌, ◌<◌, ◌+◌, ◌++◌, ◌∷◌, ◌^◌, IsTrue, List, OnOk, [], length, true};
 ghost use Rattle.omf_frame.specs.Bytes.{AddsText};
@@ -9,7 +9,7 @@ ghost use Rattle.omf_records.specs.Values.{Rec};
 ghost use Rattle.omf_dump.specs.Inner.Later.{following, unjudged_shown};
 ghost use Rattle.omf_dump.specs.Inner.Showing.{Keeps, shown_by};
 ghost use Rattle.omf_dump.specs.Inner.Walking.{Holds, Passes};
-ghost use Rattle.omf_dump.specs.Later.{body_of, checksum_at, checksum_if, front_kind, goes_on, has_data_if, is_listed, is_lost_if, is_plain, kept_contents, kept_record, later_from, later_text, lose_if, lost_after, lost_by, none_lost, stand_in, unjudged_contents, unjudged_head, unjudged_text};
+ghost use Rattle.omf_dump.specs.Later.{body_of, checksum_at, checksum_if, front_kind, goes_on, has_data_if, is_listed, is_lost_if, is_plain, kept_contents, kept_record, later_from, later_text, lose_if, lost_after, lost_by, lost_with, none_lost, stand_in, unjudged_body, unjudged_head, unjudged_text};
 ghost use Rattle.omf_dump.specs.Library.{after_member};
 ghost use Rattle.omf_dump.specs.Raw.{raw_shown};
 ghost use Rattle.omf_dump.specs.Render.{fields_text, head_text, shown_text};
@@ -17,7 +17,7 @@ ghost use Rattle.omf_dump.specs.Render.{fields_text, head_text, shown_text};
 use crate::fault::DumpFault;
 use crate::field::{flag, small};
 use crate::format::{Format, Style};
-use crate::item::{put_kind_head, put_number_head};
+use crate::item::{close_record, put_kind_head, put_number_head};
 use crate::known::Known;
 use crate::library::front_contents;
 use crate::looks::is_foreign;
@@ -230,7 +230,7 @@ fn is_plain(lost: Lost, kind: u8) -> bool
 }
 
 /// Forgets what a record of this type would have given, which was not read.
-fn forget(state: &mut State<'_>, kind: u8, body: &[u8])
+pub(crate) fn forget(state: &mut State<'_>, kind: u8, body: &[u8])
     ensures keeps { Keeps state.old.known (stand_in kind body.now) state.new.known }
     ensures lost { state.new.lost ≡ lose_if state.old.lost (type_of kind) }
 {
@@ -308,7 +308,11 @@ fn put_checksum(text: &mut Vec<u8>, format: Format, bytes: &[u8]) -> Result<(), 
 }
 
 /// The checksum byte of the record at the front, if it is there.
-fn put_checksum_if(text: &mut Vec<u8>, format: Format, bytes: &[u8]) -> Result<(), AllocError>
+pub(crate) fn put_checksum_if(
+    text: &mut Vec<u8>,
+    format: Format,
+    bytes: &[u8],
+) -> Result<(), AllocError>
     ensures { AddsText result text.old.items text.new.items (fields_text format (checksum_if bytes.now)) }
 {
     let length = stated_length(bytes);
@@ -328,8 +332,28 @@ fn put_unjudged_head(text: &mut Vec<u8>, format: Format, rest: Rest<'_>) -> Resu
     flag(text, format, "unjudged", true)
 }
 
+/// The contents of the record at the front, which is not judged. Keeps what they give later records.
+pub(crate) fn put_unjudged_body<'a>(
+    text: &mut Vec<u8>,
+    style: Style,
+    state: &mut State<'a>,
+    bytes: &'a [u8],
+) -> Result<(), AllocError>
+    ensures text { (before : List Rec) → Holds state.old.known before → AddsText result text.old.items text.new.items (unjudged_body style before state.old.lost bytes.entry.now) }
+    ensures holds { (before : List Rec) → Holds state.old.known before → OnOk result (Holds state.new.known (before ++ kept_record state.old.lost bytes.entry.now ∷ [])) }
+    ensures lost { OnOk result (state.new.lost ≡ lost_by state.old.lost bytes.entry.now) }
+{
+    let raw = RawRecord {
+        kind: front_kind(bytes),
+        body: front_contents(bytes),
+        number: 0,
+        start: 0,
+    };
+    show_unjudged(text, style, state, raw)
+}
+
 /// A record that is not judged. Keeps what it gives later records.
-fn put_unjudged<'a>(
+pub(crate) fn put_unjudged<'a>(
     text: &mut Vec<u8>,
     style: Style,
     state: &mut State<'a>,
@@ -339,14 +363,9 @@ fn put_unjudged<'a>(
     ensures holds { (before : List Rec) → Holds state.old.known before → OnOk result (Holds state.new.known (before ++ kept_record state.old.lost rest.entry.bytes.now ∷ [])) }
     ensures lost { OnOk result (state.new.lost ≡ lost_by state.old.lost rest.entry.bytes.now) }
 {
-    let raw = RawRecord {
-        kind: front_kind(rest.bytes),
-        body: front_contents(rest.bytes),
-        number: 0,
-        start: 0,
-    };
     put_unjudged_head(text, style.format, rest)?;
-    show_unjudged(text, style, state, raw)
+    put_unjudged_body(text, style, state, rest.bytes)?;
+    close_record(text, style.format)
 }
 
 /// Writes the records from an offset on, as far as they are whole and of known types, up to the first MODEND. The end of it is left in `text`.
@@ -389,7 +408,14 @@ fn goes_on(number: u32, bytes: &[u8]) -> bool
     is_whole(bytes) && !is_end(front_kind(bytes)) && !is_foreign(number, bytes)
 }
 
-/// Writes the records that follow the one at fault, which is at the front of `bytes` and has this place. The end of it is left in `text`.
+/// What is lost after the record at fault, which is at the front.
+pub(crate) fn lost_with(bytes: &[u8]) -> Lost
+    ensures { result ≡ lost_with bytes.now }
+{
+    lose_if(Lost::none(), RecordType::of(front_kind(bytes)))
+}
+
+/// Writes the records that follow the one at fault, which has this place. The end of it is left in `text`.
 #[tactic(auto, using(crate::proofs::LaterLaws::goes_whole))]
 pub(crate) fn put_later<'a, K: Sink>(
     writer: &mut K,
@@ -414,8 +440,7 @@ pub(crate) fn put_later<'a, K: Sink>(
     };
     let mut state = State {
         known,
-        lost: Lost::none(),
+        lost: lost_with(bytes),
     };
-    forget(&mut state, front_kind(bytes), front_contents(bytes));
     put_from(writer, text, style, &mut state, rest)
 }

@@ -16,6 +16,7 @@ mod encoded;
 mod entry;
 mod facts;
 mod fault;
+mod faulty;
 mod field;
 mod file;
 mod flags;

@@ -25,7 +25,7 @@ use crate::contents::{
 };
 use crate::entry::Entry;
 use crate::format::Style;
-use crate::item::open_framed;
+use crate::item::{close_record, open_framed};
 use crate::items::{put_communals, put_externals, put_members, put_names, put_publics};
 use crate::known::{Data, Known, Tables};
 use crate::pairs::put_pairs;
@@ -357,5 +357,6 @@ pub(crate) fn show_record<'a>(
     ensures keeps { OnOk result (Keeps known.old (contents_or raw.entry.body.now (read_body raw.entry.kind raw.entry.body.now)) known.new) }
 {
     open_framed(text, style.format, &raw, checksum)?;
-    show_body(text, style, known, raw)
+    show_body(text, style, known, raw)?;
+    close_record(text, style.format)
 }

@@ -4,7 +4,7 @@ ghost use Rattle.std.specs.Prelude.{◌≡◌, ◌∷◌, [], ◌+◌, Some, Non
 ghost use Rattle.omf_frame.specs.Bytes.{AddsText};
 ghost use Rattle.omf_check.specs.Inner.Names.{frame_from, target_from};
 ghost use Rattle.omf_check.specs.Threads.{setting};
-ghost use Rattle.omf_dump.specs.Contents.{displacement_if, entry_value, frame_thread_of, frame_value, kind_entry, data_or_none, kind_word, location_fields, location_place, marked_location, reference_fields, target_thread_of, target_value, thread_fields, thread_if};
+ghost use Rattle.omf_dump.specs.Contents.{bytes_if, displacement_if, entry_value, frame_thread_of, frame_value, kind_entry, kind_word, location_fields, location_place, marked_location, reference_fields, target_thread_of, target_value, thread_fields, thread_if};
 ghost use Rattle.omf_dump.specs.Fields.{field};
 ghost use Rattle.omf_dump.specs.Render.{fields_text, value_text};
 
@@ -160,32 +160,36 @@ fn location_place(fixed: &Option<Data<'_>>, location: Locat) -> u64
     offset + u64::from(location.offset())
 }
 
-/// The data that a fixup changes; none if they are not known.
-fn data_of<'a>(fixed: &Option<Data<'a>>) -> &'a [u8]
-    ensures { result.now ≡ data_or_none fixed.now }
-{
-    match fixed {
-        Some(fixed) => fixed.bytes,
-        None => &[],
-    }
-}
-
-/// The bytes of a location, with at most four before and after them.
+/// The bytes of a location in data, with at most four before and after them.
 fn put_bytes(
     text: &mut Vec<u8>,
     format: Format,
-    fixed: &Option<Data<'_>>,
+    bytes: &[u8],
     location: Locat,
 ) -> Result<(), AllocError>
-    ensures { AddsText result text.old.items text.new.items (value_text format (codes "bytes") (marked_location fixed.now location)) }
+    ensures { AddsText result text.old.items text.new.items (value_text format (codes "bytes") (marked_location bytes.now location)) }
 {
-    let bytes = data_of(fixed);
     let start = usize::from(location.offset());
     let size = usize::from(location.location_type().size());
     let before = after(start.saturating_sub(AROUND), first(start, bytes));
     let changed = first(size, after(start, bytes));
     let others = first(AROUND, after(start + size, bytes));
     marked(text, format, before, changed, others)
+}
+
+/// The same in the data that a fixup changes, if they are known.
+fn put_bytes_if(
+    text: &mut Vec<u8>,
+    format: Format,
+    fixed: &Option<Data<'_>>,
+    location: Locat,
+) -> Result<(), AllocError>
+    ensures { AddsText result text.old.items text.new.items (fields_text format (bytes_if fixed.now location)) }
+{
+    match fixed {
+        Some(fixed) => put_bytes(text, format, fixed.bytes, location),
+        None => Ok(()),
+    }
 }
 
 /// The location of a fixup.
@@ -201,7 +205,7 @@ pub(crate) fn put_location(
     let kind = location_word(location.location_type());
     let is_self_relative = !location.is_segment_relative();
     hexadecimal(text, format, "at", width, location_place(fixed, location))?;
-    put_bytes(text, format, fixed, location)?;
+    put_bytes_if(text, format, fixed, location)?;
     word(text, format, "location", kind)?;
     flag(text, format, "self-relative", is_self_relative)
 }

@@ -6,7 +6,7 @@ ghost use Rattle.omf_frame.specs.Fault.{reason_name, reason_number};
 ghost use Rattle.omf_frame.specs.Framing.{present};
 ghost use Rattle.omf_dump.specs.Fields.{Characters, Number, Word};
 ghost use Rattle.omf_dump.specs.Looks.{looks_like};
-ghost use Rattle.omf_dump.specs.Refused.{byte_if, cut_fields, kind_if, library_fields, look_if, mark, mark_if, marked_len, marked_rows, reason_fields, refused_bytes, refused_line, refused_record, size_fields, window, window_start};
+ghost use Rattle.omf_dump.specs.Refused.{byte_if, cut_fields, kind_if, library_fields, look_if, mark, mark_if, marked_len, marked_rows, reason_fields, refused_bytes, refused_front, refused_line, refused_record, size_fields, window, window_start};
 ghost use Rattle.omf_dump.specs.Render.{fields_text, value_text};
 
 use crate::field::{characters, hexadecimal, number, small, word};
@@ -231,7 +231,22 @@ fn put_refused_line(
     put_look(text, format, is_foreign(place.number, rest), rest)
 }
 
-/// The record at fault at a place, of an input of which `rest` follows the records before it.
+/// Why the record at a place is refused, of an input of which `rest` follows the records before it.
+pub(crate) fn open_refusal(
+    text: &mut Vec<u8>,
+    format: Format,
+    place: Place,
+    reason: Reason,
+    rest: &[u8],
+) -> Result<(), AllocError>
+    ensures { AddsText result text.old.items text.new.items (refused_front format place reason rest.now) }
+{
+    put_refused_line(text, format, place, reason, rest)?;
+    end_fields(text, format)?;
+    put_refused_bytes(text, format, place.within, present(rest))
+}
+
+/// The same, and the end of the record.
 pub(crate) fn show_refusal(
     text: &mut Vec<u8>,
     format: Format,
@@ -241,8 +256,6 @@ pub(crate) fn show_refusal(
 ) -> Result<(), AllocError>
     ensures { AddsText result text.old.items text.new.items (refused_record format place reason rest.now) }
 {
-    put_refused_line(text, format, place, reason, rest)?;
-    end_fields(text, format)?;
-    put_refused_bytes(text, format, place.within, present(rest))?;
+    open_refusal(text, format, place, reason, rest)?;
     close_record(text, format)
 }

@@ -6,6 +6,14 @@ pub returns-clause-checksum : goal.returns-clause-checksum
 unfolding digits
 returns-clause-checksum c = refl
 
+pub returns-clause-names : goal.returns-clause-names
+unfolding digits
+returns-clause-names c = refl
+
+pub returns-clause-cextdef : goal.returns-clause-cextdef
+unfolding digits
+returns-clause-cextdef c = refl
+
 pub returns-clause-end : goal.returns-clause-end
 unfolding digits
 returns-clause-end c = refl
