@@ -130,7 +130,7 @@ fn with_options<K: Sink, E: Sink>(
         return Ok(Status::Failed);
     };
     let search = Search {
-        options,
+        options: &*options,
         folders: &folders,
     };
     let program = sources.joined(rt, search)?;

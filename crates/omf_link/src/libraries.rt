@@ -33,8 +33,8 @@ pub(crate) struct Sources<'a> {
 
 /// Which libraries are looked for, and where.
 #[derive(Clone, Copy)]
-pub(crate) struct Search<'a> {
-    pub(crate) options: &'a ExeOptions<'a>,
+pub(crate) struct Search<'a, 'b> {
+    pub(crate) options: &'a ExeOptions<'b>,
     pub(crate) folders: &'a Folders,
 }
 
@@ -142,7 +142,7 @@ impl<'a> Sources<'a> {
     fn look_for(
         &mut self,
         rt: &HostRuntime,
-        search: Search<'_>,
+        search: Search<'_, '_>,
         name: Vec<u8>,
     ) -> Result<(), AllocError> {
         let is_left_out = match str::from_utf8(&name) {
@@ -160,7 +160,7 @@ impl<'a> Sources<'a> {
     fn take_all(
         &mut self,
         rt: &HostRuntime,
-        search: Search<'_>,
+        search: Search<'_, '_>,
         names: Vec<Vec<u8>>,
     ) -> Result<Vec<InputFile>, AllocError> {
         for name in names {
@@ -180,7 +180,7 @@ impl<'a> Sources<'a> {
     pub(crate) fn joined(
         &mut self,
         rt: &HostRuntime,
-        search: Search<'_>,
+        search: Search<'_, '_>,
     ) -> Result<Result<ProgramFiles, Refusal>, AllocError> {
         let options = search.options;
         let files = self.unread(rt);
