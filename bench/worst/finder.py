@@ -67,6 +67,20 @@ def calls(count):
     return (b"\xE8\x10\x20\x90\x90\x90\xC3" * 9362)[:65534], archive([module(code, 1, fixup)] * count)
 
 
+def index(number):
+    return bytes([number]) if number < 0x80 else bytes([0x80 | number >> 8, number & 0xFF])
+
+
+def sparse(count, has_publics):
+    """A module of segments without data, maybe with a PUBDEF each, and one with data that is in the program."""
+    data = os.urandom(64)
+    body = record(0x96, b"\x01T") + record(0x98, b"\x68\x00\x00\x01\x01\x00") * (count - 1) + record(0x98, b"\x68\x40\x00\x01\x01\x00")
+    if has_publics:
+        body += b"".join(record(0x90, b"\x00" + index(it) + b"\x01p\x00\x00\x00") for it in range(1, count))
+    body += record(0xA0, index(count) + b"\x00\x00" + data)
+    return bytes(1000) + data + bytes(1000), archive([record(0x80, b"\x01m") + body + record(0x8A, b"\x00")])
+
+
 SHAPES = {
     "n members of one zero; a program of zeros": (lambda n: same(b"\x00", n), 16_000),
     "n members of four zeros; a program of zeros": (lambda n: same(bytes(4), n), 16_000),
@@ -77,6 +91,8 @@ SHAPES = {
     "n members of 64 to 255 zeros; 63 zeros and a one in turn": (lambda n: (after_a_one(64, 1 << 16), archive(lengths(n))), 4_000),
     "a segment of n zeros; n zeros and a one": (one_long, 1 << 19),
     "n members of a call; a program of such calls": (calls, 8_000),
+    "a member of n segments, all but one without data": (lambda n: sparse(n, False), 8_000),
+    "a member of n segments, with a PUBDEF of each": (lambda n: sparse(n, True), 8_000),
     "n random bytes; one member": (lambda n: (os.urandom(n), archive([module(os.urandom(64))])), 1 << 22),
     "n zeros; one member of zeros": (lambda n: (bytes(n), archive([module(bytes(64))])), 1 << 22),
 }
