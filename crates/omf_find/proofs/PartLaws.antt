@@ -70,16 +70,16 @@ all_same_kept absent k (x ∷ xs) = ((λ a. refl), all_same_kept absent (k + 1) 
 
 -- the placement of the search, and one with absent segments
 pub placed_there : (p : Program) (m : Module) (f : Found) (pl : Places) → IsHeld p m f → pl ≡ f.placement → IsPlaced p m f pl
-placed_there p m f pl h e = subst (IsPlaced p m f) (sym e) (record { found = h.found; segments = all_same_kept f.absent.items 1 f.placement.segments; groups = refl; externals = refl })
+placed_there p m f pl h e = subst (IsPlaced p m f) (sym e) (record { found = h.found; segments = all_same_kept f.absent 1 f.placement.segments; groups = refl; externals = refl })
 
 pub some_absent : (xs : List ℕ) (n : ℕ) → n ≡ length xs → (n == 0) ≡ false → xs ≡ [] → ⊥
 some_absent xs n long some e = let t = eq-eqb n 0 (long ∙ ap length e) in let w : true ≡ false = sym t ∙ some in cc
 
-pub placed_if : (p : Program) (m : Module) (f : Found) (o : Option Places) → (f.absent.items ≡ [] → ⊥) → MatchOption o ⊤ (IsPlaced p m f) → IsPlacedIf p m f o
+pub placed_if : (p : Program) (m : Module) (f : Found) (o : Option Places) → (f.absent ≡ [] → ⊥) → MatchOption o ⊤ (IsPlaced p m f) → IsPlacedIf p m f o
 placed_if p m f None some h = some
 placed_if p m f (Some pl) some h = h
 
-pub placed_or_none : {E : Type 0} (p : Program) (m : Module) (f : Found) (r : Result (Option Places) E) → (f.absent.items ≡ [] → ⊥) → IfOk r (λ o. MatchOption o ⊤ (IsPlaced p m f)) → IfOk r (IsPlacedIf p m f)
+pub placed_or_none : {E : Type 0} (p : Program) (m : Module) (f : Found) (r : Result (Option Places) E) → (f.absent ≡ [] → ⊥) → IfOk r (λ o. MatchOption o ⊤ (IsPlaced p m f)) → IfOk r (IsPlacedIf p m f)
 placed_or_none p m f (Ok o) some h = placed_if p m f o some h
 placed_or_none p m f (Err e) some h = h
 

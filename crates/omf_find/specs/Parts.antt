@@ -1,5 +1,6 @@
 -- The modules that a link text has (this profile's rule): those that are found, at places where a link gives the program's bytes back.
 use Rattle.std.specs.Prelude.{◌≡◌, ◌⊎◌, ⊤, ℕ, ◌+◌, List, [], ◌∷◌, ◌++◌, false, Option, Some, None, option_map, slice_get}
+use Rattle.std.specs.Box.{box_value}
 use Rattle.omf_frame.specs.Bytes.{is_one_of}
 use Rattle.omf_check.specs.Module.{Module, recs_of}
 use Rattle.omf_check.specs.Tables.{entry, segments}
@@ -46,19 +47,19 @@ AreKept absent k _ _ = ⊥
 
 -- A placement of a module that is found: that of the search, but for the segments that are absent. It reaches, and each byte of the others is the program's.
 pub record IsPlaced (p : Program) (m : Module) (f : Found) (pl : Places) : Type 0 where
-  pub found : IsFound (recs_of m.bytes) pl f.absent.items p.bytes.items p.base
-  pub segments : AreKept f.absent.items 1 f.placement.segments pl.segments
+  pub found : IsFound (recs_of m.bytes) pl f.absent p.bytes.items p.base
+  pub segments : AreKept f.absent 1 f.placement.segments pl.segments
   pub groups : pl.groups ≡ f.placement.groups
   pub externals : pl.externals ≡ f.placement.externals
 
 -- A module with the verdict Found is there.
 abbrev pub IsHeldIf : Program → Module → Verdict → Type 0
-IsHeldIf p m (verdict.Found f) = IsHeld p m f
+IsHeldIf p m (verdict.Found f) = IsHeld p m (box_value f)
 IsHeldIf p m _ = ⊤
 
 -- Such a placement; or none, but only if segments are absent.
 abbrev pub IsPlacedIf : Program → Module → Found → Option Places → Type 0
-IsPlacedIf p m f None = f.absent.items ≡ [] → ⊥
+IsPlacedIf p m f None = f.absent ≡ [] → ⊥
 IsPlacedIf p m f (Some pl) = IsPlaced p m f pl
 
 -- ---- modules
@@ -74,7 +75,7 @@ left_of n (Some pl) = []
 
 -- Of a module that is not found it has nothing.
 abbrev pub IsPart : Program → ℕ → Module → Option Verdict → List Part → List ℕ → Type 0
-IsPart p n m (Some (verdict.Found f)) placed left = (o : Option Places) × IsPlacedIf p m f o × (placed ≡ placed_of n o) × (left ≡ left_of n o)
+IsPart p n m (Some (verdict.Found f)) placed left = (o : Option Places) × IsPlacedIf p m (box_value f) o × (placed ≡ placed_of n o) × (left ≡ left_of n o)
 IsPart p n m _ placed left = (placed ≡ []) × (left ≡ [])
 
 -- Those of all modules, from a number on.

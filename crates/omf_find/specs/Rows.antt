@@ -1,5 +1,6 @@
 -- What is shown of findings (this profile's rule): the segments of modules that are found, and their publics (TIS OMF 1.1, "PUBDEF": an offset in a segment).
 use Rattle.std.specs.Prelude.{ℕ, ◌+◌, List, [], ◌∷◌, ◌++◌, flat_map, map, Bool, true, false, Option, Some, None, option_map, option_to_list, slice_get, IsPermutation, if◌then◌else◌}
+use Rattle.std.specs.Box.{box_value}
 use Rattle.std.specs.List.{enumerate_from}
 use Rattle.std.specs.List.Sorted.{IsNonDecreasingBy}
 use Rattle.omf_check.specs.Module.{Module, recs_of}
@@ -16,7 +17,7 @@ use Rattle.omf_find.specs.declared.rows.SegmentRow.{SegmentRow}
 
 -- Where a segment of a module that is found is; nowhere if it is absent.
 abbrev pub base_of : Found → ℕ → Option ℕ
-base_of f i = if is_one_of f.absent.items i then None else option_map (λ p. p.address) (entry f.placement.segments i)
+base_of f i = if is_one_of f.absent i then None else option_map (λ p. p.address) (entry f.placement.segments i)
 
 -- The segments of a module, each that is in the program.
 abbrev pub segment_row : ℕ → Found → ℕ × SegInfo → Option SegmentRow
@@ -26,7 +27,7 @@ abbrev pub segment_rows : ℕ → List Rec → Found → List SegmentRow
 segment_rows number m f = flat_map (λ s. option_to_list (segment_row number f s)) (enumerate_from 1 (segments m))
 
 abbrev pub verdict_segments : ℕ → List Rec → Option Verdict → List SegmentRow
-verdict_segments number m (Some (verdict.Found f)) = segment_rows number m f
+verdict_segments number m (Some (verdict.Found f)) = segment_rows number m (box_value f)
 verdict_segments number m _ = []
 
 -- The publics of a module, each in a segment that is in the program, at its offset there.
@@ -53,7 +54,7 @@ abbrev pub public_rows : Bool → ℕ → List Rec → Found → List NameRow
 public_rows local number m f = flat_map (λ r. record_rows local number f r.kind r.contents) m
 
 abbrev pub verdict_names : ℕ → List Rec → Option Verdict → List NameRow
-verdict_names number m (Some (verdict.Found f)) = public_rows false number m f ++ public_rows true number m f
+verdict_names number m (Some (verdict.Found f)) = public_rows false number m (box_value f) ++ public_rows true number m (box_value f)
 verdict_names number m _ = []
 
 -- Those of all modules, from a number on.

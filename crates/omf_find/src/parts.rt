@@ -46,13 +46,6 @@ struct Seen<'a> {
     found: &'a Found,
 }
 
-/// Whether a segment is one of those that are absent.
-fn is_absent(absent: &[u16], segment: usize) -> bool
-    ensures { result ≡ is_one_of absent.now segment }
-{
-    absent.iter().any(|other| usize::from(*other) == segment)
-}
-
 /// Whether an image has data of a segment.
 fn has_data(image: &Image, segment: u16) -> bool
     ensures { (run : Option Run) × IsRunAt (byte_at image.now segment) 0 run × (result ≡ is_some run) }
@@ -81,12 +74,11 @@ fn address_of(
     ensures address { MatchOption result ⊤ (IsAddress seen.entry.«module».now seen.entry.found.now room.old segment) }
     ensures left { IsLeftOf room.old room.new }
 {
-    let index = usize::from(segment);
-    let is_free = is_absent(&seen.found.absent, index) && has_data(image, segment);
+    let is_free = seen.found.absent.has(segment) && has_data(image, segment);
     if is_free {
         return free_address(seen, room, side, segment);
     }
-    let place = seen.found.placement.segment(index)?;
+    let place = seen.found.placement.segment(usize::from(segment))?;
     Some(place.address)
 }
 
@@ -113,15 +105,14 @@ fn addresses_of(
 
 /// The place of a segment that is at another address if it is absent.
 fn moved(found: &Found, segment: usize, place: Placed, address: Option<&u32>) -> Placed
-    ensures { is_one_of found.now.absent.items segment ≡ false → result ≡ place }
+    ensures { is_one_of found.now.absent segment ≡ false → result ≡ place }
 {
-    if is_absent(&found.absent, segment) {
-        Placed {
+    match u16::try_from(segment) {
+        Ok(index) if found.absent.has(index) => Placed {
             address: address.copied().unwrap_or(place.address),
             frame: place.frame,
-        }
-    } else {
-        place
+        },
+        _ => place,
     }
 }
 
@@ -131,7 +122,7 @@ fn moved_segments(
     found: &Found,
     addresses: &[u32],
 ) -> Result<Vec<Placed>, AllocError>
-    ensures { IfOk result (λ v. AreKept found.now.absent.items 1 found.now.placement.segments v.items) }
+    ensures { IfOk result (λ v. AreKept found.now.absent 1 found.now.placement.segments v.items) }
 {
     let places = found.placement.segments();
     let mut segments = Vec::new(alloc);
@@ -173,7 +164,7 @@ fn externals_of(alloc: Global, placement: &Placement) -> Result<Vec<Placed>, All
 
 /// The placement of a module whose absent segments are at these addresses.
 fn moved_placement(alloc: Global, found: &Found, addresses: &[u32]) -> Result<Placement, AllocError>
-    ensures segments { IfOk result (λ pl. AreKept found.now.absent.items 1 found.now.placement.segments pl.segments) }
+    ensures segments { IfOk result (λ pl. AreKept found.now.absent 1 found.now.placement.segments pl.segments) }
     ensures groups { IfOk result (λ pl. pl.groups ≡ found.now.placement.groups) }
     ensures externals { IfOk result (λ pl. pl.externals ≡ found.now.placement.externals) }
 {

@@ -43,18 +43,11 @@ impl<'a> Model for NameRow<'a> {
     ghost view = { λ r. record { address = r.address; «module» = r.«module»; segment = r.segment; name = r.name.now } };
 }
 
-/// Whether a segment is one of those that are absent.
-fn is_absent(absent: &[u16], segment: u16) -> bool
-    ensures { result ≡ is_one_of absent.now segment }
-{
-    absent.iter().any(|other| *other == segment)
-}
-
 /// The address of a segment; None if it is absent, or there is none.
 fn base_of(found: &Found, segment: u16) -> Option<u32>
     ensures { result ≡ base_of found.now segment }
 {
-    if is_absent(&found.absent, segment) {
+    if found.absent.has(segment) {
         return None;
     }
     match found.placement.segment(usize::from(segment)) {

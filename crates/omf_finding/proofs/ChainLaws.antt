@@ -1,6 +1,8 @@
 -- Modules that a chain of references joins to one that is sure by itself.
 use Rattle.std.proofs.Common.{◌≡◌, ◌⊎◌, inl, inr, ℕ, zero, suc, ◌+◌, ◌<◌, ◌≤◌, Bool, true, false, List, [], ◌∷◌, ◌++◌, length, set, take, drop, refl, sym, ap, subst, ◌∙◌, arith}
-use Rattle.std.specs.Prelude.{Option, Some, None, slice_get, Contains, replicate, ◌||◌}
+use Rattle.std.specs.Prelude.{Option, Some, None, option_map, slice_get, Contains, replicate, ◌||◌}
+use Rattle.std.specs.Box.{box_value}
+use Rattle.std.specs.Global.{Box}
 use Rattle.std.specs.List.{AllZip, list_any}
 use Rattle.std.proofs.lemmas.Bool.{cases_lt}
 use Rattle.std.proofs.lemmas.List.{length-append, length-set}
@@ -12,7 +14,7 @@ use Rattle.omf_check.specs.Listed.{placed_from}
 use Rattle.omf_check.specs.WellFormed.{recs}
 use Rattle.omf_check.specs.Module.{Module, recs_of}
 use Rattle.omf_placement.specs.declared.frame.Placed.{Placed}
-use Rattle.omf_finding.specs.Chain.{AreChained, EndsChain, enough, IsAlone, IsChained, IsDraft, IsSure, Stands, draft_at, draft_in, found_at, found_in, found_with, present_at}
+use Rattle.omf_finding.specs.Chain.{AreChained, Draft, EndsChain, enough, IsAlone, IsChained, IsDraft, IsDraftOf, IsSure, Stands, draft_at, draft_in, found_at, found_in, found_with, present_at}
 use Rattle.omf_finding.specs.Finding.{IsHeld}
 use Rattle.omf_finding.specs.Inner.Chaining.{AreJoined, HasClosed, RefersAt, found_by, has_joined, kept}
 use Rattle.omf_finding.specs.Inner.Shaping.{IsPatternOf, IsShapeOf, bytes_of}
@@ -62,6 +64,10 @@ kept-parts d false f e = absurd (none-some f e)
 pub kept-both : (d : Option Found) (b : Bool) (f : Found) → b ≡ true → d ≡ Some f → kept d b ≡ Some f
 kept-both d b f t e = ap (kept d) t ∙ e
 
+pub kept-found : (d : Draft) (b : Bool) → option_map box_value (kept d b) ≡ kept (option_map box_value d) b
+kept-found d true = refl
+kept-found d false = refl
+
 -- ---- chains
 
 module _ (program : Program) (n : ℕ) (ms : List Module) where
@@ -73,7 +79,7 @@ module _ (program : Program) (n : ℕ) (ms : List Module) where
   pub chained-grows : (at to : ℕ → Option Found) → ((i : ℕ) (f : Found) → at i ≡ Some f → to i ≡ Some f) → (i : ℕ) → IsChained program n ms at i → IsChained program n ms to i
   chained-grows at to h i c = (c.0, chain-grows at to h c.0 i c.1)
 
-  module _ (drafts : List (Option Found)) where
+  module _ (drafts : List Draft) where
     pub found-grows : (marks : List Bool) (j i : ℕ) (f : Found) → found_by drafts marks i ≡ Some f → found_by drafts (set marks j true) i ≡ Some f
     found-grows marks j i f e =
         let both = kept-parts (draft_at drafts i) (has_joined marks i) f e in
@@ -176,11 +182,11 @@ drop-rest (x ∷ xs) ys (suc n) y e =
     ap (λ (k : ℕ). drop k (x ∷ xs)) same ∙ drop-rest xs ys n y e
 
 -- The first n verdicts have the placements of those drafts that have joined.
-pub record AreSo (drafts : List (Option Found)) (marks : List Bool) (vs : List Verdict) (n : ℕ) : Type 0 where
+pub record AreSo (drafts : List Draft) (marks : List Bool) (vs : List Verdict) (n : ℕ) : Type 0 where
   pub count : length vs ≡ n
   pub each : (i : ℕ) → i < n → found_at vs i ≡ found_by drafts marks i
 
-pub so-next : (drafts left : List (Option Found)) (marks : List Bool) (vs ws : List Verdict) (n : ℕ) (v : Verdict) (d : Option Found) → drop n drafts ≡ d ∷ left → found_in v ≡ kept d (has_joined marks n)
+pub so-next : (drafts left : List Draft) (marks : List Bool) (vs ws : List Verdict) (n : ℕ) (v : Verdict) (d : Draft) → drop n drafts ≡ d ∷ left → found_in v ≡ option_map box_value (kept d (has_joined marks n))
     → ws ≡ vs ++ v ∷ [] → AreSo drafts marks vs n → AreSo drafts marks ws (n + 1)
 so-next drafts left marks vs ws n v d e f g h = subst (λ us. AreSo drafts marks us (n + 1)) (sym g) (record { count = longer; each = each })
   where
@@ -190,7 +196,7 @@ so-next drafts left marks vs ws n v d e f g h = subst (λ us. AreSo drafts marks
     here : found_at (vs ++ v ∷ []) n ≡ found_by drafts marks n
     here =
         let at : slice_get (vs ++ v ∷ []) n ≡ Some v = subst (λ k. slice_get (vs ++ v ∷ []) k ≡ Some v) h.count (at-end vs v) in
-        ap found_with at ∙ f ∙ ap (λ o. kept o (has_joined marks n)) (sym (ap draft_in (drop-first drafts left n d e)))
+        ap found_with at ∙ f ∙ kept-found d (has_joined marks n) ∙ ap (λ o. kept o (has_joined marks n)) (sym (ap draft_in (drop-first drafts left n d e)))
 
     each : (i : ℕ) → i < n + 1 → found_at (vs ++ v ∷ []) i ≡ found_by drafts marks i
     each i low = elim (cases_lt i n) [
@@ -198,11 +204,11 @@ so-next drafts left marks vs ws n v d e f g h = subst (λ us. AreSo drafts marks
       | inr l ↦ let same : n ≡ i = omega (arith, l, low) in subst (λ k. found_at (vs ++ v ∷ []) k ≡ found_by drafts marks k) same here
     ]
 
-pub kept-none : (b : Bool) → kept None b ≡ None
+pub kept-none : (b : Bool) → kept {X = Found} None b ≡ None
 kept-none true = refl
 kept-none false = refl
 
-pub so-all : (drafts : List (Option Found)) (marks : List Bool) (vs : List Verdict) (n : ℕ) → length drafts ≤ n → AreSo drafts marks vs n → (i : ℕ) → found_at vs i ≡ found_by drafts marks i
+pub so-all : (drafts : List Draft) (marks : List Bool) (vs : List Verdict) (n : ℕ) → length drafts ≤ n → AreSo drafts marks vs n → (i : ℕ) → found_at vs i ≡ found_by drafts marks i
 so-all drafts marks vs n long h i = elim (cases_lt i n) [
   | inl l ↦ h.each i l
   | inr l ↦
@@ -226,14 +232,23 @@ zip-get R (a ∷ xs) [] i x y h e f = absurd h
 zip-get R (a ∷ xs) (b ∷ ys) zero x y h e f = subst (λ z. R z y) (same_Some a x e) (subst (R a) (same_Some b y f) h.0)
 zip-get R (a ∷ xs) (b ∷ ys) (suc i) x y h e f = zip-get R xs ys i x y h.1 e f
 
-draft-get : (o : Option (Option Found)) (f : Found) → draft_in o ≡ Some f → o ≡ Some (Some f)
+draft-get : (o : Option Draft) (f : Found) → draft_in o ≡ Some f → (b : Box Found) × (o ≡ Some (Some b)) × (box_value b ≡ f)
 draft-get None f e = absurd (none-some f e)
-draft-get (Some d) f e = ap (λ (x : Option Found). Some x) e
+draft-get (Some None) f e = absurd (none-some f e)
+draft-get (Some (Some b)) f e = (b, refl, same_Some (box_value b) f e)
 
-pub held-at : (program : Program) (ms : List Module) (drafts : List (Option Found)) (i : ℕ) (m : Module) (f : Found) → AllZip (IsDraft program) ms drafts → slice_get ms i ≡ Some m → draft_at drafts i ≡ Some f → IsHeld program m f
-held-at program ms drafts i m f h e d = zip-get (IsDraft program) ms drafts i m (Some f) h e (draft-get (slice_get drafts i) f d)
+pub held-at : (program : Program) (ms : List Module) (drafts : List Draft) (i : ℕ) (m : Module) (f : Found) → AllZip (IsDraft program) ms drafts → slice_get ms i ≡ Some m → draft_at drafts i ≡ Some f → IsHeld program m f
+held-at program ms drafts i m f h e d =
+    let there = draft-get (slice_get drafts i) f d in
+    subst (IsHeld program m) there.2 (zip-get (IsDraft program) ms drafts i m (Some there.0) h e there.1)
 
-pub draft-kept : (program : Program) (m : Module) (d : Option Found) (b : Bool) → IsDraft program m d → IsDraft program m (kept d b)
+pub draft-of : (program : Program) (m : Module) (t d : Draft) → IsDraftOf program m t d → IsDraft program m d
+draft-of program m None None h = tt
+draft-of program m None (Some g) h = absurd (none-some g (sym h))
+draft-of program m (Some f) None h = tt
+draft-of program m (Some f) (Some g) h = subst (λ (b : Box Found). IsHeld program m (box_value b)) (sym h.0) h.1
+
+pub draft-kept : (program : Program) (m : Module) (d : Draft) (b : Bool) → IsDraft program m d → IsDraft program m (kept d b)
 draft-kept program m None true h = h
 draft-kept program m None false h = h
 draft-kept program m (Some f) true h = h
@@ -249,7 +264,7 @@ pub zip-first : {A B : Type 0} (R : A → B → Type 0) (xs : List A) (ys : List
 zip-first {B = B} R [] ys e = subst (λ (zs : List B). AllZip R [] zs) (sym e) tt
 zip-first {B = B} R (x ∷ xs) ys e = subst (λ (zs : List B). AllZip R [] zs) (sym e) tt
 
-pub so-first : (drafts : List (Option Found)) (marks : List Bool) (vs : List Verdict) → vs ≡ [] → AreSo drafts marks vs 0
+pub so-first : (drafts : List Draft) (marks : List Bool) (vs : List Verdict) → vs ≡ [] → AreSo drafts marks vs 0
 so-first drafts marks vs e = record { count = ap length e; each = λ i low. absurd (omega (arith, low)) }
 
 pub as-long : (marks after : List Bool) (j : ℕ) → after ≡ set marks j true → length after ≡ length marks

@@ -1,6 +1,7 @@
 -- All modules are found that are to be: the names that those ask for that are found, and what of these others define.
 use Rattle.std.proofs.Common.{◌≡◌, ◌⊎◌, inl, inr, ℕ, zero, suc, ◌+◌, ◌-◌, ◌<◌, ◌≤◌, Bool, true, false, List, [], ◌∷◌, ◌++◌, cond, drop, get_or, length, set, take, refl, sym, ap, ap₂, subst, ◌∙◌, arith, Ordering, Less, Equal, Greater}
-use Rattle.std.specs.Prelude.{◌==◌, ◌&&◌, ◌||◌, not, Err, Ok, OnOk, Result, Option, Some, None, bytes_eq, slice_get, nat_le, if◌then◌else◌}
+use Rattle.std.specs.Prelude.{◌==◌, ◌&&◌, ◌||◌, not, Err, Ok, OnOk, Result, Option, Some, None, option_map, bytes_eq, slice_get, nat_le, if◌then◌else◌}
+use Rattle.std.specs.Box.{box_value}
 use Rattle.std.specs.BTreeSet.{BTreeSet, Updates, contains, insert_key}
 use Rattle.std.specs.Cmp.{unsigned_tied, unsigned_ties}
 use Rattle.std.specs.List.{list_any}
@@ -19,10 +20,10 @@ use Rattle.omf_records.specs.Values.{At, Contents, PublicItem, Publics, Rec}
 use Rattle.omf_check.specs.Module.{Module, recs_of}
 use Rattle.omf_check.specs.Tables.{entry, externals}
 use Rattle.omf_placement.specs.declared.frame.Placed.{Placed}
-use Rattle.omf_finding.specs.Chain.{AreAllFound, IsStart, Refers, RefersTo, Stands, contents_define, defines, draft_at, draft_in, found_at, is_public, present_at, record_defines}
+use Rattle.omf_finding.specs.Chain.{AreAllFound, Draft, IsStart, Refers, RefersTo, Stands, contents_define, defines, draft_at, draft_in, found_at, is_public, present_at, record_defines}
 use Rattle.omf_finding.specs.Inner.Chaining.{HaveJoined, RefersAt, found_by, has_joined, kept}
 use Rattle.omf_finding.specs.Inner.Closing.{Adds, AreAll, AreAllJoined, AreAsked, AsksAt, FirstOf, HasOneMore, HaveAsked, IsAskedOf, IsIdle, RefersBy, Spot, Spots, contents_asked, has_spot, is_asked, left_of, public_asked, publics_asked, record_asked, spot_cmp, unreferenced_by}
-use Rattle.omf_finding.proofs.ChainLaws.{as-long, at-end, at-left, drop-first, found-grows, joined-more, joined-sure, kept-both, kept-none, kept-parts}
+use Rattle.omf_finding.proofs.ChainLaws.{as-long, at-end, at-left, drop-first, found-grows, joined-more, joined-sure, kept-both, kept-found, kept-none, kept-parts}
 use Rattle.omf_finding.specs.declared.chaining.Tried.{Tried}
 use Rattle.omf_finding.specs.declared.findings.Found.{Found}
 use Rattle.omf_finding.specs.declared.findings.Verdict.{Verdict}
@@ -90,23 +91,6 @@ one-more k old new e cs b =
     same x equal =
         let both = and_parts (k.0 == x.0) (bytes_eq k.1.now x.1.now) (sym (spot-tied k.0 x.0 k.1.now x.1.now) ∙ ap is_eq equal) in
         ap₂ (λ (a : ℕ) (ns : List ℕ). is_eq (ordering_then (nat_cmp b a) (name_cmp cs ns))) (eqb-true k.0 x.0 both.0) ((bytes_eq-Decides k.1.now x.1.now).0 both.1)
-
--- ---- a set of numbers
-
-or-only : (b a : Bool) → cond b true a ≡ (a || (b || false))
-or-only true true = refl
-or-only true false = refl
-or-only false true = refl
-or-only false false = refl
-
--- A set of the first elements of a list gets the next one.
-pub one-more-of : (s n : BTreeSet ℕ) (xs : List ℕ) (i d : ℕ) → i < length xs → Updates nat_cmp s n (get_or xs i d) true → ((q : ℕ) → contains nat_cmp s q ≡ is_one_of (take i xs) q)
-    → (q : ℕ) → contains nat_cmp n q ≡ is_one_of (take (i + 1) xs) q
-one-more-of s n xs i d l u h q =
-    let k : ℕ = get_or xs i d in
-    let e : i + 1 ≡ suc i = omega arith in
-    rw e (u.0 q ∙ ap₂ (λ (b a : Bool). cond b true a) (unsigned_tied k q) (h q) ∙ or-only (k == q) (is_one_of (take i xs) q)
-    ∙ sym (ap (λ (ys : List ℕ). is_one_of ys q) (take-suc xs i d l) ∙ list_any-append (λ j. j == q) (take i xs) (k ∷ [])))
 
 -- ---- additions
 
@@ -196,7 +180,7 @@ pub by-one : (m : List Rec) (f : Found) (external : ℕ) (name : List ℕ) (plac
 by-one m f external name place address is at same cs b r =
     (same_Some cs name (sym r.named.name_is ∙ is), sym r.address_is ∙ ap (λ (p : Placed). p.address) (same_Some r.place place (sym r.place_is ∙ at)) ∙ same)
 
-pub asks-one : (ms : List Module) (drafts : List (Option Found)) (marks : List Bool) (i : ℕ) (m : Module) (f : Found) → slice_get ms i ≡ Some m → draft_at drafts i ≡ Some f → has_joined marks i ≡ true → (old new : Spots)
+pub asks-one : (ms : List Module) (drafts : List Draft) (marks : List Bool) (i : ℕ) (m : Module) (f : Found) → slice_get ms i ≡ Some m → draft_at drafts i ≡ Some f → has_joined marks i ≡ true → (old new : Spots)
     → Adds old new (RefersTo (recs_of m.bytes) f) → Adds old new (AsksAt ms drafts marks i)
 asks-one ms drafts marks i m f is draft marked old new h = adds-as old new (RefersTo (recs_of m.bytes) f) (AsksAt ms drafts marks i) to from h
   where
@@ -208,14 +192,14 @@ asks-one ms drafts marks i m f is draft marked old new h = adds-as old new (Refe
         subst (λ (n : Module). RefersTo (recs_of n.bytes) f cs b) (same_Some a.m m (sym a.module_is ∙ is))
         (subst (λ (g : Found). RefersTo (recs_of a.m.bytes) g cs b) (same_Some a.f f (sym (kept-parts (draft_at drafts i) (has_joined marks i) a.f a.found_is).1 ∙ draft)) a.refers)
 
-pub asks-none : (ms : List Module) (drafts : List (Option Found)) (marks : List Bool) (i : ℕ) → has_joined marks i ≡ false → (old : Spots) → Adds old old (AsksAt ms drafts marks i)
+pub asks-none : (ms : List Module) (drafts : List Draft) (marks : List Bool) (i : ℕ) → has_joined marks i ≡ false → (old : Spots) → Adds old old (AsksAt ms drafts marks i)
 asks-none ms drafts marks i out old = adds-none old (AsksAt ms drafts marks i) (λ cs b a. false≢true (sym out ∙ (kept-parts (draft_at drafts i) (has_joined marks i) a.f a.found_is).0))
 
-pub asks-no-draft : (ms : List Module) (drafts : List (Option Found)) (marks : List Bool) (i : ℕ) → ((m : Module) (f : Found) → slice_get ms i ≡ Some m → draft_at drafts i ≡ Some f → ⊥) → (old : Spots) → Adds old old (AsksAt ms drafts marks i)
+pub asks-no-draft : (ms : List Module) (drafts : List Draft) (marks : List Bool) (i : ℕ) → ((m : Module) (f : Found) → slice_get ms i ≡ Some m → draft_at drafts i ≡ Some f → ⊥) → (old : Spots) → Adds old old (AsksAt ms drafts marks i)
 asks-no-draft ms drafts marks i none old =
     adds-none old (AsksAt ms drafts marks i) (λ cs b a. none a.m a.f a.module_is (kept-parts (draft_at drafts i) (has_joined marks i) a.f a.found_is).1)
 
-pub asks-all : (ms : List Module) (drafts : List (Option Found)) (marks : List Bool) (n : ℕ) → length ms ≤ n → (old new : Spots) → old.keys ≡ [] → Adds old new (FirstOf n (AsksAt ms drafts marks)) → AreAsked ms drafts marks new
+pub asks-all : (ms : List Module) (drafts : List Draft) (marks : List Bool) (n : ℕ) → length ms ≤ n → (old new : Spots) → old.keys ≡ [] → Adds old new (FirstOf n (AsksAt ms drafts marks)) → AreAsked ms drafts marks new
 asks-all ms drafts marks n long old new empty h = record { has = has; only = only }
   where
     has : (i : ℕ) (name : List ℕ) (address : ℕ) → AsksAt ms drafts marks i name address → has_spot new name address ≡ true
@@ -445,14 +429,14 @@ module _ (t : Tried) where
 -- ---- verdicts
 
 -- The first n placements of those that are not found are those of the drafts that have not joined.
-pub record AreLeft (drafts : List (Option Found)) (marks : List Bool) (us : List (Option Found)) (n : ℕ) : Type 0 where
+pub record AreLeft (drafts : List Draft) (marks : List Bool) (us : List Draft) (n : ℕ) : Type 0 where
   pub count : length us ≡ n
   pub each : (i : ℕ) → i < n → draft_at us i ≡ unreferenced_by drafts marks i
 
-pub left-first : (drafts : List (Option Found)) (marks : List Bool) (us : List (Option Found)) → us ≡ [] → AreLeft drafts marks us 0
+pub left-first : (drafts : List Draft) (marks : List Bool) (us : List Draft) → us ≡ [] → AreLeft drafts marks us 0
 left-first drafts marks us e = record { count = ap length e; each = λ i low. absurd (omega (arith, low)) }
 
-pub left-next : (drafts left : List (Option Found)) (marks : List Bool) (us ws : List (Option Found)) (n : ℕ) (u d : Option Found) → drop n drafts ≡ d ∷ left → u ≡ kept d (not (has_joined marks n)) → ws ≡ us ++ u ∷ []
+pub left-next : (drafts left : List Draft) (marks : List Bool) (us ws : List Draft) (n : ℕ) (u d : Draft) → drop n drafts ≡ d ∷ left → u ≡ kept d (not (has_joined marks n)) → ws ≡ us ++ u ∷ []
     → AreLeft drafts marks us n → AreLeft drafts marks ws (n + 1)
 left-next drafts left marks us ws n u d e f g h = subst (λ vs. AreLeft drafts marks vs (n + 1)) (sym g) (record { count = longer; each = each })
   where
@@ -462,7 +446,7 @@ left-next drafts left marks us ws n u d e f g h = subst (λ vs. AreLeft drafts m
     here : draft_at (us ++ u ∷ []) n ≡ unreferenced_by drafts marks n
     here =
         let at : slice_get (us ++ u ∷ []) n ≡ Some u = subst (λ k. slice_get (us ++ u ∷ []) k ≡ Some u) h.count (at-end us u) in
-        ap draft_in at ∙ f ∙ ap (λ o. kept o (not (has_joined marks n))) (sym (ap draft_in (drop-first drafts left n d e)))
+        ap draft_in at ∙ ap (option_map box_value) f ∙ kept-found d (not (has_joined marks n)) ∙ ap (λ o. kept o (not (has_joined marks n))) (sym (ap draft_in (drop-first drafts left n d e)))
 
     each : (i : ℕ) → i < n + 1 → draft_at (us ++ u ∷ []) i ≡ unreferenced_by drafts marks i
     each i low = elim (cases_lt i n) [
@@ -470,7 +454,7 @@ left-next drafts left marks us ws n u d e f g h = subst (λ vs. AreLeft drafts m
       | inr l ↦ let same : n ≡ i = omega (arith, l, low) in subst (λ k. draft_at (us ++ u ∷ []) k ≡ unreferenced_by drafts marks k) same here
     ]
 
-pub left-all : (drafts : List (Option Found)) (marks : List Bool) (us : List (Option Found)) (n : ℕ) → length drafts ≤ n → AreLeft drafts marks us n → (i : ℕ) → draft_at us i ≡ unreferenced_by drafts marks i
+pub left-all : (drafts : List Draft) (marks : List Bool) (us : List Draft) (n : ℕ) → length drafts ≤ n → AreLeft drafts marks us n → (i : ℕ) → draft_at us i ≡ unreferenced_by drafts marks i
 left-all drafts marks us n long h i = elim (cases_lt i n) [
   | inl l ↦ h.each i l
   | inr l ↦
@@ -488,7 +472,7 @@ not-kept : (d : Option Found) (b : Bool) → b ≡ true → kept d (not b) ≡ N
 not-kept d true e = refl
 not-kept d false e = absurd (false≢true e)
 
-pub all-found : (program : Program) (ms : List Module) (drafts : List (Option Found)) (marks : List Bool) (vs : List Verdict) (us : List (Option Found)) → ((i : ℕ) → found_at vs i ≡ found_by drafts marks i)
+pub all-found : (program : Program) (ms : List Module) (drafts : List Draft) (marks : List Bool) (vs : List Verdict) (us : List Draft) → ((i : ℕ) → found_at vs i ≡ found_by drafts marks i)
     → ((i : ℕ) → draft_at us i ≡ unreferenced_by drafts marks i) → AreAllJoined program ms drafts marks → AreAllFound program ms vs us
 all-found program ms drafts marks vs us same others h = record { apart = apart; started = started; followed = followed }
   where

@@ -19,8 +19,8 @@ use Rattle.omf_reloc.specs.Plain.{pieces}
 use Rattle.omf_reloc.specs.Reach.{Reaches}
 use Rattle.omf_reloc.proofs.InsideLaws.{all-inside}
 use Rattle.omf_reloc.proofs.ReachLaws.{reach-decided}
-use Rattle.omf_finding.specs.Found.{program_byte, byte_there, IsFound}
-use Rattle.omf_finding.specs.Inner.Agreeing.{FirstAgree}
+use Rattle.omf_finding.specs.Found.{program_byte, byte_there, IsFound, IsFoundInPart}
+use Rattle.omf_finding.specs.Inner.Agreeing.{ComparedBelow, FirstAgree}
 use Rattle.omf_finding.proofs.LastLaws.{last_from, last-cons}
 
 -- What every piece shows that covers a place, a byte at that place shows.
@@ -87,3 +87,18 @@ module _ (pl : Places) (m : List Rec) (holds : ModuleHolds profile_limits m) whe
         let back : k + 1 - 1 ≡ k = omega arith in
         let at : entry pl.segments (k + 1) ≡ Some place = ap (λ t. cond t (slice_get pl.segments (k + 1 - 1)) None) one ∙ ap (slice_get pl.segments) back ∙ e in
         sym (there (k + 1) x place at) ∙ h.bytes (k + 1) x b none (sym (same (k + 1) x) ∙ s)
+
+    -- The byte that is compared is in one of the segments of the placement.
+    pub part-compared : IsFoundInPart m pl absent program base → ComparedBelow bytes absent (length pl.segments)
+    part-compared h =
+        let some = some-of (image profile_limits pl m h.segment h.x) h.byte in
+        let both = and_parts (nat_le 1 h.segment) (nat_le h.segment (length (segments m))) (segment-defined h.segment h.x some.0 some.1) in
+        let one = leb-true 1 h.segment both.0 in
+        let most = leb-true h.segment (length (segments m)) both.1 in
+        let back : h.segment - 1 + 1 ≡ h.segment = omega (arith, one) in
+        record {
+          k = h.segment - 1;
+          low = omega (arith, one, most, count);
+          compared = ap (is_one_of absent) back ∙ h.compared;
+          has = record { x = h.x; byte = subst IsSome (sym (ap (λ (n : ℕ). byte_at bytes n h.x) back ∙ same h.segment h.x)) h.byte };
+        }

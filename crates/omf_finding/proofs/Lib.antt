@@ -10,6 +10,7 @@ pub mod SaidLaws
 pub mod AmongLaws
 mod TellingLaws
 mod CompareLaws
+mod IndexLaws
 pub mod IntervalLaws
 pub mod AgreesLaws
 pub mod ChunkLaws

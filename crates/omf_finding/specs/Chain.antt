@@ -2,7 +2,9 @@
 -- placement, at which it is in the program; no definition fixes which one. Found are all modules in question that are at the program's start, and with a
 -- module that is found all modules in question to which it refers. One that is sure by its bytes alone need not be found: it is not if other segments rival its
 -- bytes, or if another segment of its own is nowhere. No order of the modules is in it.
-use Rattle.std.specs.Prelude.{◌≡◌, ◌⊎◌, ℕ, zero, suc, ◌+◌, ◌*◌, ◌/◌, ◌≤◌, List, length, Bool, true, false, ◌&&◌, ◌==◌, bytes_eq, codes, eqb, Option, Some, None, option_and_then, slice_get, IfSome, if◌then◌else◌}
+use Rattle.std.specs.Prelude.{◌≡◌, ◌⊎◌, ℕ, zero, suc, ◌+◌, ◌*◌, ◌/◌, ◌≤◌, List, length, Bool, true, false, ◌&&◌, ◌==◌, bytes_eq, codes, eqb, Option, Some, None, option_and_then, option_map, slice_get, IfSome, if◌then◌else◌}
+use Rattle.std.specs.Box.{box_value}
+use Rattle.std.specs.Global.{Box}
 use Rattle.std.specs.List.{ends_with, list_any}
 use Rattle.omf_frame.specs.Bytes.{is_one_of}
 use Rattle.omf_frame.specs.Types.{is_local}
@@ -25,7 +27,7 @@ use Rattle.omf_finding.specs.declared.program.Program.{Program}
 
 -- The place of a segment that is not absent.
 abbrev pub present_at : Found → ℕ → Option Placed
-present_at f segment = if is_one_of f.absent.items segment then None else entry f.placement.segments segment
+present_at f segment = if is_one_of f.absent segment then None else entry f.placement.segments segment
 
 -- A segment is of code if the name of its class ends with CODE.
 abbrev pub is_code_name : Option (List ℕ) → Bool
@@ -86,7 +88,7 @@ pub record RefersTo (m : List Rec) (f : Found) (name : List ℕ) (address : ℕ)
   pub external : ℕ
   pub name_is : entry (externals m) external ≡ Some name
   pub shared : entry (locals m) external ≡ Some false
-  pub known : is_one_of f.unknown.items external ≡ false
+  pub known : is_one_of f.unknown external ≡ false
   pub place : Placed
   pub place_is : entry f.placement.externals external ≡ Some place
   pub address_is : place.address ≡ address
@@ -119,7 +121,7 @@ IsChained program n ms at i = (k : ℕ) × EndsChain program n ms at k i
 
 -- The placement of a module that is found.
 abbrev pub found_in : Verdict → Option Found
-found_in (verdict.Found f) = Some f
+found_in (verdict.Found f) = Some (box_value f)
 found_in _ = None
 
 abbrev pub found_with : Option Verdict → Option Found
@@ -136,20 +138,29 @@ AreChained program n ms vs = (i : ℕ) (f : Found) → found_at vs i ≡ Some f 
 -- ---- all of them
 
 -- A draft of a module is a placement at which it is in the program, or none.
-abbrev pub IsDraft : Program → Module → Option Found → Type 0
-IsDraft program m draft = IfSome draft (IsHeld program m)
+abbrev pub Draft : Type 0
+Draft = Option (Box Found)
 
-abbrev pub draft_in : Option (Option Found) → Option Found
+abbrev pub IsDraft : Program → Module → Draft → Type 0
+IsDraft program m draft = IfSome draft (λ f. IsHeld program m (box_value f))
+
+-- It is the placement at which the module was tried, exactly if the module is in the program there.
+abbrev pub IsDraftOf : Program → Module → Draft → Draft → Type 0
+IsDraftOf program m None draft = draft ≡ None
+IsDraftOf program m (Some f) None = IsHeld program m (box_value f) → ⊥
+IsDraftOf program m (Some f) (Some g) = (g ≡ f) × IsHeld program m (box_value f)
+
+abbrev pub draft_in : Option Draft → Option Found
 draft_in None = None
-draft_in (Some draft) = draft
+draft_in (Some draft) = option_map box_value draft
 
 -- The draft of the module with this number.
-abbrev pub draft_at : List (Option Found) → ℕ → Option Found
+abbrev pub draft_at : List Draft → ℕ → Option Found
 draft_at drafts i = draft_in (slice_get drafts i)
 
 -- Of all modules in question these are found. The others are at these placements in the program, but none of them is at the program's start, and no module that
 -- is found refers to one of them.
-pub record AreAllFound (program : Program) (ms : List Module) (vs : List Verdict) (unreferenced : List (Option Found)) : Type 0 where
+pub record AreAllFound (program : Program) (ms : List Module) (vs : List Verdict) (unreferenced : List Draft) : Type 0 where
   pub apart : (i : ℕ) (f : Found) → found_at vs i ≡ Some f → draft_at unreferenced i ≡ None
   pub started : (i : ℕ) (m : Module) (f : Found) → Stands ms (draft_at unreferenced) i m f → IsStart program m f → ⊥
   pub followed : (i j : ℕ) (m : Module) (f : Found) (other : Module) (g : Found) → Stands ms (found_at vs) i m f → Stands ms (draft_at unreferenced) j other g → Refers (recs_of m.bytes) f (recs_of other.bytes) g → ⊥

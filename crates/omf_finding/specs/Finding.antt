@@ -1,5 +1,6 @@
 -- The verdicts of a search on modules.
 use Rattle.std.specs.Prelude.{◌≡◌, ◌⊎◌, ◌<◌, ◌≤◌, ◌+◌, ◌^◌, ℕ, List, Contains, Option, Some, false, true, length}
+use Rattle.std.specs.Box.{box_value}
 use Rattle.std.specs.List.Sorted.{IsStrictlyIncreasing}
 use Rattle.omf_check.specs.Module.{Module, recs_of}
 use Rattle.omf_image.specs.Limits.{profile_limits}
@@ -16,7 +17,7 @@ use Rattle.omf_finding.specs.Pattern.{pattern}
 
 -- A module is in a program at this placement, but for the absent segments; some segment with data is there.
 abbrev pub IsHeld : Program → Module → Found → Type 0
-IsHeld program m found = IsFoundInPart (recs_of m.bytes) found.placement found.absent.items program.bytes.items program.base
+IsHeld program m found = IsFoundInPart (recs_of m.bytes) found.placement found.absent program.bytes.items program.base
 
 -- A segment of a module agrees with a program at an address.
 abbrev pub IsAt : Program → Module → ℕ → ℕ → Type 0
@@ -78,6 +79,6 @@ IsNowhere program m = IsInside program → (segment address : ℕ) → IsSought 
 -- A module with the verdict Found is in the program; one with Possible may be, at the places that are listed, of at least one segment; one with
 -- NotThere is not, so far as it is searched for.
 abbrev pub IsTold : Program → ℕ → Module → Verdict → Type 0
-IsTold program most m (verdict.Found found) = IsHeld program m found
+IsTold program most m (verdict.Found found) = IsHeld program m (box_value found)
 IsTold program most m (verdict.Possible candidates) = (0 < length candidates.items) × AreCandidates program most m candidates.items
 IsTold program most m verdict.NotThere = IsNowhere program m

@@ -1,5 +1,6 @@
 -- A module is in a program at a placement.
-use Rattle.std.specs.Prelude.{◌≡◌, ℕ, ◌+◌, ◌-◌, List, nat_le, false, Option, Some, None, IsSome, slice_get, if◌then◌else◌}
+use Rattle.std.specs.Prelude.{◌≡◌, ℕ, ◌+◌, ◌-◌, List, [], ◌∷◌, ◌++◌, nat_le, nat_lt, false, Option, Some, None, IsSome, slice_get, if◌then◌else◌}
+use Rattle.std.specs.List.{list_all}
 use Rattle.std.specs.Option.{option_and_then}
 use Rattle.omf_frame.specs.Bytes.{is_one_of}
 use Rattle.omf_records.specs.Values.{Rec}
@@ -16,6 +17,10 @@ program_byte program base address = if nat_le base address then slice_get progra
 -- The byte of a program at the address of offset x of a segment: that of the segment's entry, and x.
 abbrev pub byte_there : Places → List ℕ → ℕ → ℕ → ℕ → Option ℕ
 byte_there pl program base segment x = option_and_then (λ p. program_byte program base (p.address + x)) (entry pl.segments segment)
+
+-- Indices in ascending order, with one more if it is greater than all.
+abbrev pub with_index : List ℕ → ℕ → List ℕ
+with_index ns n = if list_all (λ k. nat_lt k n) ns then ns ++ n ∷ [] else ns
 
 -- The placement reaches, and each byte of the image is the program's at its address, but for the segments that are named as absent: a
 -- linker may leave out what nothing refers to.

@@ -44,7 +44,7 @@ impl<'a> Search<'a> {
         found: &Found,
         external: u16,
     ) -> Result<Option<u32>, AllocError> {
-        if found.unknown.binary_search(&external).is_ok() {
+        if found.unknown.has(external) {
             return Ok(None);
         }
         if self.known_external(module, external)?.address.is_some() {

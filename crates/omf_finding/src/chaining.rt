@@ -15,7 +15,6 @@ use crate::closed::closed_bytes;
 use crate::defined::{Defined, DefinedNames};
 use crate::findings::Found;
 use crate::following::Search;
-use crate::found::is_absent;
 use crate::patterning::{Pattern, marked_pattern};
 use crate::program::Program;
 use crate::shapes::{Shape, count_closed};
@@ -35,7 +34,7 @@ pub(crate) struct Tried<'a, 'b, 'c> {
     pub(crate) program: &'b Program,
     pub(crate) modules: &'c [Checked],
     pub(crate) shapes: &'b [Vec<Shape>],
-    pub(crate) drafts: &'b [Option<Found>],
+    pub(crate) drafts: &'b [Option<Box<Found>>],
     /// The number of closed bytes from which on a segment with one place is sure by itself.
     pub(crate) least: usize,
     /// The number of places that are listed of a segment at most.
@@ -46,7 +45,7 @@ pub(crate) struct Tried<'a, 'b, 'c> {
 pub(crate) fn present_at(found: &Found, segment: u16) -> Option<Placed>
     ensures { result ≡ present_at found.now segment }
 {
-    if is_absent(&found.absent, segment) {
+    if found.absent.has(segment) {
         return None;
     }
     found.placement.segment(usize::from(segment))
@@ -178,14 +177,15 @@ fn defines(module: &Checked, name: &[u8], segment: u16, offset: u32) -> bool
 }
 
 /// The name of an external that is not local, if something shows where it is.
-fn known_name<'a>(module: &'a Checked, found: &Found, external: u16) -> Option<&'a [u8]>
-    ensures { IfSome result (λ name. IsKnown (recs_of «module».entry.now.bytes) found.now external name.now) }
+pub(crate) fn known_name<'a>(module: &'a Checked, found: &Found, external: u16) -> Option<&'a [u8]>
+    ensures some { IfSome result (λ name. IsKnown (recs_of «module».entry.now.bytes) found.now external name.now) }
+    ensures none { IfNone result ((name : List ℕ) → IsKnown (recs_of «module».entry.now.bytes) found.now external name → ⊥) }
 {
     let is_local = module.local(external)?;
     if is_local {
         return None;
     }
-    if is_absent(&found.unknown, external) {
+    if found.unknown.has(external) {
         return None;
     }
     let name = module.external(external)?;
@@ -315,7 +315,7 @@ impl<'a, 'b, 'c> Tried<'a, 'b, 'c> {
     fn seems_alone(self, number: usize, found: &Found, shapes: &[Shape]) -> bool {
         shapes.iter().any(|shape| match only_place(shape) {
             Some(address) => self.is_single(number, shape.segment, address)
-                && found.absent.binary_search(&shape.segment).is_err(),
+                && !found.absent.has(shape.segment),
             None => false,
         })
     }
@@ -511,7 +511,7 @@ impl<'a, 'b, 'c> Tried<'a, 'b, 'c> {
         };
         for before in 0..module.externals() {
             let external = before + 1;
-            if found.unknown.binary_search(&external).is_err() {
+            if !found.unknown.has(external) {
                 self.follow(joined, names, number, external)?;
             }
         }

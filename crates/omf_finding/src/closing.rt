@@ -1,64 +1,28 @@
 //! Whether all modules are found that are to be: each one to which a module that is found refers, and each one at the program's start.
 
-ghost use Rattle.std.specs.Prelude.{◌≡◌, ◌+◌, ◌<◌, ◌⊎◌, ℕ, List, false, length, true, IfNone, IfOk, IfSome, OnOk};
+ghost use Rattle.std.specs.Prelude.{◌≡◌, ◌+◌, ◌<◌, ◌⊎◌, ℕ, List, false, length, true, IfOk, OnOk};
 ghost use Rattle.std.specs.List.{AllZip, list_any};
 ghost use Rattle.omf_check.specs.Module.{recs_of};
 ghost use Rattle.omf_reloc.specs.Reach.{Reaches};
 ghost use Rattle.omf_finding.specs.Chain.{IsDraft, IsStart, RefersTo};
-ghost use Rattle.omf_finding.specs.Inner.Chaining.{HaveJoined, IsKnown};
-ghost use Rattle.omf_finding.specs.Inner.Closing.{Adds, AreAll, AsksAt, HasOneMore, HaveAsked, IsAskedOf, IsIdle, IsUnknownOf, RefersBy, has_spot, is_asked, left_of, public_asked, record_asked};
+ghost use Rattle.omf_finding.specs.Inner.Chaining.{HaveJoined};
+ghost use Rattle.omf_finding.specs.Inner.Closing.{Adds, AreAll, AsksAt, HasOneMore, HaveAsked, IsAskedOf, IsIdle, RefersBy, has_spot, is_asked, left_of, public_asked, record_asked};
 
-use crate::chaining::{Joined, Tried, is_start, present_at};
+use crate::chaining::{Joined, Tried, is_start, known_name, present_at};
 use crate::findings::Found;
 use omf_check::{Checked, Undecoded};
 use omf_names::NameKey;
 use omf_records::{Items, Public};
-use std::alloc::{AllocError, Global};
+use std::alloc::AllocError;
 use std::collections::BTreeSet;
-
-/// The externals of a module that nothing places, as a set: a module may have many.
-fn unknown_of(alloc: Global, found: &Found) -> Result<BTreeSet<u16>, AllocError>
-    ensures { IfOk result (IsUnknownOf found.now) }
-{
-    let unknown = found.unknown.as_slice();
-    let mut set = BTreeSet::new(alloc);
-    for external in unknown {
-        set.insert(*external)?;
-    }
-    Ok(set)
-}
-
-/// Where a module is, with the externals that nothing places.
-#[derive(Clone, Copy)]
-struct Placing<'b> {
-    found: &'b Found,
-    unknown: &'b BTreeSet<u16>,
-}
-
-/// The name of an external that is not local, if something shows where it is.
-fn asked_name<'a>(module: &'a Checked, placing: Placing<'_>, external: u16) -> Option<&'a [u8]>
-    requires { IsUnknownOf placing.found.now placing.unknown.now }
-    ensures some { IfSome result (λ name. IsKnown (recs_of «module».entry.now.bytes) placing.entry.found.now external name.now) }
-    ensures none { IfNone result ((name : List ℕ) → IsKnown (recs_of «module».entry.now.bytes) placing.entry.found.now external name → ⊥) }
-{
-    let is_local = module.local(external)?;
-    if is_local {
-        return None;
-    }
-    if placing.unknown.contains(&external) {
-        return None;
-    }
-    let name = module.external(external)?;
-    Some(name.0)
-}
 
 /// The names that modules ask for, each with an address that it has for one of them.
 #[derive(Drop)]
-struct Asks<'a> {
+struct ReferredNames<'a> {
     spots: BTreeSet<(u64, NameKey<'a>)>,
 }
 
-impl<'a> Asks<'a> {
+impl<'a> ReferredNames<'a> {
     /// Adds a name at an address.
     fn add(&mut self, name: &'a [u8], address: u64) -> Result<(), AllocError>
         ensures { OnOk result (HasOneMore self.old.spots self.new.spots name.entry.now address) }
@@ -78,37 +42,26 @@ impl<'a> Asks<'a> {
     fn add_external(
         &mut self,
         module: &'a Checked,
-        placing: Placing<'_>,
+        found: &Found,
         external: u16,
     ) -> Result<(), AllocError>
-        requires { IsUnknownOf placing.found.now placing.unknown.now }
-        ensures { OnOk result (Adds self.old.spots self.new.spots (RefersBy (recs_of «module».entry.now.bytes) placing.entry.found.now external)) }
+        ensures { OnOk result (Adds self.old.spots self.new.spots (RefersBy (recs_of «module».entry.now.bytes) found.now external)) }
     {
-        let Some(place) = placing.found.placement.external(usize::from(external)) else {
+        let Some(place) = found.placement.external(usize::from(external)) else {
             return Ok(());
         };
-        match asked_name(module, placing, external) {
+        match known_name(module, found, external) {
             Some(name) => self.add(name, u64::from(place.address)),
             None => Ok(()),
         }
     }
 
     /// Adds the names to which a module at its placement refers.
-    fn add_module(
-        &mut self,
-        alloc: Global,
-        module: &'a Checked,
-        found: &Found,
-    ) -> Result<(), AllocError>
+    fn add_module(&mut self, module: &'a Checked, found: &Found) -> Result<(), AllocError>
         ensures { OnOk result (Adds self.old.spots self.new.spots (RefersTo (recs_of «module».entry.now.bytes) found.now)) }
     {
-        let unknown = unknown_of(alloc, found)?;
-        let placing = Placing {
-            found,
-            unknown: &unknown,
-        };
         for before in 0..module.externals() {
-            self.add_external(module, placing, before + 1)?;
+            self.add_external(module, found, before + 1)?;
         }
         Ok(())
     }
@@ -157,60 +110,65 @@ impl<'a> Asks<'a> {
 }
 
 impl<'a, 'b, 'c> Tried<'a, 'b, 'c> {
-    /// Adds what a module asks for, if it has joined.
-    fn add_asks(self, asks: &mut Asks<'c>, joined: &Joined, number: usize) -> Result<(), AllocError>
-        ensures { OnOk result (Adds asks.old.spots asks.new.spots (AsksAt self.entry.modules.now self.entry.drafts.now joined.now.marks.items number)) }
+    /// Adds the names to which a module refers, if it has joined.
+    fn add_names(
+        self,
+        names: &mut ReferredNames<'c>,
+        joined: &Joined,
+        number: usize,
+    ) -> Result<(), AllocError>
+        ensures { OnOk result (Adds names.old.spots names.new.spots (AsksAt self.entry.modules.now self.entry.drafts.now joined.now.marks.items number)) }
     {
         if !joined.has(number) {
             return Ok(());
         }
         match self.draft(number) {
-            Some((module, found)) => asks.add_module(self.alloc, module, found),
+            Some((module, found)) => names.add_module(module, found),
             None => Ok(()),
         }
     }
 
     /// What the modules ask for that have joined.
-    fn asks(self, joined: &Joined) -> Result<Asks<'c>, AllocError>
+    fn referred_names(self, joined: &Joined) -> Result<ReferredNames<'c>, AllocError>
         ensures { IfOk result (λ a. HaveAsked self.entry joined.now.marks.items a.spots) }
     {
-        let mut asks = Asks {
+        let mut names = ReferredNames {
             spots: BTreeSet::new(self.alloc),
         };
         for number in 0..self.modules.len() {
-            self.add_asks(&mut asks, joined, number)?;
+            self.add_names(&mut names, joined, number)?;
         }
-        Ok(asks)
+        Ok(names)
     }
 
     /// Whether a module that has not joined is to be found.
-    fn is_due(self, asks: &Asks<'c>, module: &'c Checked, found: &Found) -> bool
+    fn is_due(self, names: &ReferredNames<'c>, module: &'c Checked, found: &Found) -> bool
         requires { Reaches found.now.placement (recs_of «module».now.bytes) }
-        ensures some { result ≡ true → IsStart self.entry.program.now «module».entry.now found.now ⊎ (is_asked asks.now.spots found.now (recs_of «module».entry.now.bytes) ≡ true) }
+        ensures some { result ≡ true → IsStart self.entry.program.now «module».entry.now found.now ⊎ (is_asked names.now.spots found.now (recs_of «module».entry.now.bytes) ≡ true) }
         ensures start { result ≡ false → IsStart self.entry.program.now «module».entry.now found.now → ⊥ }
-        ensures asked { result ≡ false → is_asked asks.now.spots found.now (recs_of «module».entry.now.bytes) ≡ false }
+        ensures asked { result ≡ false → is_asked names.now.spots found.now (recs_of «module».entry.now.bytes) ≡ false }
     {
         if is_start(self.program, module, found) {
             return true;
         }
-        asks.has_module(module, found)
+        names.has_module(module, found)
     }
 
     /// Joins a module that is to be found, and returns whether it was one.
     fn join_due(
         self,
         joined: &mut Joined,
-        asks: &Asks<'c>,
+        names: &ReferredNames<'c>,
         number: usize,
     ) -> Result<bool, AllocError>
         requires low { number < length self.modules.now }
         requires drafts { AllZip (IsDraft self.program.now) self.modules.now self.drafts.now }
         requires joined { HaveJoined self joined.old.marks.items }
-        requires asked { IsAskedOf self joined.old.marks.items asks.now.spots }
+        requires asked { IsAskedOf self joined.old.marks.items names.now.spots }
         ensures joined { OnOk result (HaveJoined self.entry joined.new.marks.items) }
-        ensures asked { OnOk result (IsAskedOf self.entry joined.new.marks.items asks.now.spots) }
+        ensures asked { OnOk result (IsAskedOf self.entry joined.new.marks.items names.now.spots) }
         ensures same { IfOk result (λ r. r ≡ false → joined.new.marks.items ≡ joined.old.marks.items) }
-        ensures idle { IfOk result (λ r. r ≡ false → IsIdle self.entry joined.old.marks.items asks.now.spots number) }
+        ensures idle { IfOk result (λ r. r ≡ false → IsIdle self.entry joined.old.marks.items names.now.spots number) }
         ensures fewer { IfOk result (λ r. r ≡ true → left_of joined.new.marks.items < left_of joined.old.marks.items) }
     {
         if joined.has(number) {
@@ -219,7 +177,7 @@ impl<'a, 'b, 'c> Tried<'a, 'b, 'c> {
         let Some((module, found)) = self.draft(number) else {
             return Ok(false);
         };
-        if !self.is_due(asks, module, found) {
+        if !self.is_due(names, module, found) {
             return Ok(false);
         }
         joined.join(number)?;
@@ -227,18 +185,22 @@ impl<'a, 'b, 'c> Tried<'a, 'b, 'c> {
     }
 
     /// Joins the modules that are to be found, and returns whether there was one.
-    fn join_all_due(self, joined: &mut Joined, asks: &Asks<'c>) -> Result<bool, AllocError>
+    fn join_all_due(
+        self,
+        joined: &mut Joined,
+        names: &ReferredNames<'c>,
+    ) -> Result<bool, AllocError>
         requires drafts { AllZip (IsDraft self.program.now) self.modules.now self.drafts.now }
         requires joined { HaveJoined self joined.old.marks.items }
-        requires asked { IsAskedOf self joined.old.marks.items asks.now.spots }
+        requires asked { IsAskedOf self joined.old.marks.items names.now.spots }
         ensures joined { OnOk result (HaveJoined self.entry joined.new.marks.items) }
         ensures same { IfOk result (λ r. r ≡ false → joined.new.marks.items ≡ joined.old.marks.items) }
-        ensures idle { IfOk result (λ r. r ≡ false → (j : ℕ) → j < length self.entry.modules.now → IsIdle self.entry joined.old.marks.items asks.now.spots j) }
+        ensures idle { IfOk result (λ r. r ≡ false → (j : ℕ) → j < length self.entry.modules.now → IsIdle self.entry joined.old.marks.items names.now.spots j) }
         ensures fewer { IfOk result (λ r. r ≡ true → left_of joined.new.marks.items < left_of joined.old.marks.items) }
     {
         let mut some = false;
         for number in 0..self.modules.len() {
-            if self.join_due(joined, asks, number)? {
+            if self.join_due(joined, names, number)? {
                 some = true;
             }
         }
@@ -253,8 +215,8 @@ impl<'a, 'b, 'c> Tried<'a, 'b, 'c> {
         ensures all { IfOk result (λ r. r ≡ false → AreAll self.entry joined.new.marks.items) }
         ensures fewer { IfOk result (λ r. r ≡ true → left_of joined.new.marks.items < left_of joined.old.marks.items) }
     {
-        let asks = self.asks(joined)?;
-        let some = self.join_all_due(joined, &asks)?;
+        let names = self.referred_names(joined)?;
+        let some = self.join_all_due(joined, &names)?;
         Ok(some)
     }
 

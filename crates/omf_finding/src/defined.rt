@@ -54,7 +54,7 @@ impl<'a> DefinedNames<'a> {
         publics: Publics<'a>,
     ) -> Result<(), AllocError> {
         let segment = publics.segment.item.0;
-        if found.absent.binary_search(&segment).is_ok() {
+        if found.absent.has(segment) {
             return Ok(());
         }
         let Some(place) = found.placement.segment(usize::from(segment)) else {

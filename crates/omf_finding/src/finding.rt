@@ -1,10 +1,11 @@
 //! The search for modules in a program.
 
-ghost use Rattle.std.specs.Prelude.{◌≡◌, ◌++◌, ◌==◌, ◌&&◌, ℕ, length, not, true, false, IfOk, IfSome, OnOk, option_to_list};
+ghost use Rattle.std.specs.Prelude.{◌≡◌, ◌++◌, ◌==◌, ◌&&◌, ℕ, length, not, true, false, IfOk, IfSome, OnOk, option_map, option_to_list};
 ghost use Rattle.std.specs.List.{AllZip};
 ghost use Rattle.omf_check.specs.Module.{Module};
-ghost use Rattle.omf_finding.specs.Chain.{AreChained, AreAllFound, IsDraft, draft_at, found_at, found_in};
-ghost use Rattle.omf_finding.specs.Finding.{AreCandidates, IsHeld, IsTold};
+ghost use Rattle.std.specs.Box.{box_value};
+ghost use Rattle.omf_finding.specs.Chain.{AreChained, AreAllFound, IsDraft, IsDraftOf, draft_at, found_at, found_in};
+ghost use Rattle.omf_finding.specs.Finding.{AreCandidates, IsTold};
 ghost use Rattle.omf_finding.specs.Inner.Chaining.{AreJoined, found_by, kept};
 ghost use Rattle.omf_finding.specs.Inner.Closing.{AreAllJoined, unreferenced_by};
 ghost use Rattle.omf_finding.specs.Inner.Shaping.{AgreeAt, HasShapes, HaveShapes, IsMarked, IsOffered, IsPatternOf, IsShapeOf, bytes_of};
@@ -384,20 +385,13 @@ fn candidates(
     shape_candidates(ended, number, module, &pattern, shapes)
 }
 
-/// A module of a search that is in the program.
-fn held(
-    ended: Ended<'_, '_>,
+/// The placement at which a module is tried: where the search has put it. `None` if it has put none of its segments with data.
+fn tried(
+    search: &Search<'_>,
     number: usize,
     module: &Checked,
     shapes: &[Shape],
-) -> Result<Option<Found>, AllocError>
-    ensures { IfOk result (λ found. IfSome found (IsHeld ended.entry.program.now «module».now)) }
-{
-    let Ended {
-        search,
-        program,
-        ..
-    } = ended;
+) -> Result<Option<Box<Found>>, AllocError> {
     if !search.has_place(number, shapes) {
         return Ok(None);
     }
@@ -406,13 +400,29 @@ fn held(
         absent,
         unknown,
     } = search.settle(number, module)?;
-    let (alloc, bytes, base) = (search.alloc, program.bytes.as_slice(), program.base);
-    if is_found_in_part(alloc, module, &placement, &absent, bytes, base)? {
-        return Ok(Some(Found {
-            placement,
-            absent,
-            unknown,
-        }));
+    let found = Found {
+        placement,
+        absent,
+        unknown,
+    };
+    Ok(Some(Box::new(search.alloc, found)?))
+}
+
+/// The placement at which a module was tried, if the module is in the program there.
+fn held(
+    ended: Ended<'_, '_>,
+    module: &Checked,
+    tried: Option<Box<Found>>,
+) -> Result<Option<Box<Found>>, AllocError>
+    ensures { IfOk result (IsDraftOf ended.entry.program.now «module».now tried) }
+{
+    let Some(found) = tried else {
+        return Ok(None);
+    };
+    let program = ended.program;
+    let (alloc, bytes, base) = (ended.search.alloc, program.bytes.as_slice(), program.base);
+    if is_found_in_part(alloc, module, &found.placement, &found.absent, bytes, base)? {
+        return Ok(Some(found));
     }
     Ok(None)
 }
@@ -423,12 +433,12 @@ fn verdict(
     number: usize,
     module: &Checked,
     shapes: &[Shape],
-    found: Option<Found>,
+    found: Option<Box<Found>>,
 ) -> Result<Verdict, AllocError>
     requires shapes { HaveShapes ended.program.now ended.most «module».now shapes.now }
     requires found { IsDraft ended.program.now «module».now found }
     ensures told { IfOk result (IsTold ended.entry.program.now ended.entry.most «module».now) }
-    ensures found { IfOk result (λ v. found_in v ≡ found) }
+    ensures found { IfOk result (λ v. found_in v ≡ option_map box_value found) }
 {
     if let Some(found) = found {
         return Ok(Verdict::Found(found));
@@ -441,7 +451,7 @@ fn verdict(
 }
 
 /// The draft of a module, first if it is joined, and second if it is not.
-fn split(draft: Option<Found>, is_joined: bool) -> (Option<Found>, Option<Found>)
+fn split(draft: Option<Box<Found>>, is_joined: bool) -> (Option<Box<Found>>, Option<Box<Found>>)
     ensures { result ≡ (kept draft is_joined, kept draft (not is_joined)) }
 {
     if is_joined {
@@ -456,7 +466,7 @@ fn split(draft: Option<Found>, is_joined: bool) -> (Option<Found>, Option<Found>
 struct Known {
     verdicts: Vec<Verdict>,
     /// The drafts of those that are not found.
-    unreferenced: Vec<Option<Found>>,
+    unreferenced: Vec<Option<Box<Found>>>,
 }
 
 /// What is known of all modules in the end: those that are joined are found, where they were tried.
@@ -464,7 +474,7 @@ fn verdicts(
     ended: Ended<'_, '_>,
     modules: &[Checked],
     shapes: &[Vec<Shape>],
-    drafts: Vec<Option<Found>>,
+    drafts: Vec<Option<Box<Found>>>,
     joined: &Joined,
 ) -> Result<Known, AllocError>
     requires shapes { AllZip (HasShapes ended.program.now ended.most) modules.now shapes.now }
@@ -497,14 +507,15 @@ fn drafts(
     ended: Ended<'_, '_>,
     modules: &[Checked],
     shapes: &[Vec<Shape>],
-) -> Result<Vec<Option<Found>>, AllocError>
+) -> Result<Vec<Option<Box<Found>>>, AllocError>
     requires { AllZip (HasShapes ended.program.now ended.most) modules.now shapes.now }
     ensures { IfOk result (λ v. AllZip (IsDraft ended.entry.program.now) modules.now v.items) }
 {
     let mut drafts = Vec::with_capacity(ended.search.alloc, modules.len())?;
     for (number, module) in modules.iter().enumerate() {
         let own = shapes[number].as_slice();
-        drafts.push(held(ended, number, module, own)?)?;
+        let tried = tried(ended.search, number, module, own)?;
+        drafts.push(held(ended, module, tried)?)?;
     }
     Ok(drafts)
 }
@@ -514,7 +525,7 @@ fn joined_among<'a, 'b>(
     ended: Ended<'a, 'b>,
     modules: &[Checked],
     shapes: &'b [Vec<Shape>],
-    drafts: &'b [Option<Found>],
+    drafts: &'b [Option<Box<Found>>],
     least: usize,
 ) -> Result<Joined, AllocError>
     requires shapes { AllZip (HasShapes ended.program.now ended.most) modules.now shapes.now }

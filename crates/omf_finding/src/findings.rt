@@ -1,5 +1,6 @@
 //! What a search finds.
 
+use crate::indices::Indices;
 use omf_reloc::Placement;
 
 /// What is asked of a search.
@@ -16,10 +17,10 @@ pub struct FindOptions {
 pub struct Found {
     /// Where it is. The entries of segments that are absent, and of externals that are unknown, mean nothing.
     pub placement: Placement,
-    /// The segments that are not in the program or that nothing places, in ascending order: their bytes are not compared.
-    pub absent: Vec<u16>,
-    /// The externals that nothing places, in ascending order.
-    pub unknown: Vec<u16>,
+    /// The segments that are not in the program or that nothing places: their bytes are not compared.
+    pub absent: Indices,
+    /// The externals that nothing places.
+    pub unknown: Indices,
 }
 
 /// Why a place of a segment is only a possible one.
@@ -57,7 +58,7 @@ pub struct Candidate {
 #[derive(Drop)]
 pub enum Verdict {
     /// It is in the program, but for absent segments.
-    Found(Found),
+    Found(Box<Found>),
     /// The closed bytes of some segments are in the program, or may be.
     Possible(Vec<Candidate>),
     /// No segment whose closed bytes were searched for is in the program.
@@ -81,7 +82,7 @@ pub struct Findings {
     /// What is known of each module, in the order of the list of modules.
     pub verdicts: Vec<Verdict>,
     /// Of each module that is not found the placement at which it was tried, if it is in the program there. No module that is found refers to it.
-    pub unreferenced: Vec<Option<Found>>,
+    pub unreferenced: Vec<Option<Box<Found>>>,
     /// The names that are asked for, in ascending order of address; each name once for each address.
     pub asked: Vec<Asked>,
 }

@@ -742,7 +742,7 @@ impl<'a> Search<'a> {
         let settled = self.settle(module, checked)?;
         for before in 0..checked.externals() {
             let external = before.saturating_add(1);
-            if settled.unknown.binary_search(&external).is_ok() {
+            if settled.unknown.has(external) {
                 continue;
             }
             if let Some(place) = settled.placement.external(usize::from(external)) {

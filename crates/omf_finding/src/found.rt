@@ -2,14 +2,14 @@
 
 ghost use Rattle.std.specs.Prelude.{◌≡◌, ◌≤◌, ℕ, length, true, false, IfOk, IfErr};
 ghost use Rattle.omf_image.specs.Limits.{profile_limits};
-ghost use Rattle.omf_frame.specs.Bytes.{is_one_of};
 ghost use Rattle.omf_reloc.specs.Reach.{Reaches};
 ghost use Rattle.omf_check.specs.Module.{recs_of};
 ghost use Rattle.omf_check.specs.Sound.{ModuleHolds};
 ghost use Rattle.omf_check.specs.Tables.{segments};
 ghost use Rattle.omf_finding.specs.Found.{IsFound, IsFoundInPart};
-ghost use Rattle.omf_finding.specs.Inner.Agreeing.{lies_in, SegmentAgrees, FirstAgree, HasByte, SomeCompared};
+ghost use Rattle.omf_finding.specs.Inner.Agreeing.{lies_in, SegmentAgrees, FirstAgree, ComparedBelow, HasByte, SomeCompared};
 
+use crate::indices::Indices;
 use omf_check::Checked;
 use omf_image::Image;
 use omf_reloc::{Placed, Placement, RelocateFault, reach_and_relocate};
@@ -42,22 +42,21 @@ fn segment_agrees(image: &Image, segment: u16, address: u32, program: &[u8], bas
     true
 }
 
-/// Whether a segment is one of those that are absent.
-pub(crate) fn is_absent(absent: &[u16], segment: u16) -> bool
-    ensures { result ≡ is_one_of absent.now segment }
-{
-    absent.iter().any(|other| *other == segment)
-}
-
 /// Each byte of an image whose segments lie at these places is the program's, but for absent segments.
-fn image_agrees(image: &Image, places: &[Placed], absent: &[u16], program: &[u8], base: u32) -> bool
+fn image_agrees(
+    image: &Image,
+    places: &[Placed],
+    absent: &Indices,
+    program: &[u8],
+    base: u32,
+) -> bool
     requires { length places.now ≤ 65535 }
     ensures found { result ≡ true → FirstAgree image.now places.now absent.now program.now base (length places.now) }
     ensures wrong { result ≡ false → FirstAgree image.now places.now absent.now program.now base (length places.now) → ⊥ }
 {
     for n in 0..places.len() {
         let segment = n as u16 + 1;
-        if !is_absent(absent, segment)
+        if !absent.has(segment)
             && !segment_agrees(image, segment, places[n].address, program, base)
         {
             return false;
@@ -68,7 +67,8 @@ fn image_agrees(image: &Image, places: &[Placed], absent: &[u16], program: &[u8]
 
 /// Whether an image has a byte of a segment.
 fn has_byte(image: &Image, segment: u16) -> bool
-    ensures { result ≡ true → HasByte image.now segment }
+    ensures some { result ≡ true → HasByte image.now segment }
+    ensures none { result ≡ false → HasByte image.now segment → ⊥ }
 {
     match image.run_with_bytes(segment, 0) {
         Some((_first, bytes)) => !bytes.is_empty(),
@@ -77,13 +77,14 @@ fn has_byte(image: &Image, segment: u16) -> bool
 }
 
 /// Whether an image has a byte in one of n segments that is not absent.
-fn some_compared(image: &Image, count: usize, absent: &[u16]) -> bool
+fn some_compared(image: &Image, count: usize, absent: &Indices) -> bool
     requires { count ≤ 65535 }
-    ensures { result ≡ true → SomeCompared image.now absent.now }
+    ensures some { result ≡ true → SomeCompared image.now absent.now }
+    ensures none { result ≡ false → ComparedBelow image.now absent.now count → ⊥ }
 {
     for n in 0..count {
         let segment = n as u16 + 1;
-        if has_byte(image, segment) && !is_absent(absent, segment) {
+        if has_byte(image, segment) && !absent.has(segment) {
             return true;
         }
     }
@@ -91,10 +92,17 @@ fn some_compared(image: &Image, count: usize, absent: &[u16]) -> bool
 }
 
 /// Each byte of an image whose segments lie at these places is the program's, but for absent segments, and there is such a byte.
-fn part_agrees(image: &Image, places: &[Placed], absent: &[u16], program: &[u8], base: u32) -> bool
+fn part_agrees(
+    image: &Image,
+    places: &[Placed],
+    absent: &Indices,
+    program: &[u8],
+    base: u32,
+) -> bool
     requires { length places.now ≤ 65535 }
     ensures agrees { result ≡ true → FirstAgree image.now places.now absent.now program.now base (length places.now) }
     ensures compared { result ≡ true → SomeCompared image.now absent.now }
+    ensures wrong { result ≡ false → FirstAgree image.now places.now absent.now program.now base (length places.now) → ComparedBelow image.now absent.now (length places.now) → ⊥ }
 {
     if some_compared(image, places.len(), absent) {
         image_agrees(image, places, absent, program, base)
@@ -123,7 +131,7 @@ pub fn is_found(
     alloc: Global,
     module: &Checked,
     placement: &Placement,
-    absent: &[u16],
+    absent: &Indices,
     program: &[u8],
     base: u32,
 ) -> Result<bool, AllocError>
@@ -148,11 +156,13 @@ pub fn is_found_in_part(
     alloc: Global,
     module: &Checked,
     placement: &Placement,
-    absent: &[u16],
+    absent: &Indices,
     program: &[u8],
     base: u32,
 ) -> Result<bool, AllocError>
-    ensures { IfOk result (λ found. found ≡ true → IsFoundInPart (recs_of «module».now.bytes) placement.now absent.now program.now base) }
+    ensures found { IfOk result (λ found. found ≡ true → IsFoundInPart (recs_of «module».now.bytes) placement.now absent.now program.now base) }
+    ensures wrong { IfOk result (λ found. found ≡ false → IsFoundInPart (recs_of «module».now.bytes) placement.now absent.now program.now base → ⊥) }
+    ensures memory { IfErr result (λ e. Reaches placement.now (recs_of «module».now.bytes)) }
 {
     let _count = segment_count(module);
     match reach_and_relocate(alloc, module, placement) {

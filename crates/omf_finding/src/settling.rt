@@ -2,6 +2,7 @@
 
 use crate::fixes::{Fix, entry_with};
 use crate::following::{Search, said};
+use crate::indices::Indices;
 use omf_check::{Checked, SegInfo, TargetMethod};
 use omf_records::Kind;
 use omf_reloc::{Frame, Placed, Placement};
@@ -140,10 +141,10 @@ impl Draft {
 #[derive(Drop)]
 pub(crate) struct Settled {
     pub(crate) placement: Placement,
-    /// The segments that have no place, in ascending order.
-    pub(crate) absent: Vec<u16>,
-    /// The externals that have no place, in ascending order.
-    pub(crate) unknown: Vec<u16>,
+    /// The segments that have no place.
+    pub(crate) absent: Indices,
+    /// The externals that have no place.
+    pub(crate) unknown: Indices,
 }
 
 /// The frame with a selector.
@@ -318,8 +319,8 @@ impl<'a> Search<'a> {
 }
 
 /// The indices, from 1, of entries that have no place.
-fn without_place(alloc: Global, entries: &[Known]) -> Result<Vec<u16>, AllocError> {
-    let mut found = Vec::new(alloc);
+fn without_place(alloc: Global, entries: &[Known]) -> Result<Indices, AllocError> {
+    let mut found = Indices::new(alloc);
     let mut index: u16 = 0;
     for known in entries {
         index = index.saturating_add(1);

@@ -117,7 +117,7 @@ impl<'a> Search<'a> {
     fn take_found(&mut self, number: usize, found: &Found) {
         for (before, place) in found.placement.segments().iter().enumerate() {
             let segment = u16::try_from(before.saturating_add(1)).unwrap_or(u16::MAX);
-            if found.absent.binary_search(&segment).is_err()
+            if !found.absent.has(segment)
                 && let Some(part) = self.number_of(number, segment)
                 && let Some(part) = self.parts.get_mut(part)
             {

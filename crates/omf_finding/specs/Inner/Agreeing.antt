@@ -23,6 +23,13 @@ pub record HasByte (image : List Laid) (segment : ℕ) : Type 0 where
   pub x : ℕ
   pub byte : IsSome (byte_at image segment x)
 
+-- An image has a byte of one of the first n segments that is not absent.
+pub record ComparedBelow (image : List Laid) (absent : List ℕ) (n : ℕ) : Type 0 where
+  pub k : ℕ
+  pub low : k < n
+  pub compared : is_one_of absent (k + 1) ≡ false
+  pub has : HasByte image (k + 1)
+
 -- An image has a byte of a segment that is not absent.
 pub record SomeCompared (image : List Laid) (absent : List ℕ) : Type 0 where
   pub segment : ℕ

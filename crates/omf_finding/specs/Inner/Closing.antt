@@ -1,18 +1,17 @@
 -- The names that modules ask for, each with an address, and what of them other modules define. Only private functions use these definitions.
 use Rattle.std.specs.Prelude.{◌≡◌, ◌⊎◌, ℕ, ◌+◌, ◌<◌, ◌==◌, ◌&&◌, ◌||◌, List, length, filter, Bool, true, false, not, Option, Some, None, bytes_eq, slice_get, if◌then◌else◌}
-use Rattle.std.specs.BTreeSet.{BTreeSet, contains, contains_by}
+use Rattle.std.specs.BTreeSet.{BTreeSet, contains_by}
 use Rattle.std.specs.List.{list_any}
 use Rattle.std.specs.Ordering.{nat_cmp, ordering_then}
 use Rattle.std.specs.declared.cmp.Ordering.{Ordering}
 use denote.Ref.{Bor}
-use Rattle.omf_frame.specs.Bytes.{is_one_of}
 use Rattle.omf_frame.specs.Types.{is_local}
 use Rattle.omf_names.specs.Names.{name_cmp}
 use Rattle.omf_records.specs.Values.{At, Contents, PublicItem, Publics, Rec}
 use Rattle.omf_check.specs.Module.{Module, recs_of}
 use Rattle.omf_check.specs.Tables.{entry}
 use Rattle.omf_placement.specs.declared.frame.Placed.{Placed}
-use Rattle.omf_finding.specs.Chain.{IsStart, RefersTo, draft_at, present_at}
+use Rattle.omf_finding.specs.Chain.{Draft, IsStart, RefersTo, draft_at, present_at}
 use Rattle.omf_finding.specs.Inner.Chaining.{IsKnown, RefersAt, found_by, has_joined, kept}
 use Rattle.omf_finding.specs.declared.chaining.Tried.{Tried}
 use Rattle.omf_finding.specs.declared.findings.Found.{Found}
@@ -50,10 +49,6 @@ FirstOf n R cs b = (k : ℕ) × (k < n) × R k cs b
 
 -- ---- what a module asks for
 
--- A set has the externals that nothing places.
-abbrev pub IsUnknownOf : Found → BTreeSet ℕ → Type 0
-IsUnknownOf f s = (i : ℕ) → contains nat_cmp s i ≡ is_one_of f.unknown.items i
-
 -- By this external, a module at a placement refers to a name at an address.
 pub record RefersBy (m : List Rec) (f : Found) (external : ℕ) (name : List ℕ) (address : ℕ) : Type 0 where
   pub named : IsKnown m f external name
@@ -62,7 +57,7 @@ pub record RefersBy (m : List Rec) (f : Found) (external : ℕ) (name : List ℕ
   pub address_is : place.address ≡ address
 
 -- The module with this number has joined, and refers to a name at an address.
-pub record AsksAt (ms : List Module) (drafts : List (Option Found)) (marks : List Bool) (i : ℕ) (name : List ℕ) (address : ℕ) : Type 0 where
+pub record AsksAt (ms : List Module) (drafts : List Draft) (marks : List Bool) (i : ℕ) (name : List ℕ) (address : ℕ) : Type 0 where
   pub m : Module
   pub f : Found
   pub module_is : slice_get ms i ≡ Some m
@@ -70,7 +65,7 @@ pub record AsksAt (ms : List Module) (drafts : List (Option Found)) (marks : Lis
   pub refers : RefersTo (recs_of m.bytes) f name address
 
 -- The names that those ask for that have joined.
-pub record AreAsked (ms : List Module) (drafts : List (Option Found)) (marks : List Bool) (s : Spots) : Type 0 where
+pub record AreAsked (ms : List Module) (drafts : List Draft) (marks : List Bool) (s : Spots) : Type 0 where
   pub has : (i : ℕ) (name : List ℕ) (address : ℕ) → AsksAt ms drafts marks i name address → has_spot s name address ≡ true
   pub only : (name : List ℕ) (address : ℕ) → has_spot s name address ≡ true → (i : ℕ) × AsksAt ms drafts marks i name address
 
@@ -105,7 +100,7 @@ is_asked s f m = list_any (record_asked s f) m
 -- ---- the end
 
 -- The drafts of those that have not joined.
-abbrev pub unreferenced_by : List (Option Found) → List Bool → ℕ → Option Found
+abbrev pub unreferenced_by : List Draft → List Bool → ℕ → Option Found
 unreferenced_by drafts marks i = kept (draft_at drafts i) (not (has_joined marks i))
 
 -- How many have not joined.
@@ -117,7 +112,7 @@ abbrev pub IsIdle : Tried → List Bool → Spots → ℕ → Type 0
 IsIdle t marks s j = (m : Module) (g : Found) → slice_get t.modules.now j ≡ Some m → draft_at t.drafts.now j ≡ Some g → has_joined marks j ≡ false → (IsStart t.program.now m g → ⊥) × (is_asked s g (recs_of m.bytes) ≡ false)
 
 -- Those that have joined are all: no other one is at the program's start, and none refers to another one.
-pub record AreAllJoined (program : Program) (ms : List Module) (drafts : List (Option Found)) (marks : List Bool) : Type 0 where
+pub record AreAllJoined (program : Program) (ms : List Module) (drafts : List Draft) (marks : List Bool) : Type 0 where
   pub started : (j : ℕ) (m : Module) (g : Found) → slice_get ms j ≡ Some m → draft_at drafts j ≡ Some g → IsStart program m g → has_joined marks j ≡ true
   pub followed : (i j : ℕ) → has_joined marks i ≡ true → RefersAt ms drafts i j → has_joined marks j ≡ true
 

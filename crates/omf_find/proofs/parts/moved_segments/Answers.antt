@@ -8,7 +8,7 @@ use Rattle.omf_find.proofs.parts.moved_segments.Goals as goal
 
 pub loop-before-preserved : goal.loop-before-preserved
 loop-before-preserved c =
-    let absent = c.args.found.now.absent.items in
+    let absent = c.args.found.now.absent in
     let old = c.segments-places.result.now in
     let n = c.loop-before.before in
     let low = c.loop-before-test.true in
@@ -19,6 +19,6 @@ loop-before-preserved c =
 
 pub returns : goal.returns
 returns c =
-    let absent = c.args.found.now.absent.items in
+    let absent = c.args.found.now.absent in
     let kept = all_kept absent 1 c.segments-places.result.now c.loop-before.segments.items c.loop-before.before c.loop-before-test.false c.loop-before.invariant in
     subst (λ (t : List Placed). AreKept absent 1 t c.loop-before.segments.items) c.segments-places.ensures kept

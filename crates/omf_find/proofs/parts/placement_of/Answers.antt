@@ -10,6 +10,6 @@ returns-in_ok-placement c =
 pub returns-else-is_empty : goal.returns-else-is_empty
 returns-else-is_empty c =
     let f = c.args.seen.found.now in
-    let long : vec_len f.absent ≡ length f.absent.items = search rules in
+    let long : vec_len f.absent ≡ length f.absent = search rules in
     placed_or_none c.args.seen.program.now c.args.seen.«module».now f c.placement_with_absent.result
-    (some_absent f.absent.items (vec_len f.absent) long (sym c.is_empty.ensures ∙ c.if-is_empty.false)) c.placement_with_absent.ensures
+    (some_absent f.absent (vec_len f.absent) long (sym c.is_empty.ensures ∙ c.if-is_empty.false)) c.placement_with_absent.ensures

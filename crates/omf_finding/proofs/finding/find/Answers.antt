@@ -1,6 +1,5 @@
 use Rattle.std.proofs.Common.{List, subst}
-use Rattle.std.specs.Prelude.{Option}
-use Rattle.omf_finding.specs.declared.findings.Found.{Found}
+use Rattle.omf_finding.specs.Chain.{Draft}
 use Rattle.omf_finding.specs.Inner.Chaining.{AreJoined}
 use Rattle.omf_finding.specs.Inner.Closing.{AreAllJoined}
 use Rattle.omf_finding.proofs.ChainLaws.{chained-verdicts}
@@ -15,7 +14,7 @@ returns-clause-chained c =
     let drafts = c.in_ok-drafts.drafts.items in
     let marks = c.in_ok-joined.joined.marks.items in
     let known = c.in_ok-verdicts.ensures in
-    chained-verdicts program least ms drafts marks c.in_ok-verdicts.field-0.verdicts.items known.found (subst (λ (ds : List (Option Found)). AreJoined program least ms ds marks) c.as_slice.ensures.value c.in_ok-joined.ensures.joined)
+    chained-verdicts program least ms drafts marks c.in_ok-verdicts.field-0.verdicts.items known.found (subst (λ (ds : List Draft). AreJoined program least ms ds marks) c.as_slice.ensures.value c.in_ok-joined.ensures.joined)
 
 pub returns-clause-all : goal.returns-clause-all
 returns-clause-all c =
@@ -24,4 +23,4 @@ returns-clause-all c =
     let drafts = c.in_ok-drafts.drafts.items in
     let marks = c.in_ok-joined.joined.marks.items in
     let known = c.in_ok-verdicts.ensures in
-    all-found program ms drafts marks c.in_ok-verdicts.field-0.verdicts.items c.in_ok-verdicts.field-0.unreferenced.items known.found known.unreferenced (subst (λ (ds : List (Option Found)). AreAllJoined program ms ds marks) c.as_slice.ensures.value c.in_ok-joined.ensures.all)
+    all-found program ms drafts marks c.in_ok-verdicts.field-0.verdicts.items c.in_ok-verdicts.field-0.unreferenced.items known.found known.unreferenced (subst (λ (ds : List Draft). AreAllJoined program ms ds marks) c.as_slice.ensures.value c.in_ok-joined.ensures.all)

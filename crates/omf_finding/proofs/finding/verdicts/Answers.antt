@@ -2,11 +2,11 @@ use Rattle.std.proofs.Common.{rules, ◌≡◌, ◌+◌, ◌∙◌, ◌∷◌, L
 use Rattle.std.specs.List.{AllZip}
 use Rattle.std.specs.Vec.Iter.{into_iter_items}
 use Rattle.std.proofs.lemmas.Option.{slice_get_read}
-use Rattle.std.specs.Prelude.{Option, not}
-use Rattle.omf_finding.specs.declared.findings.Found.{Found}
+use Rattle.std.specs.Prelude.{not, option_map}
+use Rattle.std.specs.Box.{box_value}
 use Rattle.omf_finding.specs.declared.findings.Verdict.{Verdict}
 use Rattle.omf_finding.specs.Finding.{IsTold}
-use Rattle.omf_finding.specs.Chain.{IsDraft}
+use Rattle.omf_finding.specs.Chain.{Draft, IsDraft}
 use Rattle.omf_finding.specs.Inner.Chaining.{has_joined, kept}
 use Rattle.omf_finding.specs.Inner.Shaping.{HasShapes, HaveShapes}
 use Rattle.omf_finding.proofs.CandidateLaws.{zip-at, zip-long}
@@ -52,7 +52,7 @@ verdict-requires-clause-found c =
     let drafts = c.args.drafts.items in
     let rest = into_iter_items c.next.new.self in
     let steps : drop n drafts ≡ d ∷ rest = sym c.loop-number.invariant.left ∙ c.in-Some.ensures.items in
-    subst (IsDraft program m) (sym (ap (λ (x : Option Found × Option Found). x.0) c.split-found.ensures))
+    subst (IsDraft program m) (sym (ap (λ (x : Draft × Draft). x.0) c.split-found.ensures))
     (draft-kept program m d c.has.result (zip-get (IsDraft program) ms drafts n m d c.requires.drafts (slice_get_read ms (length ms) n m refl c.loop-number-test.true c.index-modules-number.is) (drop-first drafts rest n d steps)))
 
 pub loop-number-preserved : goal.loop-number-preserved
@@ -67,14 +67,14 @@ loop-number-preserved c =
     let steps : drop n drafts ≡ d ∷ rest = sym c.loop-number.invariant.left ∙ c.in-Some.ensures.items in
     let marks = c.args.joined.now.marks.items in
     let program = c.args.ended.program.now in
-    let other : c.split-found.result.1 ≡ kept d (not (has_joined marks n)) = ap (λ (x : Option Found × Option Found). x.1) c.split-found.ensures ∙ ap (λ b. kept d (not b)) c.has.ensures in
+    let other : c.split-found.result.1 ≡ kept d (not (has_joined marks n)) = ap (λ (x : Draft × Draft). x.1) c.split-found.ensures ∙ ap (λ b. kept d (not b)) c.has.ensures in
     record {
       told = subst (λ (vs : List Verdict). AllZip told (take (n + 1) ms) vs) (sym c.in_ok-push.ensures.items)
           (zip-more told ms c.loop-number.verdicts.items n m c.in_ok-verdict.field-0 c.index-modules-number.is c.loop-number-test.true c.loop-number.invariant.told c.in_ok-verdict.ensures.told);
       left = sym (drop-rest drafts rest n d steps);
       size = omega (arith, ap length c.in-Some.ensures.items, c.loop-number.invariant.size);
-      found = so-next drafts rest c.args.joined.now.marks.items c.loop-number.verdicts.items c.push.new.self.items n c.in_ok-verdict.field-0 d steps (c.in_ok-verdict.ensures.found ∙ ap (λ (x : Option Found × Option Found). x.0) c.split-found.ensures ∙ ap (kept d) c.has.ensures) c.in_ok-push.ensures.items c.loop-number.invariant.found;
-      drafts = subst (λ (us : List (Option Found)). AllZip (IsDraft program) (take (n + 1) ms) us) (sym c.in_ok-push-2.ensures.items)
+      found = so-next drafts rest c.args.joined.now.marks.items c.loop-number.verdicts.items c.push.new.self.items n c.in_ok-verdict.field-0 d steps (c.in_ok-verdict.ensures.found ∙ ap (option_map box_value) (ap (λ (x : Draft × Draft). x.0) c.split-found.ensures ∙ ap (kept d) c.has.ensures)) c.in_ok-push.ensures.items c.loop-number.invariant.found;
+      drafts = subst (λ (us : List Draft). AllZip (IsDraft program) (take (n + 1) ms) us) (sym c.in_ok-push-2.ensures.items)
           (zip-more (IsDraft program) ms c.loop-number.unreferenced.items n m c.split-found.result.1 c.index-modules-number.is c.loop-number-test.true c.loop-number.invariant.drafts
           (subst (IsDraft program m) (sym other)
           (draft-kept program m d (not (has_joined marks n)) (zip-get (IsDraft program) ms drafts n m d c.requires.drafts (slice_get_read ms (length ms) n m refl c.loop-number-test.true c.index-modules-number.is) (drop-first drafts rest n d steps)))));

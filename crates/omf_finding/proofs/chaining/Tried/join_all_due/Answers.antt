@@ -27,7 +27,7 @@ loop-number-preserved c =
         asked = one.asked;
         end = inv.end;
         same = λ e. one.same w.if-branch.false ∙ inv.same (sym w.some-is ∙ e);
-        idle = λ e. idle-next t start now c.args.asks.now.spots c.loop-number.number (inv.same (sym w.some-is ∙ e)) (inv.idle (sym w.some-is ∙ e)) (one.idle w.if-branch.false);
+        idle = λ e. idle-next t start now c.args.names.now.spots c.loop-number.number (inv.same (sym w.some-is ∙ e)) (inv.idle (sym w.some-is ∙ e)) (one.idle w.if-branch.false);
         fewer = λ e. subst (λ (ms : List Bool). left_of ms < left_of start) (sym (one.same w.if-branch.false)) (inv.fewer (sym w.some-is ∙ e));
       }
     ]

@@ -15,10 +15,10 @@ returns-clause-joined c =
     let there = c.in-Some.ensures.some in
     let same = c.requires.joined.1 in
     let low : c.args.number < length marks = omega (arith, c.requires.low, same) in
-    joined-due t marks c.join.new.self.marks.items c.args.number c.in-Some.«module».now c.in-Some.found.now c.args.asks.now.spots c.in_ok-join.ensures low there.0 there.1 (c.is_due.ensures.some c.if-not-is_due.false) c.requires.asked c.requires.joined
+    joined-due t marks c.join.new.self.marks.items c.args.number c.in-Some.«module».now c.in-Some.found.now c.args.names.now.spots c.in_ok-join.ensures low there.0 there.1 (c.is_due.ensures.some c.if-not-is_due.false) c.requires.asked c.requires.joined
 
 pub returns-clause-asked : goal.returns-clause-asked
-returns-clause-asked c = asks-grow c.args.self c.args.joined.now.marks.items c.join.new.self.marks.items c.args.number c.args.asks.now.spots c.in_ok-join.ensures c.requires.asked
+returns-clause-asked c = asks-grow c.args.self c.args.joined.now.marks.items c.join.new.self.marks.items c.args.number c.args.names.now.spots c.in_ok-join.ensures c.requires.asked
 
 pub returns-clause-fewer : goal.returns-clause-fewer
 returns-clause-fewer c =

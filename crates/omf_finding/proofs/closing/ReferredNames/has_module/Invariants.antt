@@ -3,7 +3,7 @@ use Rattle.std.specs.Prelude.{◌||◌}
 use Rattle.std.specs.List.{list_any}
 use Rattle.omf_check.specs.Module.{recs_of}
 use Rattle.omf_finding.specs.Inner.Closing.{is_asked, record_asked}
-use Rattle.omf_finding.proofs.closing.Asks.has_module.Given as goal
+use Rattle.omf_finding.proofs.closing.ReferredNames.has_module.Given as goal
 
 -- one so far, or one of those to come
 abbrev pub invariant-loop-rec : goal.invariant-loop-rec

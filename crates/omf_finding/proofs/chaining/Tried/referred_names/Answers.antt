@@ -1,7 +1,7 @@
 use Rattle.std.proofs.Common.{arith, refl}
 use Rattle.omf_finding.specs.Inner.Closing.{AsksAt}
 use Rattle.omf_finding.proofs.CloseLaws.{adds-first, adds-next, asks-all}
-use Rattle.omf_finding.proofs.chaining.Tried.asks.Goals as goal
+use Rattle.omf_finding.proofs.chaining.Tried.referred_names.Goals as goal
 
 pub loop-number-init : goal.loop-number-init
 loop-number-init c =
@@ -12,11 +12,11 @@ pub loop-number-preserved : goal.loop-number-preserved
 loop-number-preserved c =
     let t = c.args.self in
     let inv = c.loop-number.invariant in
-    (inv.0, inv.1, adds-next inv.0 c.loop-number.asks.spots c.add_asks.new.asks.spots c.loop-number.number (AsksAt t.modules.now t.drafts.now c.args.joined.now.marks.items) c.in_ok-add_asks.ensures inv.2, inv.3)
+    (inv.0, inv.1, adds-next inv.0 c.loop-number.names.spots c.add_names.new.names.spots c.loop-number.number (AsksAt t.modules.now t.drafts.now c.args.joined.now.marks.items) c.in_ok-add_names.ensures inv.2, inv.3)
 
 pub returns : goal.returns
 returns c =
     let t = c.args.self in
     let inv = c.loop-number.invariant in
     let end = inv.3 in
-    asks-all t.modules.now t.drafts.now c.args.joined.now.marks.items c.loop-number.number (omega (arith, c.loop-number-test.false, end)) inv.0 c.loop-number.asks.spots inv.1 inv.2
+    asks-all t.modules.now t.drafts.now c.args.joined.now.marks.items c.loop-number.number (omega (arith, c.loop-number-test.false, end)) inv.0 c.loop-number.names.spots inv.1 inv.2

@@ -1,7 +1,7 @@
 use Rattle.std.proofs.Common.{Bor, List, ℕ, subst}
 use Rattle.omf_finding.specs.Inner.Closing.{HasOneMore, Spot}
 use Rattle.omf_finding.proofs.CloseLaws.{one-more}
-use Rattle.omf_finding.proofs.closing.Asks.add.Goals as goal
+use Rattle.omf_finding.proofs.closing.ReferredNames.add.Goals as goal
 
 pub returns : goal.returns
 returns c =

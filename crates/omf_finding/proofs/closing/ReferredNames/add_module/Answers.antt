@@ -3,7 +3,7 @@ use Rattle.omf_check.specs.Module.{recs_of}
 use Rattle.omf_finding.specs.Chain.{RefersTo}
 use Rattle.omf_finding.specs.Inner.Closing.{FirstOf, RefersBy}
 use Rattle.omf_finding.proofs.CloseLaws.{adds-as, adds-first, adds-next, refers-by, refers-to}
-use Rattle.omf_finding.proofs.closing.Asks.add_module.Goals as goal
+use Rattle.omf_finding.proofs.closing.ReferredNames.add_module.Goals as goal
 
 pub loop-before-init : goal.loop-before-init
 loop-before-init c = (adds-first c.args.self.now.spots (λ k. RefersBy (recs_of c.args.«module».now.bytes) c.args.found.now (k + 1)), c.externals-before-end.ensures.count)

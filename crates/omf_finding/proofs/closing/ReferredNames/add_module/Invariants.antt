@@ -2,7 +2,7 @@ use Rattle.std.proofs.Common.{◌≡◌, ◌+◌, length}
 use Rattle.omf_check.specs.Module.{recs_of}
 use Rattle.omf_check.specs.Tables.{externals}
 use Rattle.omf_finding.specs.Inner.Closing.{Adds, FirstOf, RefersBy}
-use Rattle.omf_finding.proofs.closing.Asks.add_module.Given as goal
+use Rattle.omf_finding.proofs.closing.ReferredNames.add_module.Given as goal
 
 -- the names of the externals so far are added
 abbrev pub invariant-loop-before : goal.invariant-loop-before

@@ -3,7 +3,7 @@ use Rattle.std.specs.List.{list_any}
 use Rattle.omf_check.specs.Module.{records_in}
 use Rattle.omf_finding.specs.Inner.Closing.{record_asked}
 use Rattle.omf_finding.proofs.ChainLaws.{listed-any}
-use Rattle.omf_finding.proofs.closing.Asks.has_module.Goals as goal
+use Rattle.omf_finding.proofs.closing.ReferredNames.has_module.Goals as goal
 
 pub loop-rec-init : goal.loop-rec-init
 loop-rec-init c =
