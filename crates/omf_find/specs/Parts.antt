@@ -73,9 +73,12 @@ abbrev pub left_of : ℕ → Option Places → List ℕ
 left_of n None = n ∷ []
 left_of n (Some pl) = []
 
+abbrev pub IsFoundPart : Program → ℕ → Module → Found → List Part → List ℕ → Type 0
+IsFoundPart p n m f placed left = (o : Option Places) × IsPlacedIf p m f o × (placed ≡ placed_of n o) × (left ≡ left_of n o)
+
 -- Of a module that is not found it has nothing.
 abbrev pub IsPart : Program → ℕ → Module → Option Verdict → List Part → List ℕ → Type 0
-IsPart p n m (Some (verdict.Found f)) placed left = (o : Option Places) × IsPlacedIf p m (box_value f) o × (placed ≡ placed_of n o) × (left ≡ left_of n o)
+IsPart p n m (Some (verdict.Found f)) placed left = IsFoundPart p n m (box_value f) placed left
 IsPart p n m _ placed left = (placed ≡ []) × (left ≡ [])
 
 -- Those of all modules, from a number on.

@@ -8,9 +8,8 @@ ghost use Rattle.omf_check.specs.Tables.{segments};
 ghost use Rattle.omf_image.specs.Overlay.{IsRunAt, byte_at};
 ghost use Rattle.omf_image.specs.declared.run.Run.{Run};
 ghost use Rattle.omf_finding.specs.Finding.{IsHeld};
-ghost use Rattle.omf_finding.specs.declared.findings.Verdict.TheVariants.{Found as IsThere};
 ghost use Rattle.omf_find.specs.Room.{IsLeftOf};
-ghost use Rattle.omf_find.specs.Parts.{Adds, AreAddresses, AreKept, AreParts, IsAddress, IsHeldIf, IsPart, IsPlaced, IsPlacedIf, IsRoomFor, left_of, placed_of};
+ghost use Rattle.omf_find.specs.Parts.{Adds, AreAddresses, AreKept, AreParts, IsAddress, IsFoundPart, IsHeldIf, IsPart, IsPlaced, IsPlacedIf, IsRoomFor, left_of, placed_of};
 
 use crate::room::{Room, Side};
 use crate::rows::{segment_rows_of, verdict_of};
@@ -283,7 +282,7 @@ impl Parts {
         room: &mut Room,
     ) -> Result<(), AllocError>
         requires { IsHeld seen.program.now seen.«module».now seen.found.now }
-        ensures { OnOk result ((one : List Part) × (left : List ℕ) × IsPart seen.entry.program.now number seen.entry.«module».now (Some (IsThere seen.entry.found.now)) one left × Adds self.old self.new one left) }
+        ensures { OnOk result ((one : List Part) × (left : List ℕ) × IsFoundPart seen.entry.program.now number seen.entry.«module».now seen.entry.found.now one left × Adds self.old self.new one left) }
     {
         let placement = placement_of(*self.left_out.allocator(), seen, room)?;
         self.add(number, placement)?;

@@ -203,16 +203,20 @@ impl<'a> Search<'a> {
         match self.known_place(module, shape.segment) {
             Some(place) if !shape.is_searched || shape.places.contains(&place) => Why::OpenBytes,
             Some(_) => Why::Disagrees,
-            None if shape.closed < self.enough(module, shape.segment) => Why::FewBytes,
+            None if self.is_few(module, shape) => Why::FewBytes,
             None => Why::SeveralPlaces,
         }
     }
 
-    /// The number of closed bytes from which on the only place of a segment of a module is sure.
-    fn enough(&self, module: usize, segment: u16) -> usize {
+    /// Whether a segment of a module has so few closed bytes that its only place would not be sure.
+    fn is_few(&self, module: usize, shape: &Shape) -> bool {
+        // A class is looked up only where it matters.
+        if shape.closed < self.least / 2 {
+            return true;
+        }
         match self.modules.get(module) {
-            Some(checked) => enough(checked, segment, self.least),
-            None => self.least,
+            Some(checked) => shape.closed < enough(checked, shape.segment, self.least),
+            None => shape.closed < self.least,
         }
     }
 

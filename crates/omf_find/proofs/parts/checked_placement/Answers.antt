@@ -10,8 +10,7 @@ returns-then-found c =
     let pl = c.in_ok-placement.placement in
     let there = c.in_ok-found.ensures.found c.if-found.true in
     record {
-      found = subst (λ (xs : List ℕ). IsFound m pl xs p.bytes.items p.base) c.deref.ensures.value
-          (subst (λ (xs : List ℕ). IsFound m pl c.deref.result.now xs p.base) c.deref-2.ensures.value there);
+      found = subst (λ (xs : List ℕ). IsFound m pl c.args.seen.found.now.absent xs p.base) c.deref.ensures.value there;
       segments = c.in_ok-placement.ensures.segments;
       groups = c.in_ok-placement.ensures.groups;
       externals = c.in_ok-placement.ensures.externals;

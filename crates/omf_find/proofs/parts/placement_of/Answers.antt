@@ -1,5 +1,4 @@
-use Rattle.std.proofs.Common.{◌≡◌, ◌∙◌, length, sym, rules}
-use Rattle.std.specs.Vec.{vec_len}
+use Rattle.std.proofs.Common.{◌∙◌, length, refl, sym}
 use Rattle.omf_find.proofs.PartLaws.{placed_or_none, placed_there, some_absent}
 use Rattle.omf_find.proofs.parts.placement_of.Goals as goal
 
@@ -10,6 +9,5 @@ returns-in_ok-placement c =
 pub returns-else-is_empty : goal.returns-else-is_empty
 returns-else-is_empty c =
     let f = c.args.seen.found.now in
-    let long : vec_len f.absent ≡ length f.absent = search rules in
     placed_or_none c.args.seen.program.now c.args.seen.«module».now f c.placement_with_absent.result
-    (some_absent f.absent (vec_len f.absent) long (sym c.is_empty.ensures ∙ c.if-is_empty.false)) c.placement_with_absent.ensures
+    (some_absent f.absent (length f.absent) refl (sym c.is_empty.ensures ∙ c.if-is_empty.false)) c.placement_with_absent.ensures
