@@ -1,18 +1,15 @@
 -- All modules are found that are to be: the names that those ask for that are found, and what of these others define.
-use Rattle.std.proofs.Common.{◌≡◌, ◌⊎◌, inl, inr, ℕ, zero, suc, ◌+◌, ◌-◌, ◌<◌, ◌≤◌, Bool, true, false, List, [], ◌∷◌, ◌++◌, cond, drop, get_or, length, set, take, refl, sym, ap, ap₂, subst, ◌∙◌, arith, Ordering, Less, Equal, Greater}
+use Rattle.std.proofs.Common.{◌≡◌, ◌⊎◌, inl, inr, ℕ, zero, suc, ◌+◌, ◌-◌, ◌<◌, ◌≤◌, Bool, true, false, List, [], ◌∷◌, ◌++◌, drop, length, set, refl, sym, ap, ap₂, subst, ◌∙◌, arith, Ordering, Less, Equal, Greater}
 use Rattle.std.specs.Prelude.{◌==◌, ◌&&◌, ◌||◌, not, Err, Ok, OnOk, Result, Option, Some, None, option_map, bytes_eq, slice_get, nat_le, if◌then◌else◌}
 use Rattle.std.specs.Box.{box_value}
-use Rattle.std.specs.BTreeSet.{BTreeSet, Updates, contains, insert_key}
-use Rattle.std.specs.Cmp.{unsigned_tied, unsigned_ties}
+use Rattle.std.specs.BTreeSet.{insert_key}
+use Rattle.std.specs.Cmp.{unsigned_ties}
 use Rattle.std.specs.List.{list_any}
 use Rattle.std.specs.Ordering.{is_eq, match_ordering, nat_cmp, ordering_then}
 use Rattle.std.proofs.lemmas.Bool.{and_parts, cases_Bool, cases_lt, eq-eqb, eqb-true, false≢true, leb-true, or_cases, true≢false}
-use Rattle.std.proofs.Math.Seq.{take-suc}
 use Rattle.std.proofs.lemmas.List.{length-append}
-use Rattle.std.proofs.lemmas.List.Folds.{list_any-append}
 use Rattle.std.proofs.lemmas.Option.{none-some, same_Some, slice_get_past}
 use Rattle.std.proofs.lemmas.Slice.Eq.{bytes_eq-Decides}
-use Rattle.omf_frame.specs.Bytes.{is_one_of}
 use Rattle.omf_frame.specs.Types.{is_local}
 use Rattle.omf_names.specs.Names.{name_cmp}
 use Rattle.omf_names.specs.NameLaws.{names_tied}

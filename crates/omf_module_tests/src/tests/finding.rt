@@ -3,8 +3,8 @@
 
 use super::module_of;
 use omf_finding::{
-    Candidate, Difference, FindOptions, Program, Verdict, find, is_found, nearest, pattern_of,
-    places,
+    Candidate, Difference, FindOptions, Indices, Program, Verdict, find, is_found, nearest,
+    pattern_of, places,
 };
 use omf_reloc::{Frame, Placement};
 use omf_samples::{END, HEADER, MODULE, NAMES, SEGMENT_OF_12};
@@ -25,7 +25,11 @@ fn finds(alloc: Global, address: u32, absent: &[u16]) -> Option<bool> {
     };
     let mut placement = Placement::new(alloc);
     placement.push_segment(address, frame).ok()?;
-    is_found(alloc, &module, &placement, absent, &PROGRAM, BASE).ok()
+    let mut indices = Indices::new(alloc);
+    for segment in absent {
+        indices.push(*segment).ok()?;
+    }
+    is_found(alloc, &module, &placement, &indices, &PROGRAM, BASE).ok()
 }
 
 /// An address of the module's segment, the absent segments, and whether it is there.

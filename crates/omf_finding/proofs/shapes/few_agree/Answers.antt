@@ -1,6 +1,6 @@
-use Rattle.std.proofs.Common.{rules, ◌≡◌, ◌+◌, ◌<◌, Bool, true, false, length, take, sym, ap, ◌∙◌, arith}
+use Rattle.std.proofs.Common.{rules, ◌<◌, Bool, length, sym, ap, ◌∙◌}
 use Rattle.std.specs.Prelude.{get_or, ◌&&◌}
-use Rattle.omf_finding.specs.Inner.Shaping.{cell_agrees, cells_agree}
+use Rattle.omf_finding.specs.Inner.Shaping.{cell_agrees}
 use Rattle.omf_finding.proofs.ChunkLaws.{cells-differ, cells-more, cells-short}
 use Rattle.omf_finding.proofs.shapes.few_agree.Goals as goal
 

@@ -1,4 +1,4 @@
-use Rattle.std.proofs.Common.{◌≡◌, ◌-◌, ◌∙◌, List, ℕ, ap, length, rules, subst, sym}
+use Rattle.std.proofs.Common.{◌≡◌, ◌-◌, length, rules, subst}
 use Rattle.std.specs.Prelude.{Some, slice_get}
 use Rattle.std.specs.List.Sorted.{IsStrictlyIncreasing}
 use Rattle.omf_finding.proofs.IndexLaws.{all-below}
