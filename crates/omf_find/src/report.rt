@@ -85,9 +85,21 @@ fn why_word(why: Why) -> &'static str {
         Why::FewBytes => "few-bytes",
         Why::SeveralPlaces => "several-places",
         Why::SameBytes(_) => "same-bytes",
+        Why::OtherMissing(_) => "other-segment-missing",
+        Why::FewValues => "few-values",
+        Why::Overlapped => "overlapped",
         Why::Disagrees => "reference-disagrees",
         Why::OpenBytes => "fixup-disagrees",
         Why::ManyPlaces => "many-places",
+    }
+}
+
+/// Appends why a place is only a possible one.
+fn put_why(text: &mut Vec<u8>, format: Format, why: Why) -> Result<(), AllocError> {
+    word(text, format, "why", why_word(why))?;
+    match why {
+        Why::OtherMissing(segment) => number(text, format, "missing", u64::from(segment)),
+        _ => Ok(()),
     }
 }
 
@@ -101,7 +113,7 @@ fn put_place(
     place: u32,
 ) -> Result<(), AllocError> {
     begin(text, format, "possible", u64::from(place))?;
-    word(text, format, "why", why_word(candidate.why))?;
+    put_why(text, format, candidate.why)?;
     source.put_origin(text, format, module)?;
     source.put_segment(text, format, module, candidate.segment)?;
     close(text, format)
@@ -119,7 +131,7 @@ fn put_more(
         Format::Text => text.extend_from_slice(b"more")?,
         Format::Json => text.extend_from_slice(b"{\"more\":true")?,
     }
-    word(text, format, "why", why_word(candidate.why))?;
+    put_why(text, format, candidate.why)?;
     source.put_origin(text, format, module)?;
     source.put_segment(text, format, module, candidate.segment)?;
     close(text, format)

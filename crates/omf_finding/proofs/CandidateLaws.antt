@@ -15,9 +15,9 @@ use Rattle.omf_records.specs.Values.{Rec}
 use Rattle.omf_placement.specs.Placement.{Places}
 use Rattle.omf_reloc.specs.Image.{image}
 use Rattle.omf_finding.specs.Agrees.{Agrees, HasFour}
-use Rattle.omf_finding.specs.Finding.{AreCandidates, IsAt, IsCandidate, IsCut, IsInside, IsNowhere, IsSought}
+use Rattle.omf_finding.specs.Finding.{AreCandidates, IsAt, IsCandidate, IsCut, IsInside, IsNowhere, IsReason, IsSought}
 use Rattle.omf_finding.specs.Pattern.{pattern}
-use Rattle.omf_finding.specs.Inner.Shaping.{AgreeAt, AreIntervals, AreShapes, IsMarked, IsOffered, IsPatternOf, IsShape, bytes_of, is_at}
+use Rattle.omf_finding.specs.Inner.Shaping.{AgreeAt, AreIntervals, AreShapes, HaveShapes, IsMarked, IsOffered, IsPatternOf, IsShape, bytes_of, is_at}
 use Rattle.omf_finding.specs.Inner.Walking.{Marks, byte_in}
 use Rattle.omf_finding.specs.declared.patterning.Interval.{Interval}
 use Rattle.omf_finding.specs.declared.patterning.PatternByte.{PatternByte}
@@ -58,26 +58,31 @@ module _ (program : Program) (m : Module) (s : Shape) (most : ℕ) (h : IsShape 
   abbrev Cut : ℕ → List ℕ → Type 0
   Cut segment addresses = IsCut (pattern profile_limits (recs_of m.bytes) segment) program.bytes.items program.base most addresses
 
-  pub candidate-searched : (c : Candidate) → c.segment ≡ s.segment → s.is_searched ≡ true → c.addresses.items ≡ s.places.items → c.more ≡ s.more → (c.more ≡ false → 0 < length c.addresses.items) → IsCandidate program most m c
-  candidate-searched c e searched p q some = record {
+  abbrev Because : Candidate → Type 0
+  Because c = IsReason program m c.addresses.items c.more c.why
+
+  pub candidate-searched : (c : Candidate) → c.segment ≡ s.segment → s.is_searched ≡ true → c.addresses.items ≡ s.places.items → c.more ≡ s.more → (c.more ≡ false → 0 < length c.addresses.items) → Because c → IsCandidate program most m c
+  candidate-searched c e searched p q some why = record {
     rising = subst IsStrictlyIncreasing (sym p) h.places.rising;
     agree = λ a k. subst (λ (n : ℕ). At n a) (sym e) (h.places.agree a (subst (λ (ps : List ℕ). Contains ps a) p k));
     some = some;
     more = λ f. inr (subst (λ (n : ℕ). Cut n c.addresses.items) (sym e) (subst (Cut s.segment) (sym p) (h.cut searched (sym q ∙ f))));
     all = λ f fits a ag. subst (λ (ps : List ℕ). Contains ps a) (sym p) (h.places.all (sym q ∙ f) fits a (subst (λ (n : ℕ). At n a) e ag));
+    why = why;
   }
 
   -- one that is not searched for has no four closed bytes in a row
   not-sought : s.is_searched ≡ false → IsSought m s.segment → ⊥
   not-sought few sought = let w : false ≡ true = sym few ∙ h.sought sought in cc
 
-  pub candidate-referred : (c : Candidate) → c.segment ≡ s.segment → s.is_searched ≡ false → c.more ≡ s.more → AgreeAt (bytes_of m s.segment) program c.addresses.items → 0 < length c.addresses.items → IsCandidate program most m c
-  candidate-referred c e few q k some = record {
+  pub candidate-referred : (c : Candidate) → c.segment ≡ s.segment → s.is_searched ≡ false → c.more ≡ s.more → AgreeAt (bytes_of m s.segment) program c.addresses.items → 0 < length c.addresses.items → Because c → IsCandidate program most m c
+  candidate-referred c e few q k some why = record {
     rising = k.rising;
     agree = λ a d. subst (λ (n : ℕ). At n a) (sym e) (k.each a d);
     some = λ f. some;
     more = λ f. inl (λ sought. not-sought few (subst (IsSought m) e sought), some);
     all = λ f. absurd (let w : true ≡ false = sym (h.others few) ∙ sym q ∙ f in cc);
+    why = why;
   }
 
   pub candidate-none : (addresses : List ℕ) → addresses ≡ [] → (s.is_searched ≡ true → addresses ≡ s.places.items) → (s.is_searched && s.more) ≡ false → IsInside program → (a : ℕ) → IsSought m s.segment → At s.segment a → ⊥
@@ -105,15 +110,15 @@ module _ (program : Program) (m : Module) (s : Shape) (most : ℕ) (h : IsShape 
       none-there (x ∷ xs) e = absurd (let long = eqb-true (length (x ∷ xs)) 0 e in omega (arith, long))
 
   pub offered-some : (c : Candidate) → c.segment ≡ s.segment → c.more ≡ s.more → Same c.addresses.items → (s.is_searched ≡ false → AgreeAt (bytes_of m s.segment) program c.addresses.items) → untold c.addresses.items ≡ false
-      → IsOffered program most m s (Some c)
-  offered-some c e q same referred told = by s.is_searched refl
+      → Because c → IsOffered program most m s (Some c)
+  offered-some c e q same referred told why = by s.is_searched refl
     where
       some : (s.is_searched && s.more) ≡ false → 0 < length c.addresses.items
       some sure = some-told c.addresses.items (s.is_searched && s.more) told sure
 
       by : (b : Bool) → s.is_searched ≡ b → IsCandidate program most m c × (c.segment ≡ s.segment)
-      by true f = (candidate-searched c e f (same f) q (λ g. some (ap (λ (b : Bool). b && s.more) f ∙ sym q ∙ g)), e)
-      by false f = (candidate-referred c e f q (referred f) (some (ap (λ (b : Bool). b && s.more) f)), e)
+      by true f = (candidate-searched c e f (same f) q (λ g. some (ap (λ (b : Bool). b && s.more) f ∙ sym q ∙ g)) why, e)
+      by false f = (candidate-referred c e f q (referred f) (some (ap (λ (b : Bool). b && s.more) f)) why, e)
 
 -- the one address agrees
 pub one-agrees : (byte : ℕ → Option PatternByte) (program : Program) (is : List Interval) → AreIntervals byte is → (address : ℕ) → is_at program.bytes.items program.base is address ≡ true → (before after : List ℕ) → before ≡ [] → after ≡ before ++ address ∷ []
@@ -217,3 +222,13 @@ zip-at R [] ys i x y h low e f = absurd (omega (arith, low))
 zip-at R (a ∷ xs) [] i x y h low e f = absurd h
 zip-at R (a ∷ xs) (b ∷ ys) zero x y h low e f = subst (λ z. R z y) (sym e) (subst (R a) (sym f) h.0)
 zip-at R (a ∷ xs) (b ∷ ys) (suc i) x y h low e f = zip-at R xs ys i x y h.1 (omega (arith, low)) e f
+
+-- A segment that is searched for and has no place agrees nowhere.
+pub nowhere-at : (program : Program) (most : ℕ) (m : Module) (ss : List Shape) (s : Shape) → HaveShapes program most m ss → Contains ss s → (s.is_searched && ((length s.places.items == 0) && not s.more)) ≡ true
+    → IsInside program → (address : ℕ) → IsAt program m s.segment address → ⊥
+nowhere-at program most m ss s h there e fits a ag =
+    let both = and_parts s.is_searched ((length s.places.items == 0) && not s.more) e in
+    let rest = and_parts (length s.places.items == 0) (not s.more) both.1 in
+    let c = (h.each s there).places.all (not-true s.more rest.1) fits a ag in
+    let none = eqb-true (length s.places.items) 0 rest.0 in
+    omega (arith, c.1, none)

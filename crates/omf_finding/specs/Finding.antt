@@ -1,5 +1,5 @@
 -- The verdicts of a search on modules.
-use Rattle.std.specs.Prelude.{◌≡◌, ◌⊎◌, ◌<◌, ◌≤◌, ◌+◌, ◌^◌, ℕ, List, Contains, Option, Some, false, true, length}
+use Rattle.std.specs.Prelude.{◌≡◌, ◌⊎◌, ◌<◌, ◌≤◌, ◌+◌, ◌^◌, ℕ, List, [], Bool, Contains, Option, Some, false, true, length}
 use Rattle.std.specs.Box.{box_value}
 use Rattle.std.specs.List.Sorted.{IsStrictlyIncreasing}
 use Rattle.omf_check.specs.Module.{Module, recs_of}
@@ -7,6 +7,8 @@ use Rattle.omf_image.specs.Limits.{profile_limits}
 use Rattle.omf_finding.specs.declared.findings.Candidate.{Candidate}
 use Rattle.omf_finding.specs.declared.findings.Found.{Found}
 use Rattle.omf_finding.specs.declared.findings.Verdict.{Verdict}
+use Rattle.omf_finding.specs.declared.findings.Why.{Why}
+use Rattle.omf_finding.specs.declared.findings.Why.TheVariants as why
 use Rattle.omf_finding.specs.declared.findings.Verdict.TheVariants as verdict
 use Rattle.omf_finding.specs.declared.program.Program.{Program}
 use Rattle.omf_finding.specs.Agrees.{Agrees, HasFour}
@@ -58,6 +60,14 @@ abbrev pub MayBeMore : Program → ℕ → Module → Candidate → Type 0
 MayBeMore program most m c =
     ((IsSought m c.segment → ⊥) × (0 < length c.addresses.items)) ⊎ IsCut (pattern profile_limits (recs_of m.bytes) c.segment) program.bytes.items program.base most c.addresses.items
 
+-- Why none of the places of a segment is sure, as far as the list of its places shows it. ManyPlaces: it has none of them. SeveralPlaces: it has two or
+-- more, or there may be more. OtherMissing: this segment of the module agrees with the program at no address.
+abbrev pub IsReason : Program → Module → List ℕ → Bool → Why → Type 0
+IsReason program m addresses more why.ManyPlaces = addresses ≡ []
+IsReason program m addresses more why.SeveralPlaces = (0 < length addresses) × (length addresses ≡ 1 → more ≡ false → ⊥)
+IsReason program m addresses more (why.OtherMissing other) = (0 < length addresses) × (IsInside program → (address : ℕ) → IsAt program m other address → ⊥)
+IsReason program m addresses more _ = 0 < length addresses
+
 -- A segment of a module and its places, in ascending order: it agrees at each of these addresses, and at no other one unless there may be more.
 -- There is one, or there may be more.
 pub record IsCandidate (program : Program) (most : ℕ) (m : Module) (c : Candidate) : Type 0 where
@@ -66,6 +76,7 @@ pub record IsCandidate (program : Program) (most : ℕ) (m : Module) (c : Candid
   pub some : c.more ≡ false → 0 < length c.addresses.items
   pub more : c.more ≡ true → MayBeMore program most m c
   pub all : c.more ≡ false → IsInside program → (address : ℕ) → IsAt program m c.segment address → Contains c.addresses.items address
+  pub why : IsReason program m c.addresses.items c.more c.why
 
 -- The segments that may be in a program: each one of the module that is searched for and agrees anywhere is among them.
 pub record AreCandidates (program : Program) (most : ℕ) (m : Module) (cs : List Candidate) : Type 0 where

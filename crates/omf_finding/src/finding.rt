@@ -1,15 +1,16 @@
 //! The search for modules in a program.
 
-ghost use Rattle.std.specs.Prelude.{◌≡◌, ◌++◌, ◌==◌, ◌&&◌, ℕ, length, not, true, false, IfOk, IfSome, OnOk, option_map, option_to_list};
+ghost use Rattle.std.specs.Prelude.{◌≡◌, ◌++◌, ◌==◌, ◌&&◌, ◌<◌, ℕ, length, not, true, false, IfOk, IfSome, OnOk, option_map, option_to_list};
 ghost use Rattle.std.specs.List.{AllZip};
 ghost use Rattle.omf_check.specs.Module.{Module};
 ghost use Rattle.std.specs.Box.{box_value};
 ghost use Rattle.omf_finding.specs.Chain.{AreChained, AreAllFound, IsDraft, IsDraftOf, draft_at, found_at, found_in};
-ghost use Rattle.omf_finding.specs.Finding.{AreCandidates, IsTold};
+ghost use Rattle.omf_finding.specs.Finding.{AreCandidates, IsAt, IsInside, IsReason, IsTold};
 ghost use Rattle.omf_finding.specs.Inner.Chaining.{AreJoined, found_by, kept};
 ghost use Rattle.omf_finding.specs.Inner.Closing.{AreAllJoined, unreferenced_by};
 ghost use Rattle.omf_finding.specs.Inner.Shaping.{AgreeAt, HasShapes, HaveShapes, IsMarked, IsOffered, IsPatternOf, IsShapeOf, bytes_of};
 ghost use Rattle.omf_finding.specs.Inner.Walking.{byte_in};
+ghost use Rattle.omf_finding.specs.declared.program.Program.{Program};
 
 use crate::chaining::{Joined, Tried, enough};
 use crate::findings::{Candidate, FindOptions, Findings, Found, Verdict, Why};
@@ -20,7 +21,7 @@ use crate::patterning::{Pattern, marked_pattern};
 use crate::program::Program;
 use crate::settling::Settled;
 use crate::shapes::{Shape, is_at, shapes_of};
-use crate::singles::Singles;
+use crate::singles::{Singles, is_varied};
 use omf_check::Checked;
 use omf_names::NameKey;
 use omf_records::{Kind, Rec, Reference};
@@ -189,23 +190,13 @@ impl<'a> Search<'a> {
         Some(other.module)
     }
 
-    /// Why none of the places of a segment is sure.
-    fn why(&self, module: usize, shape: &Shape, singles: &Singles) -> Why {
-        if shape.is_searched && shape.places.is_empty() {
-            return Why::ManyPlaces;
-        }
-        if let Some(other) = self.same_bytes(module, shape, singles) {
-            return Why::SameBytes(other);
-        }
+    /// Whether the place that references give a segment is one where it may be. `None` if they give it none.
+    fn agrees(&self, module: usize, shape: &Shape) -> Option<bool> {
         if self.is_disputed(module, shape.segment) {
-            return Why::Disagrees;
+            return Some(false);
         }
-        match self.known_place(module, shape.segment) {
-            Some(place) if !shape.is_searched || shape.places.contains(&place) => Why::OpenBytes,
-            Some(_) => Why::Disagrees,
-            None if self.is_few(module, shape) => Why::FewBytes,
-            None => Why::SeveralPlaces,
-        }
+        let place = self.known_place(module, shape.segment)?;
+        Some(!shape.is_searched || shape.places.contains(&place))
     }
 
     /// Whether a segment of a module has so few closed bytes that its only place would not be sure.
@@ -214,9 +205,29 @@ impl<'a> Search<'a> {
         if shape.closed < self.least / 2 {
             return true;
         }
+        shape.closed < self.enough(module, shape.segment)
+    }
+
+    /// The number of closed bytes from which on the only place of a segment of a module is sure.
+    fn enough(&self, module: usize, segment: u16) -> usize {
         match self.modules.get(module) {
-            Some(checked) => shape.closed < enough(checked, shape.segment, self.least),
-            None => shape.closed < self.least,
+            Some(checked) => enough(checked, segment, self.least),
+            None => self.least,
+        }
+    }
+
+    /// Whether the closed bytes of a segment with one place vary enough for it to be sure.
+    fn is_varied(&self, module: usize, shape: &Shape) -> bool {
+        is_varied(shape, self.enough(module, shape.segment))
+    }
+
+    /// Whether the loader changes each selector of a segment at one of these addresses.
+    fn may_be_at_one(&self, module: usize, segment: u16, addresses: &[u32]) -> bool {
+        match self.number_of(module, segment) {
+            Some(number) => addresses
+                .iter()
+                .any(|address| self.may_be_loaded(number, *address)),
+            None => false,
         }
     }
 
@@ -315,26 +326,94 @@ fn is_untold(addresses: &[u32], shape: &Shape) -> bool
     addresses.is_empty() && !(shape.is_searched && shape.more)
 }
 
+/// The first segment that is nowhere in the program, if there is one.
+fn missing(shapes: &[Shape]) -> Option<u16>
+    ensures { IfSome result (λ other. (program : Program) (most : ℕ) (m : Module) → HaveShapes program most m shapes.now → IsInside program → (address : ℕ) → IsAt program m other address → ⊥) }
+{
+    for shape in shapes {
+        if shape.is_nowhere() {
+            return Some(shape.segment);
+        }
+    }
+    None
+}
+
+/// Why none of these places of a segment is sure, to none of which a reference points.
+fn unplaced_why(
+    ended: Ended<'_, '_>,
+    number: usize,
+    shapes: &[Shape],
+    shape: &Shape,
+    addresses: &[u32],
+) -> Why
+    requires { 0 < length addresses.now }
+    ensures { (m : Module) → HaveShapes ended.entry.program.now ended.entry.most m shapes.now → IsReason ended.entry.program.now m addresses.now shape.now.more result }
+{
+    let search = ended.search;
+    if search.is_few(number, shape) {
+        return Why::FewBytes;
+    }
+    if shape.more || addresses.len() > 1 {
+        return Why::SeveralPlaces;
+    }
+    if let Some(other) = missing(shapes) {
+        return Why::OtherMissing(other);
+    }
+    if !search.is_varied(number, shape) {
+        return Why::FewValues;
+    }
+    if search.may_be_at_one(number, shape.segment, addresses) {
+        Why::Overlapped
+    } else {
+        Why::Disagrees
+    }
+}
+
+/// Why none of these places of a segment of a module with these shapes is sure.
+fn why(
+    ended: Ended<'_, '_>,
+    number: usize,
+    shapes: &[Shape],
+    shape: &Shape,
+    addresses: &[u32],
+) -> Why
+    ensures { (m : Module) → HaveShapes ended.entry.program.now ended.entry.most m shapes.now → IsReason ended.entry.program.now m addresses.now shape.now.more result }
+{
+    if addresses.is_empty() {
+        return Why::ManyPlaces;
+    }
+    if let Some(other) = ended.search.same_bytes(number, shape, ended.singles) {
+        return Why::SameBytes(other);
+    }
+    match ended.search.agrees(number, shape) {
+        Some(true) => Why::OpenBytes,
+        Some(false) => Why::Disagrees,
+        None => unplaced_why(ended, number, shapes, shape, addresses),
+    }
+}
+
 /// The places of a segment of a module that is not found. `None` if it is sure that there are none, or if it is not searched for and no
 /// reference points to a place where its bytes agree.
 fn candidate(
     ended: Ended<'_, '_>,
     number: usize,
     pattern: &Option<Pattern>,
+    shapes: &[Shape],
     shape: &Shape,
 ) -> Result<Option<Candidate>, AllocError>
     requires { IfSome pattern.now IsMarked }
-    ensures { IfOk result (λ r. (m : Module) → IfSome pattern.now (IsPatternOf m) → IsShapeOf ended.entry.program.now ended.entry.most m shape.now → IsOffered ended.entry.program.now ended.entry.most m shape.now r) }
+    ensures { IfOk result (λ r. (m : Module) → IfSome pattern.now (IsPatternOf m) → HaveShapes ended.entry.program.now ended.entry.most m shapes.now → IsShapeOf ended.entry.program.now ended.entry.most m shape.now → IsOffered ended.entry.program.now ended.entry.most m shape.now r) }
 {
     let addresses = addresses(ended, number, pattern, shape)?;
     if is_untold(&addresses, shape) {
         return Ok(None);
     }
+    let why = why(ended, number, shapes, shape, &addresses);
     Ok(Some(Candidate {
         segment: shape.segment,
         addresses,
         more: shape.more,
-        why: ended.search.why(number, shape, ended.singles),
+        why,
     }))
 }
 
@@ -370,7 +449,10 @@ fn shape_candidates(
     let _count = segment_count(module);
     let mut candidates = Vec::new(ended.search.alloc);
     for shape in shapes {
-        push_candidate(&mut candidates, candidate(ended, number, pattern, shape)?)?;
+        push_candidate(
+            &mut candidates,
+            candidate(ended, number, pattern, shapes, shape)?,
+        )?;
     }
     Ok(candidates)
 }

@@ -26,13 +26,19 @@ pub struct Found {
 /// Why a place of a segment is only a possible one.
 #[derive(Clone, Copy, Debug, PartialEq, Eq)]
 pub enum Why {
-    /// The segment has fewer closed bytes than `least`, and no reference points to it.
+    /// The segment has fewer closed bytes than are enough, and no reference points to it.
     FewBytes,
-    /// Its closed bytes are at several places, and no reference points to one of them.
+    /// Its closed bytes are at several places, or may be, and no reference points to one of them.
     SeveralPlaces,
     /// Its closed bytes are at the same place as those of a segment of this module of the list.
     SameBytes(u32),
-    /// A reference leads elsewhere, or two references disagree.
+    /// They are at one place, but this segment of the module is nowhere in the program.
+    OtherMissing(u16),
+    /// They are at one place, but few of them differ from the one before, as in a row of zeros.
+    FewValues,
+    /// They are at one place, but as many closed bytes of another module's segment are there too.
+    Overlapped,
+    /// A reference leads elsewhere, two references disagree, or a selector would be where the loader changes nothing.
     Disagrees,
     /// The fixups do not reach, or a byte at a location is not what they give; or only modules that are not found refer to it.
     OpenBytes,

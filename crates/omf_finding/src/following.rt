@@ -282,7 +282,7 @@ impl<'a> Search<'a> {
     }
 
     /// Whether the loader changes each selector of a segment, where it is at this address.
-    fn may_be_loaded(&self, number: usize, address: u32) -> bool {
+    pub(crate) fn may_be_loaded(&self, number: usize, address: u32) -> bool {
         let Some(part) = self.parts.get(number) else {
             return false;
         };

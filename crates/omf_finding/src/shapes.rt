@@ -1,6 +1,6 @@
 //! The segments of modules, and the places of a program where their closed bytes are.
 
-ghost use Rattle.std.specs.Prelude.{◌≡◌, ◌⊎◌, ◌+◌, ◌++◌, ◌∷◌, [], ◌<◌, ◌≤◌, ◌^◌, ◌==◌, ℕ, All, length, false, not, true, Option, None, IfOk, IfSome, OnOk};
+ghost use Rattle.std.specs.Prelude.{◌≡◌, ◌⊎◌, ◌+◌, ◌++◌, ◌∷◌, [], ◌<◌, ◌≤◌, ◌^◌, ◌==◌, ◌&&◌, ℕ, All, length, false, not, true, Option, None, IfOk, IfSome, OnOk};
 ghost use Rattle.std.specs.List.{AllZip};
 ghost use Rattle.omf_finding.specs.Finding.{IsCut};
 ghost use Rattle.omf_finding.specs.Inner.Walking.{byte_in};
@@ -530,7 +530,9 @@ impl Shape {
     }
 
     /// Whether it is searched for, and is nowhere in the program.
-    pub(crate) fn is_nowhere(&self) -> bool {
+    pub(crate) fn is_nowhere(&self) -> bool
+        ensures { result ≡ (self.now.is_searched && (length self.now.places.items == 0 && not self.now.more)) }
+    {
         self.is_searched && self.places.is_empty() && !self.more
     }
 

@@ -75,6 +75,11 @@ impl Singles {
     }
 }
 
+/// Whether the closed bytes of a segment with one place vary enough, where this many are enough.
+pub(crate) fn is_varied(shape: &Shape, enough: usize) -> bool {
+    shape.varied >= enough.min(LEAST_VARIED)
+}
+
 /// Adds those of a module whose first segment has this number.
 fn add_all(
     all: &mut Vec<Single>,
@@ -86,7 +91,7 @@ fn add_all(
     for (number, shape) in shapes.iter().enumerate() {
         if let Some(address) = shape.single_place() {
             let enough = enough(module, shape.segment, least);
-            if shape.closed >= enough && shape.varied >= enough.min(LEAST_VARIED) {
+            if shape.closed >= enough && is_varied(shape, enough) {
                 let (start, end) = shape.extent(address);
                 all.push(Single {
                     start,

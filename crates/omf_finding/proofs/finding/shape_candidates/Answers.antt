@@ -19,7 +19,7 @@ loop-shape-preserved c =
     let m = c.args.module.now in
     let i = c.loop-shape.shape-index in
     for-next program most m c.args.shapes.now i c.shape-item.result c.shape-item.is c.loop-shape-test.true c.loop-shape.candidates.items c.push_candidate.new.candidates.items c.in_ok-candidate.field-0
-    (c.in_ok-candidate.ensures m c.requires.pattern (c.requires.shapes.each c.shape-item.result (i, c.loop-shape-test.true, sym c.shape-item.is))) c.in_ok-push_candidate.ensures c.loop-shape.invariant
+    (c.in_ok-candidate.ensures m c.requires.pattern c.requires.shapes (c.requires.shapes.each c.shape-item.result (i, c.loop-shape-test.true, sym c.shape-item.is))) c.in_ok-push_candidate.ensures c.loop-shape.invariant
 
 pub returns : goal.returns
 returns c =
