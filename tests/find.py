@@ -472,6 +472,35 @@ def orders(folder):
             fails("orders", files, lines)
 
 
+# Of files, the bytes of the segments of each, and why each place in the program at 100H is only a possible one: the address, the file, the segment, the
+# reason, and what else the line has. PLAIN has 20 bytes that all differ, and none of them is in FILLER.
+PLAIN, FILLER = bytes(range(1, 21)), b"\x90" * 32
+REASONS = [
+    ("7 bytes", {"a.obj": [PLAIN[:7]]}, FILLER + PLAIN, [(0x120, "a.obj", 1, "few-bytes", {})]),
+    ("two places", {"a.obj": [PLAIN]}, PLAIN + FILLER + PLAIN, [(0x100, "a.obj", 1, "several-places", {}), (0x134, "a.obj", 1, "several-places", {})]),
+    ("the same bytes", {"a.obj": [PLAIN], "b.obj": [PLAIN]}, FILLER + PLAIN, [(0x120, "a.obj", 1, "same-bytes", {}), (0x120, "b.obj", 1, "same-bytes", {})]),
+    ("a segment that is nowhere", {"a.obj": [PLAIN, b"nowhere here"]}, FILLER + PLAIN, [(0x120, "a.obj", 1, "other-segment-missing", {"missing": 2})]),
+    ("zeros", {"a.obj": [bytes(20)]}, FILLER + bytes(20) + FILLER, [(0x120, "a.obj", 1, "few-values", {})]),
+    ("a part of each other", {"a.obj": [PLAIN[:18]], "b.obj": [PLAIN[2:]]}, FILLER + PLAIN, [(0x120, "a.obj", 1, "overlapped", {}), (0x122, "b.obj", 1, "overlapped", {})]),
+    ("zeros at 81 places, none before the letter", {"a.obj": [bytes(4) + b"A"]}, bytes(84) + b"B", []),
+    ("zeros at 81 places", {"a.obj": [bytes(4)]}, bytes(84), [(0x100 + it, "a.obj", 1, "few-bytes", {}) for it in range(16)]),
+]
+
+
+def reasons(folder):
+    """Why the place of a segment is only a possible one."""
+    global tried
+    for what, files_of, program, wanted in REASONS:
+        tried += 1
+        for name, segments in files_of.items():
+            (folder / name).write_bytes(code_module(b"m", [(bytes([0x53 + at]), len(it), it) for at, it in enumerate(segments)]))
+        (folder / "why.bin").write_bytes(program)
+        lines = [it for it in lines_of(folder, "--base", "100", "--possible", "why.bin", *files_of) if "possible" in it]
+        found = [(it["possible"], it["file"], it["index"], it["why"], {"missing": it["missing"]} if "missing" in it else {}) for it in lines]
+        if sorted(found, key=str) != sorted(wanted, key=str):
+            fails("why", what, found)
+
+
 def look_at_all_made(asked):
     seed, end = asked.first, time.monotonic() + (asked.seconds or 0)
     while failed < MOST_FAILED and (time.monotonic() < end if asked.seconds else seed < asked.first + asked.count):
@@ -494,6 +523,7 @@ def look_at_written():
         link_files(folder)
         near(folder)
         orders(folder)
+        reasons(folder)
         absent_segments(folder)
         linked(folder)
 
