@@ -1,6 +1,6 @@
 -- Members by need: which members of the libraries a program takes. TIS OMF 1.1, appendix 2, has the dictionary, but not
 -- which of several members is taken: what follows is this profile's rule.
-use Rattle.std.specs.Prelude.{◌≡◌, ◌⊎◌, ℕ, zero, suc, ◌+◌, List, [], ◌∷◌, map, flat_map, Bool, false, ◌||◌, ◌==◌, if◌then◌else◌, bytes_eq, Option, Some, None, option_map, slice_get, All, Contains}
+use Rattle.std.specs.Prelude.{◌≡◌, ◌⊎◌, ℕ, zero, suc, ◌+◌, List, [], ◌∷◌, ◌++◌, map, flat_map, Bool, false, ◌||◌, ◌==◌, if◌then◌else◌, bytes_eq, Option, Some, None, option_map, slice_get, All, Contains}
 use Rattle.std.specs.List.{enumerate_from}
 use Rattle.std.specs.List.Sorted.{IsStrictlyIncreasing}
 use Rattle.omf_frame.specs.Bytes.{is_one_of}
@@ -9,6 +9,7 @@ use Rattle.omf_records.specs.Values.{Rec, Contents, Comment}
 use Rattle.omf_check.specs.Module.{Module, recs_of}
 use Rattle.omf_placement.specs.Derive.{named_externals}
 use Rattle.omf_placement.specs.Weak.{indices, paired}
+use Rattle.omf_library.specs.Aliases.{aliases, substitutes}
 use Rattle.omf_library.specs.LibraryMembers.{defined_publics, names_kept}
 use Rattle.omf_library.specs.declared.judged.LibraryMember.{LibraryMember}
 use Rattle.omf_library.specs.declared.judged.LibraryMember.TheVariants as member
@@ -43,14 +44,17 @@ needed_name weak e = name_unless (e.1.1 || is_one_of weak e.0) e.1.0
 abbrev pub needed_names : List Rec → List (List ℕ)
 needed_names m = flat_map (needed_name (weak_indices m)) (enumerate_from 1 (named_externals m))
 
--- What counts of a module: the names that it defines for others, and those that it needs. Nothing else counts: no dictionary, and no
--- comment but those of weak externals.
+-- What counts of a module: the names that it defines for others, and those that it needs. An alias counts as defined, and its substitute as needed
+-- (TIS OMF 1.1, "ALIAS"). Nothing else counts: no dictionary, and no comment but those of weak externals.
 pub record Linkage : Type 0 where
   pub publics : List (List ℕ)
   pub externals : List (List ℕ)
 
+abbrev pub linkage_of : List Rec → Linkage
+linkage_of m = record { publics = public_names m ++ aliases m; externals = needed_names m ++ substitutes m }
+
 abbrev pub linkage : Module → Linkage
-linkage m = record { publics = public_names (recs_of m.bytes); externals = needed_names (recs_of m.bytes) }
+linkage m = linkage_of (recs_of m.bytes)
 
 -- A member that is refused defines its names, and needs none.
 abbrev pub member_linkage : LibraryMember → Linkage

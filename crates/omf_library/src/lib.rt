@@ -10,6 +10,7 @@
 #![tactic(auto)]
 
 mod account;
+mod aliases;
 mod costs;
 mod dictionary;
 mod entries;
@@ -35,6 +36,7 @@ mod spans;
 mod spots;
 
 pub use account::{Region, RegionKind, account_of};
+pub use aliases::{AliasPair, alias_pairs};
 pub use dictionary::{BLOCK, Bucket, Dictionary, Look};
 pub use fault::LibraryFault;
 pub use hash::{BUCKETS, Probe, probe_of};

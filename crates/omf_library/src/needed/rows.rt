@@ -1,8 +1,8 @@
 //! Worked examples, each evaluated by the check.
 
 ghost use Rattle.std.specs.Prelude.{◌≡◌, [], ◌∷◌, codes};
-ghost use Rattle.omf_library.specs.Needed.{needed_names};
-ghost use Rattle.omf_library.specs.Rows.{asking, comment, externs};
+ghost use Rattle.omf_library.specs.Needed.{linkage_of, needed_names};
+ghost use Rattle.omf_library.specs.Rows.{alias_record, asking, comment, externs};
 
 /// What a module with the externals A, B, C (local), D (communal) and E (local, communal) needs, by its comments. A weak external is not needed;
 /// its default is. Indices count local externals too.
@@ -30,4 +30,13 @@ pub fn names_of_two_externals()
     ensures one { needed_names (externs 0x8C (codes "A" ∷ codes "A" ∷ []) ∷ comment 0xA8 (1 ∷ 2 ∷ []) ∷ []) ≡ codes "A" ∷ [] }
     ensures both { needed_names (externs 0x8C (codes "A" ∷ codes "A" ∷ []) ∷ comment 0xA8 (1 ∷ 2 ∷ 2 ∷ 1 ∷ []) ∷ []) ≡ [] }
     ensures before { needed_names (comment 0xA8 (1 ∷ 2 ∷ []) ∷ externs 0x8C (codes "A" ∷ codes "B" ∷ []) ∷ []) ≡ codes "B" ∷ [] }
+{}
+
+/// An ALIAS with a and _a defines a, and needs _a; two pairs; a name that is left over; a name that is cut short (TIS OMF 1.1, "ALIAS").
+pub fn aliases_are_defined()
+    ensures alias { (linkage_of (alias_record (1 ∷ 0x61 ∷ 2 ∷ 0x5F ∷ 0x61 ∷ []) ∷ [])).publics ≡ codes "a" ∷ [] }
+    ensures substitute { (linkage_of (alias_record (1 ∷ 0x61 ∷ 2 ∷ 0x5F ∷ 0x61 ∷ []) ∷ [])).externals ≡ codes "_a" ∷ [] }
+    ensures two { (linkage_of (alias_record (1 ∷ 0x61 ∷ 1 ∷ 0x62 ∷ 1 ∷ 0x63 ∷ 1 ∷ 0x64 ∷ []) ∷ [])).publics ≡ codes "a" ∷ codes "c" ∷ [] }
+    ensures left_over { (linkage_of (alias_record (1 ∷ 0x61 ∷ 1 ∷ 0x62 ∷ 1 ∷ 0x63 ∷ []) ∷ [])).publics ≡ codes "a" ∷ [] }
+    ensures cut { (linkage_of (alias_record (1 ∷ 0x61 ∷ 2 ∷ 0x62 ∷ []) ∷ [])).publics ≡ [] }
 {}

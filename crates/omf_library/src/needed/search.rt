@@ -60,26 +60,28 @@ impl<'a> Definers<'a> {
     /// Adds a module, as the definer of its publics, whose names it takes.
     fn add_module(
         &mut self,
+        alloc: Global,
         names: &mut Vec<&'a [u8]>,
         module: &'a Checked,
         definer: Definer,
     ) -> Result<(), AllocError>
         ensures { OnOk result (HasMore self.old self.new (linkage «module».entry.now).publics definer) }
     {
-        take_public_names(names, module)?;
+        take_public_names(alloc, names, module)?;
         self.add_names(names, definer)
     }
 
     /// Adds a member with its number, as the definer of its publics, whose names it takes.
     fn add_member(
         &mut self,
+        alloc: Global,
         names: &mut Vec<&'a [u8]>,
         member: &'a LibraryMember,
         number: usize,
     ) -> Result<(), AllocError>
         ensures { OnOk result (HasMore self.old self.new (member_linkage member.entry.now).publics (Member number)) }
     {
-        take_publics(names, member)?;
+        take_publics(alloc, names, member)?;
         self.add_names(names, Definer::Member(number))
     }
 
@@ -92,7 +94,7 @@ impl<'a> Definers<'a> {
             by_name: BTreeMap::new(alloc),
         };
         for module in modules {
-            definers.add_module(&mut names, module, Definer::Given)?;
+            definers.add_module(alloc, &mut names, module, Definer::Given)?;
         }
         Ok(definers)
     }
@@ -108,7 +110,7 @@ impl<'a> Definers<'a> {
         let mut names = Vec::new(alloc);
         let mut definers = Definers::of_given(alloc, modules)?;
         for (number, member) in members.iter().enumerate() {
-            definers.add_member(&mut names, member, number)?;
+            definers.add_member(alloc, &mut names, member, number)?;
         }
         Ok(definers)
     }

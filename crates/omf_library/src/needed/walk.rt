@@ -171,8 +171,8 @@ fn by_walk(
 /// `members` are those of all libraries, in the order in which the libraries are searched. The first member that defines
 /// an external of a given module joins, unless a given module defines it; so do the members that its externals need, and
 /// so on. No other member does. A name is defined by a PUBDEF, and needed by an EXTDEF or a COMDEF, unless a comment of class
-/// A8H (WKEXT) has this external as weak. Local names, dictionaries and other comments do not count. A member that is
-/// refused has its names, and needs none.
+/// A8H (WKEXT) has this external as weak. An ALIAS defines its alias, and needs its substitute. Local names, dictionaries and
+/// other comments do not count. A member that is refused has the names of its PUBDEFs, and needs none.
 ///
 /// # Errors
 ///

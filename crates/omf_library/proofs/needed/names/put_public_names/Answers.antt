@@ -4,7 +4,7 @@ use Rattle.omf_check.specs.Module.{records_in}
 use Rattle.omf_library.specs.Needed.{public_names_of}
 use Rattle.omf_library.specs.Inner.Names.{names_seen}
 use Rattle.omf_library.proofs.ListedNames.{listed-all}
-use Rattle.omf_library.proofs.needed.names.take_public_names.Goals as goal
+use Rattle.omf_library.proofs.needed.names.put_public_names.Goals as goal
 
 pub loop-rec-init : goal.loop-rec-init
 loop-rec-init c =

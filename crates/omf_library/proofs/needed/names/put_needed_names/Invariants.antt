@@ -4,7 +4,7 @@ use Rattle.omf_check.specs.Tables.{externals}
 use Rattle.omf_library.specs.Needed.{needed_names, weak_indices}
 use Rattle.omf_library.specs.Inner.Names.{names_seen}
 use Rattle.omf_library.proofs.WeakLaws.{names_from}
-use Rattle.omf_library.proofs.needed.names.take_needed_names.Given as goal
+use Rattle.omf_library.proofs.needed.names.put_needed_names.Given as goal
 
 -- the names so far, and those from the next external on
 abbrev pub invariant-loop-i : goal.invariant-loop-i

@@ -10,7 +10,7 @@ use Rattle.omf_library.specs.Inner.Names.{names_seen}
 use Rattle.omf_library.specs.Inner.Weak.{is_marked}
 use Rattle.omf_library.specs.Needed.{name_unless, needed_name, needed_names, weak_indices}
 use Rattle.omf_library.proofs.WeakLaws.{names_from, next_name, no_names}
-use Rattle.omf_library.proofs.needed.names.take_needed_names.Goals as goal
+use Rattle.omf_library.proofs.needed.names.put_needed_names.Goals as goal
 
 pub loop-i-init : goal.loop-i-init
 loop-i-init c = record {
