@@ -1,22 +1,23 @@
 -- A walk over a module and its folded one, record by record.
-use Rattle.std.proofs.Common.{◌≡◌, ℕ, suc, ◌+◌, ◌<◌, List, [], ◌∷◌, ◌++◌, Result, Ok, refl, sym, ◌∙◌, ap, subst, arith, length, length-append, map, append_assoc, append-nil}
-use Rattle.std.specs.Prelude.{All, flat_map}
+use Rattle.std.proofs.Common.{◌≡◌, ℕ, suc, ◌+◌, ◌<◌, List, [], ◌∷◌, ◌++◌, Result, Ok, refl, sym, ◌∙◌, ap, subst, arith, ap₂, false, length, length-append, map, append_assoc, append-nil}
+use Rattle.std.specs.Prelude.{◌==◌, All, flat_map}
 use Rattle.std.specs.List.{AllZip}
+use Rattle.std.proofs.lemmas.Bool.{cond-false}
 use Rattle.omf_frame.specs.Fault.{Fault}
 use Rattle.omf_frame.specs.Framing.{Raw, raw_bytes, front_record, present, after_front}
 use Rattle.omf_frame.proofs.FramingLaws.{present_raw, front_raw, after_raw}
 use Rattle.omf_image.specs.declared.limits.Limits.{Limits}
 use Rattle.omf_records.specs.Inner.Reading.{typed, read_body}
 use Rattle.omf_records.specs.Inner.RecordReaders.{contents_whole}
-use Rattle.omf_records.specs.Values.{Contents, Rec}
+use Rattle.omf_records.specs.Values.{Carried, Contents, Rec}
 use Rattle.omf_check.specs.Listed.{IsReadable, StartsWithRecord}
 use Rattle.omf_check.specs.Module.{Module, records_in, recs_of, typed_modules}
 use Rattle.omf_check.specs.WellFormed.{IsWellFormed}
 use Rattle.omf_check.specs.declared.profile.Profile.{Profile}
 use Rattle.omf_check.proofs.WellLaws.{well-read}
 use Rattle.omf_check.proofs.ListedLaws.{records_back}
-use Rattle.omf_linking.specs.Folded.{IsFolded, folded, folded_record}
-use Rattle.omf_linking.specs.Inner.Folding.{FoldTo}
+use Rattle.omf_linking.specs.Folded.{IsFolded, folded, folded_contents, folded_names, folded_record, named_contents}
+use Rattle.omf_linking.specs.Inner.Folding.{FoldTo, NamedFold}
 
 -- These bytes are readable records.
 pub record AreReadable (bytes : List ℕ) : Type 0 where
@@ -106,7 +107,30 @@ typed-folds r s kind lower body lowered h g k b u t f =
     let held = f.contents (typed r).contents (typed s).contents (readable-read kind body r h k b) (readable-read lower lowered s g u t) in
     let by_kind = λ (n : ℕ). let y : Rec = record { kind = n; contents = (typed s).contents } in y in
     let by_contents = λ (d : Contents). let y : Rec = record { kind = r.kind; contents = d } in y in
-    ap by_kind same ∙ ap by_contents held
+    ap by_kind same ∙ ap by_contents held ∙ ap (λ (n : ℕ). by_contents (folded_contents n (typed r).contents)) k
+
+-- A record that is no ALIAS, and one that is.
+pub no-alias : (kind : ℕ) (c d : Contents) → (kind == 0xC6) ≡ false → d ≡ named_contents c → d ≡ folded_contents kind c
+no-alias kind (Carried bytes) d e h = h ∙ sym (cond-false (kind == 0xC6) (Carried (folded_names 0 bytes)) (Carried bytes) e)
+no-alias kind _ d e h = h
+
+carried-is : (body : List ℕ) (c : Contents) → read_body 0xC6 body ≡ Ok c → c ≡ Carried body
+carried-is body c e = ok-same c (Carried body) (sym e)
+  where
+    ok-same : (c d : Contents) → ◌≡◌ {A = Result Contents Fault} (Ok c) (Ok d) → c ≡ d
+    ok-same c d x = cc
+
+pub alias-folds : (kind lower : ℕ) (body lowered : List ℕ) → kind ≡ 0xC6 → lower ≡ kind → lowered ≡ folded_names 0 body → FoldTo kind body lower lowered
+alias-folds kind lower body lowered k same e = record {
+  same = same;
+  contents = λ c d f g.
+      let here = carried-is body c (sym (ap (λ n. read_body n body) k) ∙ f) in
+      let there = carried-is lowered d (sym (ap (λ n. read_body n lowered) (same ∙ k)) ∙ g) in
+      there ∙ ap Carried e ∙ sym (ap₂ (λ n x. folded_contents n x) k here);
+}
+
+pub named-folds : (kind lower : ℕ) (body lowered : List ℕ) → (kind == 0xC6) ≡ false → NamedFold kind body lower lowered → FoldTo kind body lower lowered
+named-folds kind lower body lowered e f = record { same = f.same; contents = λ c d g h. no-alias kind c d e (f.contents c d g h) }
 
 -- One record more of both: what is left folds if the rest does.
 pub folds-more : (left right after others : List ℕ) (a : AreReadable left) (b : AreReadable right) (low : 0 < length left) (some : 0 < length right) → after ≡ after_front left → others ≡ after_front right

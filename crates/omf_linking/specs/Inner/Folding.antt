@@ -2,7 +2,7 @@
 use Rattle.std.specs.Prelude.{◌≡◌, ℕ, List, Ok}
 use Rattle.omf_records.specs.Inner.Reading.{read_body}
 use Rattle.omf_records.specs.Values.{Communals, Contents, Externs, PublicItems, Publics}
-use Rattle.omf_linking.specs.Folded.{folded_contents}
+use Rattle.omf_linking.specs.Folded.{folded_contents, named_contents}
 use Rattle.omf_linking.specs.declared.folding.named.NamedItems.{NamedItems}
 use Rattle.omf_linking.specs.declared.folding.named.NamedItems.TheVariants as items
 
@@ -11,7 +11,7 @@ abbrev pub AreItemsOf : Contents → NamedItems → Type 0
 AreItemsOf c (items.Externs xs) = c ≡ Externs xs
 AreItemsOf c (items.Publics p) = c ≡ Publics p
 AreItemsOf c (items.Communals xs) = c ≡ Communals xs
-AreItemsOf c items.Others = folded_contents c ≡ c
+AreItemsOf c items.Others = named_contents c ≡ c
 
 -- Two PUBDEFs have the same base.
 pub record IsSameBase (p q : PublicItems) : Type 0 where
@@ -22,4 +22,9 @@ pub record IsSameBase (p q : PublicItems) : Type 0 where
 -- A record's contents are those of another one, folded.
 pub record FoldTo (kind : ℕ) (body : List ℕ) (lower : ℕ) (lowered : List ℕ) : Type 0 where
   pub same : lower ≡ kind
-  pub contents : (c d : Contents) → read_body kind body ≡ Ok c → read_body lower lowered ≡ Ok d → d ≡ folded_contents c
+  pub contents : (c d : Contents) → read_body kind body ≡ Ok c → read_body lower lowered ≡ Ok d → d ≡ folded_contents kind c
+
+-- The same of a record that is no ALIAS.
+pub record NamedFold (kind : ℕ) (body : List ℕ) (lower : ℕ) (lowered : List ℕ) : Type 0 where
+  pub same : lower ≡ kind
+  pub contents : (c d : Contents) → read_body kind body ≡ Ok c → read_body lower lowered ≡ Ok d → d ≡ named_contents c

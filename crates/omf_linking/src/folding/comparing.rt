@@ -3,8 +3,8 @@
 ghost use Rattle.std.specs.Prelude.{◌≡◌, ◌≤◌, IsTrue, is_ok, length, map, true};
 ghost use Rattle.omf_check.specs.Module.{recs_of};
 ghost use Rattle.omf_frame.specs.Framing.{is_taken};
-ghost use Rattle.omf_linking.specs.Folded.{at_place, folded, folded_contents};
-ghost use Rattle.omf_linking.specs.Inner.Folding.{AreItemsOf, FoldTo, IsSameBase};
+ghost use Rattle.omf_linking.specs.Folded.{at_place, folded, folded_at, folded_names, left_after, named_contents};
+ghost use Rattle.omf_linking.specs.Inner.Folding.{AreItemsOf, FoldTo, IsSameBase, NamedFold};
 ghost use Rattle.omf_records.specs.Inner.Reading.{read_body};
 ghost use Rattle.omf_records.specs.Values.{Communals, Contents, Externs, Publics as PublicContents};
 
@@ -12,6 +12,9 @@ use crate::folding::named::{Named, NamedItems, Publics, named_items};
 use omf_check::{Checked, split_record};
 use omf_frame::{Index, RawRecord};
 use omf_records::{At, Communal, Extern, Items, view_known};
+
+/// The type of an ALIAS record.
+pub(crate) const ALIAS: u8 = 0xC6;
 
 /// Whether these items are others with names in lower case, at the same places.
 fn items_fold<T: Named>(items: Items<T>, lower: Items<T>) -> bool
@@ -47,28 +50,28 @@ fn is_same_base(one: &Publics<'_>, other: &Publics<'_>) -> bool
 
 /// Whether externals are others with names in lower case.
 fn externs_fold<'a>(externs: Items<Extern<'a>>, lower: Items<Extern<'a>>) -> bool
-    ensures { result ≡ true → Externs lower.entry ≡ folded_contents (Externs externs.entry) }
+    ensures { result ≡ true → Externs lower.entry ≡ named_contents (Externs externs.entry) }
 {
     items_fold(externs, lower)
 }
 
 /// Whether communals are others with names in lower case.
 fn communals_fold<'a>(communals: Items<Communal<'a>>, lower: Items<Communal<'a>>) -> bool
-    ensures { result ≡ true → Communals lower.entry ≡ folded_contents (Communals communals.entry) }
+    ensures { result ≡ true → Communals lower.entry ≡ named_contents (Communals communals.entry) }
 {
     items_fold(communals, lower)
 }
 
 /// Whether a PUBDEF is another one with names in lower case.
 fn publics_fold<'a>(publics: &Publics<'a>, lower: &Publics<'a>) -> bool
-    ensures { result ≡ true → PublicContents lower.now ≡ folded_contents (PublicContents publics.now) }
+    ensures { result ≡ true → PublicContents lower.now ≡ named_contents (PublicContents publics.now) }
 {
     is_same_base(publics, lower) && items_fold(publics.items.iter(), lower.items.iter())
 }
 
 /// Whether the items of a record, which are not others, are those of another one with names in lower case.
 fn named_fold<'a>(items: &NamedItems<'a>, lower: &NamedItems<'a>) -> bool
-    ensures { result ≡ true → (c d : Contents) → AreItemsOf c items.now → AreItemsOf d lower.now → d ≡ folded_contents c }
+    ensures { result ≡ true → (c d : Contents) → AreItemsOf c items.now → AreItemsOf d lower.now → d ≡ named_contents c }
 {
     match items {
         NamedItems::Externs(items) => match lower {
@@ -87,6 +90,65 @@ fn named_fold<'a>(items: &NamedItems<'a>, lower: &NamedItems<'a>) -> bool
     }
 }
 
+/// A byte of names, in lower case if it is of a name of which this number of characters are left.
+pub(crate) fn folded_at(left: u8, byte: u8) -> u8
+    ensures { result ≡ folded_at left byte }
+{
+    if left == 0 {
+        byte
+    } else {
+        byte.to_ascii_lowercase()
+    }
+}
+
+/// How many characters of a name are left after a byte.
+pub(crate) fn left_after(left: u8, byte: u8) -> u8
+    ensures { result ≡ left_after left byte }
+{
+    if left == 0 { byte } else { left - 1 }
+}
+
+/// Whether names one after another, each after its length, are others in lower case.
+fn names_fold(names: &[u8], lower: &[u8]) -> bool
+    ensures { result ≡ true → lower.now ≡ folded_names 0 names.now }
+{
+    let mut rest = names;
+    let mut others = lower;
+    let mut left = 0;
+    while let [byte, after @ ..] = rest {
+        let [lowered, more @ ..] = others else {
+            return false;
+        };
+        if *lowered != folded_at(left, *byte) {
+            return false;
+        }
+        left = left_after(left, *byte);
+        rest = after;
+        others = more;
+    }
+    others.is_empty()
+}
+
+/// Whether a record that is no ALIAS is another one with names in lower case.
+fn named_folds<'a>(raw: RawRecord<'a>, lower: RawRecord<'a>) -> bool
+    requires taken { IsTrue (is_taken raw.kind) }
+    requires short { length raw.body.now ≤ 65534 }
+    requires read { is_ok (read_body raw.kind raw.body.now) ≡ true }
+    requires lower_taken { IsTrue (is_taken lower.kind) }
+    requires lower_short { length lower.body.now ≤ 65534 }
+    requires lower_read { is_ok (read_body lower.kind lower.body.now) ≡ true }
+    ensures { result ≡ true → NamedFold raw.entry.kind raw.entry.body.now lower.entry.kind lower.entry.body.now }
+{
+    if raw.kind != lower.kind {
+        return false;
+    }
+    let items = named_items(&view_known(raw));
+    if let NamedItems::Others = items {
+        return raw.body == lower.body;
+    }
+    named_fold(&items, &named_items(&view_known(lower)))
+}
+
 /// Whether a record is another one with names in lower case.
 fn record_folds<'a>(raw: RawRecord<'a>, lower: RawRecord<'a>) -> bool
     requires taken { IsTrue (is_taken raw.kind) }
@@ -100,14 +162,14 @@ fn record_folds<'a>(raw: RawRecord<'a>, lower: RawRecord<'a>) -> bool
     if raw.kind != lower.kind {
         return false;
     }
-    let items = named_items(&view_known(raw));
-    if let NamedItems::Others = items {
-        return raw.body == lower.body;
+    if raw.kind == ALIAS {
+        names_fold(raw.body, lower.body)
+    } else {
+        named_folds(raw, lower)
     }
-    named_fold(&items, &named_items(&view_known(lower)))
 }
 
-/// Whether a module is another one with the names of its publics, externals and communals in lower case.
+/// Whether a module is another one with the names of its publics, externals, communals and aliases in lower case.
 pub(crate) fn is_folded<'a>(module: &'a Checked, lower: &'a Checked) -> bool
     ensures { result ≡ true → recs_of lower.now.bytes ≡ folded (recs_of «module».now.bytes) }
 {

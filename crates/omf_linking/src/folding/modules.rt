@@ -1,4 +1,4 @@
-//! Modules with the names of their publics, externals and communals in lower case.
+//! Modules with the names of their publics, externals, communals and aliases in lower case.
 
 ghost use Rattle.std.specs.Prelude.{IfOk};
 ghost use Rattle.std.specs.List.{AllZip};
@@ -10,7 +10,7 @@ use omf_check::{Checked, check};
 use omf_frame::Bytes;
 use std::alloc::{AllocError, Global};
 
-/// A module with the names of its publics, externals and communals in lower case. It is checked again, and compared with the module.
+/// A module with the names of its publics, externals, communals and aliases in lower case. It is checked again, and compared with the module.
 ///
 /// # Errors
 ///
@@ -28,7 +28,7 @@ pub fn folded(alloc: Global, module: &Checked) -> Result<Checked, AllocError>
     Ok(lower)
 }
 
-/// Modules with the names of their publics, externals and communals in lower case. Each module is dropped once it is folded.
+/// Modules with the names of their publics, externals, communals and aliases in lower case. Each module is dropped once it is folded.
 ///
 /// # Errors
 ///

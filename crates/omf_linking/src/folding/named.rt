@@ -2,7 +2,6 @@
 
 ghost use Rattle.std.specs.Prelude.{◌≡◌, map, true};
 ghost use Rattle.std.specs.Char.{to_ascii_lowercase};
-ghost use Rattle.omf_linking.specs.Folded.{folded_contents};
 ghost use Rattle.omf_linking.specs.Inner.Folding.{AreItemsOf};
 ghost use Rattle.omf_records.specs.Inner.Seen.{contents_seen};
 

@@ -3,7 +3,7 @@ use Rattle.omf_linking.specs.Inner.Folding.{AreItemsOf}
 use Rattle.omf_records.specs.Inner.Seen.{contents_seen}
 use Rattle.omf_records.specs.Values.{Contents}
 use Rattle.omf_linking.proofs.FoldLaws.{contents-same}
-use Rattle.omf_linking.proofs.folding.comparing.record_folds.Goals as goal
+use Rattle.omf_linking.proofs.folding.comparing.named_folds.Goals as goal
 
 pub returns : goal.returns
 returns c f =
