@@ -1,3 +1,4 @@
+pub mod AliasLaws
 pub mod BlockLaws
 pub mod ArgLaws
 pub mod AskedLaws

@@ -1,3 +1,5 @@
+pub mod Aliases
+pub mod AliasRows
 pub mod Asked
 pub mod Options
 pub mod Suiting

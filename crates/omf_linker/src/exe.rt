@@ -38,4 +38,5 @@ pub use options::{ExeOptions, Order, ProgramKind};
 pub use ordering::{OrderingFault, order_of};
 pub use program_files::{Leftovers, ProgramFiles};
 pub use refusal::Refusal;
+pub(crate) use sharing::any_profile;
 pub use sharing::{SharingFault, shared_module};

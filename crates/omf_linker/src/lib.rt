@@ -2,6 +2,7 @@
 //! a finished one (`map`), and DOS programs (`exe`).
 #![tactic(auto)]
 
+pub mod aliases;
 pub mod asked;
 pub mod drafting;
 pub mod exe;

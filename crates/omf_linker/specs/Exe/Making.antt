@@ -3,12 +3,13 @@ use Rattle.std.specs.Prelude.{◌≡◌, ◌⊎◌, ⊤, ◌++◌, ℕ, List, Bo
 use Rattle.std.specs.Global.{Vec}
 use Rattle.omf_check.specs.Module.{Module, typed_modules}
 use Rattle.omf_linking.specs.File.{InputFile}
+use Rattle.omf_linker.specs.Aliases.{AreFollowed}
 use Rattle.omf_linker.specs.Exe.Adding.{AreAdded}
 use Rattle.omf_linker.specs.Exe.Input.{AreOfFiles, AreOfFolded}
 use Rattle.omf_linker.specs.Exe.Listing.{list_text}
 use Rattle.omf_linker.specs.Exe.Origins.{AreAllWith, AreFrom}
 use Rattle.omf_linker.specs.Exe.Program.{IsBetweenOf, IsComOf, IsLongOf, IsMapOf, IsNearOf, IsProgramOf, ProgramModules}
-use Rattle.omf_linker.specs.Exe.Refusing.{AreNoComProgram, AreNoProgram, AreNotAdded, AreUnplaced, Finds, GiveNoFolded, GiveNoModules, HaveNamesTwice, IsNotAllowed}
+use Rattle.omf_linker.specs.Exe.Refusing.{AreNoComProgram, AreNoProgram, AreNotAdded, AreNotFollowed, AreUnplaced, Finds, GiveNoFolded, GiveNoModules, HaveNamesTwice, IsNotAllowed}
 use Rattle.omf_linker.specs.declared.exe.input.Origin.{Origin}
 use Rattle.omf_linker.specs.declared.exe.made.MadeProgram.{MadeProgram}
 use Rattle.omf_linker.specs.declared.exe.options.ExeOptions.{ExeOptions}
@@ -75,13 +76,15 @@ pub record IsMadeOf (options : ExeOptions) (files : List InputFile) (p : Program
   pub near : Finds (IsNearOf p.modules) (is_some made.near) × IsAllowed options.allows_near (is_some made.near)
   pub twice : HaveNamesTwice p.modules (is_some made.repeated) × IsAllowed options.allows_twice (is_some made.repeated)
 
--- What is written of files: of their modules, with those that are added.
+-- What is written of files: of their modules, with those that are added, and with the defaults that aliases give to externals.
 pub record IsMade (options : ExeOptions) (p : ProgramFiles) (made : MadeProgram) : Type 0 where
   pub given : AreOf p.ignores_case p.files p.modules
   pub origins : AreFrom p.ignores_case p.files p.modules p.from
   pub all : ProgramModules
   pub added : AreAllWith options.kind options.stack options.order p.modules p.from all
-  pub made_of : IsMadeOf options p.files all made
+  pub linked : List Module
+  pub followed : AreFollowed all.modules linked
+  pub made_of : IsMadeOf options p.files (record { modules = linked; from = all.from }) made
 
 -- Why nothing is written of modules: there is no program of them; they have no places; or a look finds what is not allowed.
 abbrev pub IsLookFault : ExeOptions → List Module → Type 0
@@ -91,7 +94,11 @@ IsLookFault options ms =
 abbrev pub IsNotMadeOf : ExeOptions → List Module → Type 0
 IsNotMadeOf options ms = HaveNoBytes options.kind ms ⊎ (IsLookFault options ms ⊎ (AreUnplaced ms ⊎ ((options.allows_twice ≡ false) × HaveNamesTwice ms true)))
 
+-- Why nothing is written of modules: their aliases are not followed; or nothing is written of those with the defaults.
+abbrev pub IsNotLinkedOf : ExeOptions → List Module → Type 0
+IsNotLinkedOf options all = AreNotFollowed all ⊎ ((linked : List Module) × AreFollowed all linked × IsNotMadeOf options linked)
+
 -- Why nothing is written of files.
 pub record IsNotMade (options : ExeOptions) (p : ProgramFiles) : Type 0 where
   pub given : AreOf p.ignores_case p.files p.modules
-  pub why : AreNotAdded options.kind options.stack options.order p.modules ⊎ ((all : List Module) × AreAdded options.kind options.stack options.order p.modules all × IsNotMadeOf options all)
+  pub why : AreNotAdded options.kind options.stack options.order p.modules ⊎ ((all : List Module) × AreAdded options.kind options.stack options.order p.modules all × IsNotLinkedOf options all)

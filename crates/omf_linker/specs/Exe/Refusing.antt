@@ -21,6 +21,9 @@ use Rattle.omf_output.specs.declared.exe.fault.ExeFault.{ExeFault}
 use Rattle.omf_output.specs.declared.exe.fault.ExeFault.TheVariants as exe
 use Rattle.omf_placement.specs.declared.several.fault.DeriveFault.{DeriveFault}
 use Rattle.omf_placement.specs.declared.several.fault.DeriveFault.TheVariants as derive
+use Rattle.omf_linker.specs.Aliases.{IsFollowingFault}
+use Rattle.omf_linker.specs.declared.aliases.fault.FollowingFault.{FollowingFault}
+use Rattle.omf_linker.specs.declared.aliases.fault.FollowingFault.TheVariants as following
 use Rattle.omf_linker.specs.Exe.Adding.{IsStackOf, wants_dos}
 use Rattle.omf_linker.specs.Exe.Input.{AllGive, IsInputFault, IsMemberFolded}
 use Rattle.omf_linker.specs.Exe.Ordering.{IsOrderingFault}
@@ -102,6 +105,10 @@ abbrev pub is_ordering_memory : OrderingFault → Bool
 is_ordering_memory (ordering.Order f) = is_order_memory f
 is_ordering_memory (ordering.Refused why at) = false
 
+abbrev pub is_following_memory : FollowingFault → Bool
+is_following_memory following.Memory = true
+is_following_memory _ = false
+
 abbrev pub is_derive_memory : DeriveFault → Bool
 is_derive_memory derive.Memory = true
 is_derive_memory _ = false
@@ -181,6 +188,10 @@ pub record HaveNoOrder (kind : ProgramKind) (stack : Option ℕ) (order : Option
 
 abbrev pub AreNotAdded : ProgramKind → Option ℕ → Option Order → List Module → Type 0
 AreNotAdded kind stack order ms = AreNotShared kind ms ⊎ HaveNoOrder kind stack order ms
+
+-- Why modules do not get the defaults that aliases give to their externals.
+abbrev pub AreNotFollowed : List Module → Type 0
+AreNotFollowed ms = (f : FollowingFault) × (is_following_memory f ≡ false) × IsFollowingFault ms f
 
 -- Why modules have no places in a program.
 abbrev pub AreUnplaced : List Module → Type 0

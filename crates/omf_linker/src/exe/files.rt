@@ -1,12 +1,13 @@
-//! Why there is no program: refusals of files, of communals, and of the module for DOS order.
+//! Why there is no program: refusals of files, of communals, of the module for DOS order, and of modules with aliases.
 
 ghost use Rattle.std.specs.Prelude.{◌≡◌, false, true};
-ghost use Rattle.omf_linker.specs.Exe.Refusing.{IsRefusalFor, is_input_memory, is_library_memory, is_link_memory, is_ordering_memory, is_out_of_memory, is_sharing_memory};
+ghost use Rattle.omf_linker.specs.Exe.Refusing.{IsRefusalFor, is_following_memory, is_input_memory, is_library_memory, is_link_memory, is_ordering_memory, is_out_of_memory, is_sharing_memory};
 
+use crate::aliases::FollowingFault;
 use crate::exe::input::InputFault;
-use crate::exe::lines::{library_line, ordering_line, sharing_line};
+use crate::exe::lines::{following_line, library_line, ordering_line, sharing_line};
 use crate::exe::memory::{
-    is_library_memory, is_link_memory, is_ordering_memory, is_sharing_memory,
+    is_following_memory, is_library_memory, is_link_memory, is_ordering_memory, is_sharing_memory,
 };
 use crate::exe::ordering::OrderingFault;
 use crate::exe::refusal::Refusal;
@@ -86,4 +87,14 @@ pub(crate) fn of_ordering(alloc: Global, fault: OrderingFault) -> Refusal
         return memory();
     }
     in_line(ordering_line(alloc, fault))
+}
+
+/// The refusal of modules whose aliases are not followed.
+pub(crate) fn of_following(alloc: Global, fault: FollowingFault) -> Refusal
+    ensures { IsRefusalFor (is_following_memory fault ≡ false) result }
+{
+    if is_following_memory(fault) {
+        return memory();
+    }
+    in_line(following_line(alloc, fault))
 }

@@ -6,6 +6,7 @@ ghost use Rattle.omf_check.specs.Module.{recs_of};
 ghost use Rattle.omf_linker.specs.Exe.Listing.{file_text, origin_at, title_text};
 ghost use Rattle.omf_linker.specs.Exe.Refusing.{AreTwiceLines, HaveNamesTwice};
 
+use crate::aliases::FollowingFault;
 use crate::exe::fault::{ComProgramFault, PlacingFault, ProgramFault};
 use crate::exe::input::Origin;
 use crate::exe::ordering::OrderingFault;
@@ -458,6 +459,23 @@ pub(crate) fn ordering_line(alloc: Global, fault: OrderingFault) -> Result<Vec<u
         OrderingFault::Order(OrderFault::Memory) => text.push_str("memory")?,
         OrderingFault::Refused { reason, place } => {
             text.push_str("order ")?;
+            text.push_str(fault_line(alloc, &RunFault::Refused { reason, place })?.as_str())?;
+        }
+    }
+    text.push('\n')?;
+    Ok(text.into_bytes())
+}
+
+/// The line of the fault of modules whose aliases are not followed.
+pub(crate) fn following_line(alloc: Global, fault: FollowingFault) -> Result<Vec<u8>, AllocError> {
+    let mut text = String::new(alloc);
+    match fault {
+        FollowingFault::Memory => text.push_str("memory")?,
+        FollowingFault::TooMany => {
+            text.push_str("aliases: more than 32767 externals in a module")?
+        }
+        FollowingFault::Refused { reason, place } => {
+            text.push_str("aliases ")?;
             text.push_str(fault_line(alloc, &RunFault::Refused { reason, place })?.as_str())?;
         }
     }

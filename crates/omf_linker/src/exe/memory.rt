@@ -1,8 +1,9 @@
 //! Which faults are that memory ran out.
 
 ghost use Rattle.std.specs.Prelude.{◌≡◌};
-ghost use Rattle.omf_linker.specs.Exe.Refusing.{is_com_memory, is_communals_memory, is_derive_memory, is_exe_memory, is_library_memory, is_link_memory, is_memory, is_modules_memory, is_order_memory, is_ordering_memory, is_placing_memory, is_sharing_memory};
+ghost use Rattle.omf_linker.specs.Exe.Refusing.{is_com_memory, is_communals_memory, is_derive_memory, is_exe_memory, is_following_memory, is_library_memory, is_link_memory, is_memory, is_modules_memory, is_order_memory, is_ordering_memory, is_placing_memory, is_sharing_memory};
 
+use crate::aliases::FollowingFault;
 use crate::exe::fault::{ComProgramFault, PlacingFault, ProgramFault};
 use crate::exe::ordering::OrderingFault;
 use crate::exe::sharing::SharingFault;
@@ -162,5 +163,16 @@ pub(crate) fn is_com_memory(fault: ComProgramFault) -> bool
     match fault {
         ComProgramFault::Placing(fault) => is_placing_memory(fault),
         ComProgramFault::Modules(fault) => is_modules_memory(fault),
+    }
+}
+
+/// Whether a fault of modules whose aliases are not followed is that memory ran out.
+pub(crate) fn is_following_memory(fault: FollowingFault) -> bool
+    ensures { result ≡ is_following_memory fault }
+{
+    match fault {
+        FollowingFault::Memory => true,
+        FollowingFault::TooMany => false,
+        FollowingFault::Refused { .. } => false,
     }
 }

@@ -7,6 +7,7 @@ ghost use Rattle.std.specs.List.Sorted.{IsStrictlyIncreasing};
 ghost use Rattle.omf_check.specs.Module.{Module, typed_modules};
 ghost use Rattle.omf_linking.specs.Folded.{IsFolded};
 ghost use Rattle.omf_library.specs.declared.judged.LibraryMember.{LibraryMember};
+ghost use Rattle.omf_linker.specs.Aliases.{AreFollowed};
 ghost use Rattle.omf_linker.specs.Exe.Input.{AllGive, AreOfFiles, AreOfFolded, IsMemberFolded};
 ghost use Rattle.omf_linker.specs.Exe.Libraries.{sought};
 ghost use Rattle.omf_linker.specs.Exe.Listing.{list_text};
@@ -14,14 +15,15 @@ ghost use Rattle.omf_linker.specs.Exe.Making.{IsListedMap};
 ghost use Rattle.omf_linker.specs.Exe.Ordering.{AreOrdered};
 ghost use Rattle.omf_linker.specs.Exe.Origins.{AllFrom, AreAllWith, AreOfFilesFrom, AreOfFoldedFrom};
 ghost use Rattle.omf_linker.specs.Exe.Program.{IsBetweenOf, IsComOf, IsLongOf, IsNearOf, IsProgramOf};
-ghost use Rattle.omf_linker.specs.Exe.Refusing.{AreNoComProgram, AreNoProgram, AreNotAdded, AreNotOrdered, AreNotShared, AreTwiceLines, AreUnplaced, Finds, GiveNoFolded, GiveNoModules, HaveNamesTwice, IsNotAllowed, IsRefusalFor, NeedRefused, is_com_memory, is_memory, is_out_of_memory, is_placing_memory};
+ghost use Rattle.omf_linker.specs.Exe.Refusing.{AreNoComProgram, AreNoProgram, AreNotAdded, AreNotFollowed, AreNotOrdered, AreNotShared, AreTwiceLines, AreUnplaced, Finds, GiveNoFolded, GiveNoModules, HaveNamesTwice, IsNotAllowed, IsRefusalFor, NeedRefused, is_com_memory, is_memory, is_out_of_memory, is_placing_memory};
 ghost use Rattle.omf_linker.specs.Exe.Sharing.{AreShared};
 ghost use Rattle.omf_linker.specs.Exe.Taken.{values_at};
 
+use crate::aliases::followed;
 use crate::exe::added::{is_dos_ordered, stack_of};
 use crate::exe::defaults::sought;
 use crate::exe::fault::{ComProgramFault, PlacingFault, ProgramFault};
-use crate::exe::files::{in_line, memory, of_input, of_ordering, of_sharing};
+use crate::exe::files::{in_line, memory, of_following, of_input, of_ordering, of_sharing};
 use crate::exe::input::{Input, Origin};
 use crate::exe::joining::{Joined, join_needed, take_into};
 use crate::exe::lines::Origins;
@@ -274,6 +276,23 @@ impl ProgramModules {
             all.in_dos_order(alloc)
         } else {
             Ok(all)
+        }
+    }
+
+    /// The modules with the defaults that aliases give to their externals.
+    ///
+    /// # Errors
+    ///
+    /// The fault of `followed`.
+    pub fn following_aliases(self, alloc: Global) -> Result<ProgramModules, Refusal>
+        ensures followed { IfOk result (λ p. AreFollowed self.modules p.modules) }
+        ensures from { IfOk result (λ p. p.from ≡ self.from) }
+        ensures refused { IfErr result (IsRefusalFor (AreNotFollowed self.modules)) }
+    {
+        let ProgramModules { modules, from } = self;
+        match followed(alloc, modules) {
+            Ok(modules) => Ok(ProgramModules { modules, from }),
+            Err(fault) => Err(of_following(alloc, fault)),
         }
     }
 

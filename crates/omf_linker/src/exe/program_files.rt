@@ -119,11 +119,12 @@ impl ProgramFiles {
         self.modules.sought(alloc, known)
     }
 
-    /// What is written of the files: the program as a .COM file or as an .EXE file, its map, and lines of what is found in it.
+    /// What is written of the files: the program as a .COM file or as an .EXE file, its map, and lines of what is found in it. The aliases of the
+    /// modules are followed.
     ///
     /// # Errors
     ///
-    /// The fault of the modules that are added; otherwise the names that are not defined; otherwise the line of a look, if it finds what the
+    /// The fault of the modules that are added; otherwise that of `followed`; otherwise the names that are not defined; otherwise the line of a look, if it finds what the
     /// options do not allow; otherwise the fault of the program or its map; otherwise the names that more than one public has, if they are not
     /// allowed. Out of memory.
     pub fn make(
@@ -136,7 +137,8 @@ impl ProgramFiles {
         ensures refused { IfErr result (IsRefusalFor (IsNotMade options.now self)) }
     {
         let ProgramFiles { files, modules, .. } = self;
-        let all = modules.with_added(alloc, options)?;
+        let added = modules.with_added(alloc, options)?;
+        let all = added.following_aliases(alloc)?;
         let linked = all.linked(alloc)?;
         let made = made_of(alloc, &linked, &files, options)?;
         match leftovers {

@@ -1,0 +1,56 @@
+-- The tables by which aliases are followed (the steps of the code).
+use Rattle.std.specs.Prelude.{◌≡◌, ℕ, List, [], ◌∷◌, ◌++◌, flat_map, Option, Some, None, unwrap_or, if◌then◌else◌, Result, Ok, Err}
+use Rattle.std.specs.BTreeMap.{get_by}
+use Rattle.omf_names.specs.Names.{name_cmp}
+use Rattle.omf_frame.specs.Framing.{Raw, raw_bytes}
+use Rattle.omf_records.specs.Values.{Rec}
+use Rattle.omf_check.specs.Checking.{Decides}
+use Rattle.omf_check.specs.Module.{Module, records_in, recs_of}
+use Rattle.omf_library.specs.Aliases.{AliasPair}
+use Rattle.omf_linker.specs.Aliases.{AreBytesWith, Default, IsDefaultsFault, IsFollowed, defaults, next_name, substitute}
+use Rattle.omf_linker.specs.Drafting.Names.{IsNameTable, has_name}
+use Rattle.omf_linker.specs.Exe.Sharing.{any_profile}
+use Rattle.omf_linker.specs.declared.aliases.fault.FollowingFault.{FollowingFault}
+use Rattle.omf_linker.specs.declared.aliases.ends.Aliases.{Aliases}
+use Rattle.omf_linker.specs.declared.aliases.substitutes.SubstituteTable.{SubstituteTable}
+
+abbrev pub found_at : SubstituteTable → List ℕ → Option (List ℕ)
+found_at t name = get_by (λ k. name_cmp name k.now) t.by_alias
+
+-- A table has the substitutes of these pairs.
+abbrev pub IsSubstituteTable : SubstituteTable → List AliasPair → Type 0
+IsSubstituteTable t pairs = (name : List ℕ) → found_at t name ≡ substitute pairs name
+
+-- A table has these pairs after those of another.
+abbrev pub HasPairs : SubstituteTable → SubstituteTable → List AliasPair → Type 0
+HasPairs t u more = (pairs : List AliasPair) → IsSubstituteTable t pairs → IsSubstituteTable u (pairs ++ more)
+
+-- The tables have the publics and the aliases of these modules; or no publics, if there are no aliases.
+pub record AreAliases (a : Aliases) (ms : List (List Rec)) : Type 0 where
+  pub names : List (List ℕ)
+  pub pairs : List AliasPair
+  pub publics : IsNameTable a.publics names
+  pub substitutes : IsSubstituteTable a.substitutes pairs
+  pub same : (name : List ℕ) → (if has_name names name then None else substitute pairs name) ≡ next_name ms name
+
+-- A module's bytes are split before its last record.
+pub record IsSplit (bytes front back : List ℕ) : Type 0 where
+  pub before : List Raw
+  pub last : Raw
+  pub records : records_in bytes ≡ before ++ last ∷ []
+  pub in_front : front ≡ flat_map raw_bytes before
+  pub at_end : back ≡ raw_bytes last
+
+-- What takes the place of a module: one with the defaults of its externals, if it has any.
+abbrev pub IsReplacement : List (List Rec) → Module → Option Module → Type 0
+IsReplacement ms m None = defaults ms (recs_of m.bytes) ≡ []
+IsReplacement ms m (Some n) = IsFollowed ms m n
+
+abbrev pub replaced : List Module → List (Option Module) → List Module
+replaced (m ∷ ms) (r ∷ rs) = unwrap_or r m ∷ replaced ms rs
+replaced _ _ = []
+
+-- A module with defaults was made, or why not.
+abbrev pub IsMadeWith : Module → List Default → Result Module FollowingFault → Type 0
+IsMadeWith m ds (Ok n) = (bytes : List ℕ) × AreBytesWith m ds bytes × Decides any_profile bytes (Ok n)
+IsMadeWith m ds (Err f) = IsDefaultsFault m ds f

@@ -1,0 +1,13 @@
+//! ALIAS records, followed (TIS OMF 1.1, "ALIAS"): an external that no public has, and whose name is an alias, gets the name at the end of the
+//! aliases as its default, as a weak external has one.
+
+mod defaults;
+mod ends;
+mod fault;
+mod following;
+mod records;
+pub mod rows;
+mod substitutes;
+
+pub use fault::FollowingFault;
+pub use following::followed;
