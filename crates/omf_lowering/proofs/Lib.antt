@@ -1,0 +1,4 @@
+pub mod FieldSteps
+pub mod LastLaws
+pub mod NameLaws
+pub mod Steps

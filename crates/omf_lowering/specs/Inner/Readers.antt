@@ -1,0 +1,38 @@
+-- The readings of the layouts of Layouts.
+use Rattle.std.proofs.Common.{ℕ, ◌+◌, Bool, List, drop, Result, Ok, Err}
+use Rattle.std.specs.Prelude.{nat_lt, if◌then◌else◌}
+use Rattle.omf_frame.specs.Fault.{Fault}
+use Rattle.omf_frame.specs.declared.fault.Reason.TheVariants as reason
+use Rattle.omf_records.specs.Layout.{checked, byte, index, many}
+use Rattle.omf_records.specs.Inner.Reads.{After, after, Reader, Whole, Shrinks}
+use Rattle.omf_records.specs.Inner.FieldReaders.{index_reader, index_shrinks, byte_reader, number_reader, number_shrinks}
+use Rattle.omf_records.specs.Inner.Readers.{◌>=>◌, ◌>=>|◌, then_shrinks, checked_reader, placed_shrinks, index_at, give_reader, called_whole}
+use Rattle.omf_records.specs.Inner.Many.{each_whole}
+use Rattle.omf_records.specs.Inner.EntryReaders.{one_reason}
+use Rattle.omf_lowering.specs.Layouts.{named_external, cextdef, wrong_type, backpatch, bakpat}
+
+abbrev pub external_reader : Reader named_external
+external_reader = index_at >=> λ n. index_reader >=> λ t. give_reader _
+
+pub external_shrinks : Shrinks external_reader.read
+external_shrinks = then_shrinks _ _ index_at (λ n. index_reader >=> λ t. give_reader _) (placed_shrinks index index_reader index_shrinks)
+
+abbrev pub cextdef_whole : Whole cextdef
+cextdef_whole = each_whole named_external external_reader external_shrinks
+
+abbrev pub type_reader : (wide : Bool) → Reader (checked byte (wrong_type wide))
+type_reader wide = checked_reader byte (wrong_type wide) byte_reader (λ t. one_reason (nat_lt t (if wide then 3 else 2)) reason.LocationType)
+
+abbrev pub backpatch_reader : (wide : Bool) → Reader (backpatch wide)
+backpatch_reader wide = number_reader wide >=> λ o. number_reader wide >=> λ v. give_reader _
+
+pub backpatch_shrinks : (wide : Bool) → Shrinks (backpatch_reader wide).read
+backpatch_shrinks wide = then_shrinks _ _ (number_reader wide) (λ o. number_reader wide >=> λ v. give_reader _) (number_shrinks wide)
+
+abbrev pub bakpat_whole : (wide : Bool) → Whole (bakpat wide)
+bakpat_whole wide = index_at >=>| λ s. type_reader wide >=>| λ t. called_whole (many (backpatch wide)) _ (each_whole (backpatch wide) (backpatch_reader wide) (backpatch_shrinks wide))
+
+-- A value with the position in the contents after it, as a reading with the rest of the bytes. Contents begin at offset 3.
+abbrev pub read_to : {A : Type 0} → List ℕ → Result (A × ℕ) Fault → Result (After A) Fault
+read_to bytes (Ok x) = Ok (after x.0 (3 + x.1) (drop x.1 bytes))
+read_to bytes (Err e) = Err e

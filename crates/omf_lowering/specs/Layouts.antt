@@ -1,0 +1,42 @@
+-- The layouts of the records that a lowering replaces (TIS OMF 1.1, the page of each record). `wide` is true in a record of odd type.
+use Rattle.std.specs.Prelude.{ℕ, nat_lt, Bool, if◌then◌else◌, List}
+use Rattle.omf_frame.specs.declared.fault.Reason.{Reason}
+use Rattle.omf_frame.specs.declared.fault.Reason.TheVariants as reason
+use Rattle.omf_records.specs.Values.{At}
+use Rattle.omf_records.specs.Layout.{Layout, ◌>>=◌, give, many, index, byte, number_of, checked, with_place, called}
+use Rattle.omf_records.specs.Entries.{unless}
+use Rattle.omf_lowering.specs.declared.values.NamedExternal.{NamedExternal}
+use Rattle.omf_lowering.specs.declared.values.Backpatch.{Backpatch}
+
+-- CEXTDEF: the index of a name, and a type index; repeated.
+abbrev pub named_external : Layout NamedExternal
+named_external = do
+  name ← with_place index
+  type_index ← index
+  give (record { name = name; type_index = type_index })
+
+abbrev pub cextdef : Layout (List (At NamedExternal))
+cextdef = many named_external
+
+-- BAKPAT: the location types are 0, a byte; 1, a word; and, in a record of odd type alone, 2, a doubleword.
+abbrev pub wrong_type : Bool → ℕ → List Reason
+wrong_type wide t = unless (nat_lt t (if wide then 3 else 2)) reason.LocationType
+
+-- BAKPAT: an offset and a value, both of the record's width.
+abbrev pub backpatch : Bool → Layout Backpatch
+backpatch wide = do
+  offset ← number_of wide
+  value ← number_of wide
+  give (record { offset = offset; value = value })
+
+-- BAKPAT: the index of a segment, the type of its locations, and the backpatches.
+pub record Backpatches : Type 0 where
+  pub segment : At ℕ
+  pub location : ℕ
+  pub items : List (At Backpatch)
+
+abbrev pub bakpat : Bool → Layout Backpatches
+bakpat wide = do
+  segment ← with_place index
+  location ← checked byte (wrong_type wide)
+  called (many (backpatch wide)) (λ items. record { segment = segment; location = location; items = items })

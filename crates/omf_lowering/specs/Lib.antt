@@ -1,0 +1,6 @@
+pub mod Layouts
+pub mod Wide
+pub mod Externals
+pub mod Patches
+pub mod Lowering
+pub mod Inner

@@ -1,0 +1,119 @@
+-- The lowering of a module: which records replace which.
+use Rattle.std.specs.Prelude.{◌≡◌, ℕ, ◌<◌, List, [], ◌∷◌, ◌++◌, length, map, flat_map, All, Bool, not, Option, Some, None, Result, Ok, Err, IsTrue, if◌then◌else◌, ⊤}
+use Rattle.std.specs.Option.{option_or}
+use Rattle.omf_frame.specs.Bytes.{is_one_of, with_before}
+use Rattle.omf_frame.specs.Fault.{Fault}
+use Rattle.omf_frame.specs.Framing.{Raw, raw_bytes, is_taken, is_end, front_record}
+use Rattle.omf_frame.specs.Types.{row}
+use Rattle.omf_frame.specs.declared.kinds.RecordType.TheVariants.{Cextdef, Bakpat}
+use Rattle.omf_frame.specs.declared.fault.Place.{Place}
+use Rattle.omf_frame.specs.declared.fault.Reason.{Reason}
+-- computed: readings_meet_layouts of omf_records.
+use Rattle.omf_records.specs.Inner.Reading.{read_body}
+use Rattle.omf_records.specs.Inner.Reads.{or_none}
+use Rattle.omf_lowering.specs.Externals.{names_of, externals_by, extdef}
+use Rattle.omf_lowering.specs.Patches.{pieces_from, patches_by, patched}
+use Rattle.omf_lowering.specs.Wide.{framing_fault, is_known, is_right}
+use Rattle.omf_lowering.specs.declared.fault.LoweringFault.{LoweringFault}
+use Rattle.omf_lowering.specs.declared.fault.LoweringFault.TheVariants as lowering
+use Rattle.omf_lowering.specs.declared.values.Piece.{Piece}
+use Rattle.omf_lowering.specs.declared.values.Patch.{Patch}
+
+abbrev pub is_cextdef : ℕ → Bool
+is_cextdef kind = is_one_of (row Cextdef).bytes kind
+
+abbrev pub is_bakpat : ℕ → Bool
+is_bakpat kind = is_one_of (row Bakpat).bytes kind
+
+-- What replaces a record, by the table of names before it: an EXTDEF for each external of a CEXTDEF, nothing for a BAKPAT, every other record itself.
+abbrev pub replacement : List (List ℕ) → Raw → List Raw
+replacement names r =
+    if is_cextdef r.kind then map extdef (or_none (externals_by names r.body))
+    else if is_bakpat r.kind then []
+    else r ∷ []
+
+-- The records with each replaced, before any value of a BAKPAT is added.
+abbrev pub replaced : List Raw → List Raw
+replaced rs = with_before (λ before r. replacement (names_of before) r) [] rs
+
+-- The data of these records.
+abbrev pub pieces : List Raw → List Piece
+pieces rs = pieces_from 0 (replaced rs)
+
+-- The values that a record adds to the data before it: those of a BAKPAT.
+abbrev pub patches_in : List Piece → Raw → List Patch
+patches_in data_before r = if is_bakpat r.kind then or_none (patches_by data_before r.kind r.body) else []
+
+-- The values of all BAKPATs, in their order.
+abbrev pub patches : List Raw → List Patch
+patches rs = with_before (λ before r. patches_in (pieces before) r) [] rs
+
+-- The lowered records: each replaced, and the values of the BAKPATs added to the data of the LEDATAs. A fixup of such data is applied to the sum.
+abbrev pub lowered_records : List Raw → List Raw
+lowered_records rs = patched (replaced rs) (patches rs)
+
+-- The fault of a result, if it has one.
+abbrev pub fault_of : {A : Type 0} → Result A Fault → Option Fault
+fault_of (Ok x) = None
+fault_of (Err e) = Some e
+
+-- The fault of a record, by the names and the data before it: of a CEXTDEF, of a BAKPAT, or of the layout of a record that this profile reads.
+abbrev pub fault_by : List (List ℕ) → List Piece → Raw → Option Fault
+fault_by names data_before r =
+    if is_cextdef r.kind then fault_of (externals_by names r.body)
+    else if is_bakpat r.kind then fault_of (patches_by data_before r.kind r.body)
+    else if is_taken r.kind then fault_of (read_body r.kind r.body)
+    else None
+
+abbrev pub lowering_fault : List Raw → Raw → Option Fault
+lowering_fault before r = fault_by (names_of before) (pieces before) r
+
+-- The faults of records, each by the records before it.
+abbrev pub faults_in : Option Fault → List Fault
+faults_in None = []
+faults_in (Some f) = f ∷ []
+
+abbrev pub faults : List Raw → List Fault
+faults rs = with_before (λ before r. faults_in (lowering_fault before r)) [] rs
+
+-- A record of a known type with a right checksum byte, whose length its length field can have.
+pub record IsWideRecord (r : Raw) : Type 0 where
+  pub known : IsTrue (is_known r.kind)
+  pub right : IsTrue (is_right r)
+  pub short : length r.body < 65535
+
+-- An input begins with these records, none of which has a fault or is a MODEND; the rest follows.
+pub record BeginsWith (input : List ℕ) (rs : List Raw) (rest : List ℕ) : Type 0 where
+  pub spelled : input ≡ flat_map raw_bytes rs ++ rest
+  pub each : All IsWideRecord rs
+  pub sound : faults rs ≡ []
+  pub no_end : All (λ r. IsTrue (not (is_end r.kind))) rs
+
+-- An input begins with records up to a MODEND, none of which has a fault, and these are the bytes of the lowered ones.
+pub record IsLowered (input out : List ℕ) : Type 0 where
+  pub before : List Raw
+  pub end : Raw
+  pub rest : List ℕ
+  pub begins : BeginsWith input before (raw_bytes end ++ rest)
+  pub last : IsWideRecord end
+  pub ends : IsTrue (is_end end.kind)
+  pub sound : lowering_fault before end ≡ None
+  pub lowered : out ≡ flat_map raw_bytes (lowered_records (before ++ end ∷ []))
+
+-- The first fault of the record at the front of the rest: of framing, or else of its contents.
+abbrev pub fault_at : List Raw → List ℕ → Option Fault
+fault_at before rest = option_or (framing_fault rest) (lowering_fault before (front_record rest))
+
+-- An input is refused for its first record with a fault, and this is the fault, with the number and the offset of the record.
+pub record IsRefused (input : List ℕ) (why : Reason) (place : Place) : Type 0 where
+  pub before : List Raw
+  pub rest : List ℕ
+  pub begins : BeginsWith input before rest
+  pub number : place.number ≡ length before
+  pub start : place.start ≡ length (flat_map raw_bytes before)
+  pub fault : fault_at before rest ≡ Some (record { within = place.within; reason = why })
+
+-- The cause of a fault. Memory may run out at any time.
+abbrev pub IsLoweringFault : List ℕ → LoweringFault → Type 0
+IsLoweringFault input lowering.Memory = ⊤
+IsLoweringFault input (lowering.Refused why place) = IsRefused input why place
