@@ -3,8 +3,8 @@ use Rattle.std.proofs.Common.{◌≡◌, ◌≢◌, ℕ, suc, ◌+◌, ◌<◌, 
 use Rattle.std.proofs.lemmas.List.{drop_all, map-append}
 use Rattle.omf_frame.specs.Fault.{Fault}
 use Rattle.omf_records.specs.Values.{At}
-use Rattle.omf_records.specs.Inner.Reads.{After, after, Reading, Shrinks, and_then, each, or_none}
-use Rattle.omf_records.specs.Inner.Each.{each_step, each_refused, each_none, with_first, item_at}
+use Rattle.omf_records.specs.Inner.Reads.{after, Reading, Shrinks, and_then, each, or_none}
+use Rattle.omf_records.specs.Inner.Each.{each_step, each_refused, each_none}
 use Rattle.omf_lowering.specs.Externals.{all_of}
 use Rattle.omf_lowering.specs.Lowering.{fault_of}
 

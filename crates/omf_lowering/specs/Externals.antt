@@ -1,5 +1,5 @@
 -- A CEXTDEF as EXTDEFs (TIS OMF 1.1, "CEXTDEF": its names are entries of the table of LNAMES and LLNAMES; "EXTDEF").
-use Rattle.std.specs.Prelude.{ℕ, List, [], ◌∷◌, flat_map, map, Option, Some, None, Result, Ok, Err, if◌then◌else◌}
+use Rattle.std.specs.Prelude.{ℕ, List, [], ◌∷◌, flat_map, Option, Some, None, Result, Ok, Err, if◌then◌else◌}
 use Rattle.omf_frame.specs.Fault.{Fault}
 use Rattle.omf_frame.specs.Framing.{Raw, raw_of, is_taken}
 use Rattle.omf_frame.specs.declared.fault.Reason.TheVariants as reason

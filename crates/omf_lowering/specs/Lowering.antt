@@ -1,5 +1,5 @@
 -- The lowering of a module: which records replace which.
-use Rattle.std.specs.Prelude.{◌≡◌, ℕ, ◌<◌, List, [], ◌∷◌, ◌++◌, length, map, flat_map, All, Bool, not, Option, Some, None, Result, Ok, Err, IsTrue, if◌then◌else◌, ⊤}
+use Rattle.std.specs.Prelude.{◌≡◌, ℕ, ◌<◌, List, [], ◌∷◌, ◌++◌, length, map, flat_map, All, Bool, not, nat_lt, Option, Some, None, Result, Ok, Err, IsTrue, if◌then◌else◌, ⊤}
 use Rattle.std.specs.Option.{option_or}
 use Rattle.omf_frame.specs.Bytes.{is_one_of, with_before}
 use Rattle.omf_frame.specs.Fault.{Fault}
@@ -8,6 +8,9 @@ use Rattle.omf_frame.specs.Types.{row}
 use Rattle.omf_frame.specs.declared.kinds.RecordType.TheVariants.{Cextdef, Bakpat}
 use Rattle.omf_frame.specs.declared.fault.Place.{Place}
 use Rattle.omf_frame.specs.declared.fault.Reason.{Reason}
+use Rattle.omf_frame.specs.declared.fault.Reason.TheVariants as reason
+use Rattle.omf_check.specs.Rules.{item_limit}
+use Rattle.omf_records.specs.Layout.{fault}
 -- computed: readings_meet_layouts of omf_records.
 use Rattle.omf_records.specs.Inner.Reading.{read_body}
 use Rattle.omf_records.specs.Inner.Reads.{or_none}
@@ -95,14 +98,18 @@ pub record IsLowered (input out : List ℕ) : Type 0 where
   pub end : Raw
   pub rest : List ℕ
   pub begins : BeginsWith input before (raw_bytes end ++ rest)
+  pub few : length before < item_limit
   pub last : IsWideRecord end
   pub ends : IsTrue (is_end end.kind)
   pub sound : lowering_fault before end ≡ None
   pub lowered : out ≡ flat_map raw_bytes (lowered_records (before ++ end ∷ []))
 
--- The first fault of the record at the front of the rest: of framing, or else of its contents.
+-- The first fault of the record at the front of the rest: there are too many before it (this profile's rule), or it has one of framing, or else of its
+-- contents.
 abbrev pub fault_at : List Raw → List ℕ → Option Fault
-fault_at before rest = option_or (framing_fault rest) (lowering_fault before (front_record rest))
+fault_at before rest =
+    if nat_lt (length before) item_limit then option_or (framing_fault rest) (lowering_fault before (front_record rest))
+    else Some (fault 0 reason.TooMany)
 
 -- An input is refused for its first record with a fault, and this is the fault, with the number and the offset of the record.
 pub record IsRefused (input : List ℕ) (why : Reason) (place : Place) : Type 0 where

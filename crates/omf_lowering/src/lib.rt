@@ -5,8 +5,11 @@ mod bakpat;
 mod cextdef;
 mod fault;
 mod fields;
+mod lowering;
 mod record;
 mod values;
+mod work;
 
 pub use fault::LoweringFault;
+pub use lowering::lowered;
 pub use values::{Backpatch, NamedExternal, Patch, Piece};

@@ -1,4 +1,4 @@
-use Rattle.std.proofs.Common.{◌≡◌, ◌<◌, ◌+◌, ◌-◌, length, sym, rules, arith, ℕ}
+use Rattle.std.proofs.Common.{◌-◌, sym, rules}
 use Rattle.omf_lowering.specs.Patches.{has_byte_of}
 use Rattle.omf_lowering.proofs.LastLaws.{last_found}
 use Rattle.omf_lowering.proofs.bakpat.holder.Goals as goal

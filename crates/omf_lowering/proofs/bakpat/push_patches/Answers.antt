@@ -1,4 +1,4 @@
-use Rattle.std.proofs.Common.{◌≡◌, ◌<◌, ◌∙◌, Ok, length, get_or, sym, ap, rules}
+use Rattle.std.proofs.Common.{◌≡◌, ◌<◌, Ok, length, get_or, rules}
 use Rattle.omf_lowering.specs.Patches.{patch_at, part_of}
 use Rattle.omf_lowering.proofs.Steps.{pushed_more}
 use Rattle.omf_lowering.proofs.bakpat.push_patches.Goals as goal

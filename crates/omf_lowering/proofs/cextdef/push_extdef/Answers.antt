@@ -1,6 +1,6 @@
-use Rattle.std.proofs.Common.{◌≡◌, ◌≤◌, ◌-◌, ◌++◌, ◌∷◌, [], Ok, Some, length, sym, ap, ◌∙◌, rules}
+use Rattle.std.proofs.Common.{◌≡◌, ◌-◌, ◌++◌, ◌∷◌, [], Some, ap, ◌∙◌, rules}
 use Rattle.omf_check.specs.Tables.{entry}
-use Rattle.omf_lowering.specs.Externals.{named, with_name}
+use Rattle.omf_lowering.specs.Externals.{with_name}
 use Rattle.omf_lowering.proofs.NameLaws.{entry_some}
 use Rattle.omf_lowering.proofs.cextdef.push_extdef.Goals as goal
 

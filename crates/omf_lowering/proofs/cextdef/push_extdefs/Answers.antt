@@ -1,4 +1,4 @@
-use Rattle.std.proofs.Common.{◌≡◌, ◌<◌, ◌∙◌, Ok, length, get_or, sym, ap, rules}
+use Rattle.std.proofs.Common.{◌≡◌, ◌<◌, length, get_or, rules}
 use Rattle.omf_lowering.specs.Externals.{extdef, named}
 use Rattle.omf_lowering.proofs.Steps.{pushed_more}
 use Rattle.omf_lowering.proofs.cextdef.push_extdefs.Goals as goal

@@ -1,8 +1,8 @@
 use Rattle.std.proofs.Common.{◌∙◌, sym, ap, Err}
 use Rattle.omf_frame.specs.Fault.{Fault}
 use Rattle.omf_frame.specs.Fields.{IsLittle}
-use Rattle.omf_records.specs.Inner.FieldReaders.{le_read, le_ok, le_again, le_short}
-use Rattle.omf_lowering.proofs.FieldSteps.{read_at, unread}
+use Rattle.omf_records.specs.Inner.FieldReaders.{le_read, le_ok, le_short}
+use Rattle.omf_lowering.proofs.FieldSteps.{unread}
 use Rattle.omf_lowering.proofs.fields.dword_at.Goals as goal
 
 pub returns-in-None-clause-read : goal.returns-in-None-clause-read

@@ -1,0 +1,29 @@
+use Rattle.std.proofs.Common.{◌≡◌, ◌<◌, ◌-◌, true, false, length, sym, subst, rules}
+use Rattle.omf_check.specs.Rules.{item_limit}
+use Rattle.omf_frame.specs.Framing.{front_record, is_end}
+use Rattle.omf_lowering.specs.Lowering.{IsLoweringFault}
+use Rattle.omf_lowering.proofs.FrontLaws.{open_more, read_end, stopped_at}
+use Rattle.omf_lowering.proofs.lowering.read_all.Goals as goal
+
+pub returns-in-Ok-true-default-clause-ok : goal.returns-in-Ok-true-default-clause-ok
+returns-in-Ok-true-default-clause-ok c =
+    let rest = c.loop-number.rest.now in
+    let few : c.loop-number.number < item_limit = search rules in
+    let ended : is_end (front_record rest).kind ≡ true = search rules in
+    let e = c.in-Ok-true-default.ensures in
+    read_end c.args.bytes.now rest c.in-Ok-true-default._after.now c.loop-number.number c.loop-number.work c.take_front.new.work c.loop-number.invariant few e.spelled e.wide e.sound ended e.added
+
+pub returns-in-Err-clause-err : goal.returns-in-Err-clause-err
+returns-in-Err-clause-err c =
+    let rest = c.loop-number.rest.now in
+    let few : c.loop-number.number < item_limit = search rules in
+    let start : c.saturating_sub.result ≡ length c.args.bytes.now - length rest = search rules in
+    subst (IsLoweringFault c.args.bytes.now) (sym c.refused.ensures)
+    (stopped_at c.args.bytes.now rest c.loop-number.number c.saturating_sub.result c.loop-number.work c.in-Err.stop c.loop-number.invariant few start c.in-Err.ensures.err)
+
+pub loop-number-preserved : goal.loop-number-preserved
+loop-number-preserved c =
+    let rest = c.loop-number.rest.now in
+    let still : is_end (front_record rest).kind ≡ false = search rules in
+    let e = c.in-Ok-false-default.ensures in
+    open_more c.args.bytes.now rest c.in-Ok-false-default.after.now c.loop-number.number c.loop-number.work c.take_front.new.work c.loop-number.invariant e.spelled e.wide e.sound still e.added
