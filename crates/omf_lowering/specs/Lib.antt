@@ -3,4 +3,5 @@ pub mod Wide
 pub mod Externals
 pub mod Patches
 pub mod Lowering
+pub mod Rows
 pub mod Inner

@@ -7,6 +7,7 @@ mod fault;
 mod fields;
 mod lowering;
 mod record;
+pub mod rows;
 mod values;
 mod work;
 
