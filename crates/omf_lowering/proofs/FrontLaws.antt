@@ -80,10 +80,11 @@ sound_front (t ∷ lo ∷ hi ∷ bytes) fit e =
     }
 
 -- one more record
-pub begins_more : (input rest after : List ℕ) (before : List Raw) (r : Raw) → BeginsWith input before rest → rest ≡ raw_bytes r ++ after → IsWideRecord r → lowering_fault before r ≡ None → is_end r.kind ≡ false → BeginsWith input (before ++ r ∷ []) after
-begins_more input rest after before r b parts wide sound open_still = record {
+pub begins_more : (input rest after : List ℕ) (before : List Raw) (r : Raw) → BeginsWith input before rest → length before < item_limit → rest ≡ raw_bytes r ++ after → IsWideRecord r → lowering_fault before r ≡ None → is_end r.kind ≡ false → BeginsWith input (before ++ r ∷ []) after
+begins_more input rest after before r b few parts wide sound open_still = record {
   spelled = b.spelled ∙ ap (λ l. flat_map raw_bytes before ++ l) parts ∙ sym (append_assoc (flat_map raw_bytes before) (raw_bytes r) after)
       ∙ ap (λ l. l ++ after) (ap (λ l. flat_map raw_bytes before ++ l) (sym (append-nil (raw_bytes r))) ∙ sym (flat_map-append raw_bytes before (r ∷ [])));
+  count = omega (arith, few, length-append before (r ∷ []));
   each = All-append IsWideRecord before (r ∷ []) b.each (all_one IsWideRecord r wide);
   sound = faults-more before r ∙ ap (λ f. faults before ++ faults_in f) sound ∙ append-nil (faults before) ∙ b.sound;
   no_end = All-append (λ x. IsTrue (not (is_end x.kind))) before (r ∷ []) b.no_end (all_one (λ x. IsTrue (not (is_end x.kind))) r (true_is _ (ap not open_still)));
@@ -92,7 +93,7 @@ begins_more input rest after before r b parts wide sound open_still = record {
 pub open_start : (input : List ℕ) → IsOpen input input 0 (state_of [])
 open_start input = record {
   before = [];
-  begins = record { spelled = refl; each = All-nil IsWideRecord; sound = refl; no_end = All-nil (λ x. IsTrue (not (is_end x.kind))) };
+  begins = record { spelled = refl; count = omega arith; each = All-nil IsWideRecord; sound = refl; no_end = All-nil (λ x. IsTrue (not (is_end x.kind))) };
   count = refl;
   state = refl;
 }
@@ -101,11 +102,11 @@ open_start input = record {
 pub fault_by_state : (s : State) (before : List Raw) (r : Raw) → s ≡ state_of before → fault_by s.names s.data_before r ≡ lowering_fault before r
 fault_by_state s before r is = ap (λ t. fault_by t.names t.data_before r) is
 
-pub open_more : (input rest after : List ℕ) (number : ℕ) (s t : State) → IsOpen input rest number s → rest ≡ raw_bytes (front_record rest) ++ after → IsWideRecord (front_record rest)
+pub open_more : (input rest after : List ℕ) (number : ℕ) (s t : State) → IsOpen input rest number s → number < item_limit → rest ≡ raw_bytes (front_record rest) ++ after → IsWideRecord (front_record rest)
     → fault_by s.names s.data_before (front_record rest) ≡ None → is_end (front_record rest).kind ≡ false → t ≡ added s (front_record rest) → IsOpen input after (number + 1) t
-open_more input rest after number s t o parts wide sound open_still is = record {
+open_more input rest after number s t o few parts wide sound open_still is = record {
   before = o.before ++ front_record rest ∷ [];
-  begins = begins_more input rest after o.before (front_record rest) o.begins parts wide (sym (fault_by_state s o.before (front_record rest) o.state) ∙ sound) open_still;
+  begins = begins_more input rest after o.before (front_record rest) o.begins (subst (λ n. n < item_limit) o.count few) parts wide (sym (fault_by_state s o.before (front_record rest) o.state) ∙ sound) open_still;
   count = omega (arith, o.count, length-append o.before (front_record rest ∷ []));
   state = is ∙ ap (λ u. added u (front_record rest)) o.state ∙ sym (state-more o.before (front_record rest));
 }

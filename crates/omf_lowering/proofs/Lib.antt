@@ -1,8 +1,11 @@
+pub mod AcceptedLaws
 pub mod FieldSteps
 pub mod FrontLaws
 pub mod LastLaws
 pub mod NameLaws
 pub mod PieceLaws
+pub mod RunLaws
 pub mod StateLaws
 pub mod Steps
+pub mod SumLaws
 pub mod WidthLaws

@@ -1,2 +1,3 @@
 pub mod Readers
+pub mod Run
 pub mod State

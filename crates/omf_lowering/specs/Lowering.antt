@@ -1,5 +1,5 @@
 -- The lowering of a module: which records replace which.
-use Rattle.std.specs.Prelude.{◌≡◌, ℕ, ◌<◌, List, [], ◌∷◌, ◌++◌, length, map, flat_map, All, Bool, not, nat_lt, Option, Some, None, Result, Ok, Err, IsTrue, if◌then◌else◌, ⊤}
+use Rattle.std.specs.Prelude.{◌≡◌, ℕ, ◌<◌, ◌≤◌, List, [], ◌∷◌, ◌++◌, length, map, flat_map, All, Bool, not, nat_lt, Option, Some, None, Result, Ok, Err, IsTrue, if◌then◌else◌, ⊤}
 use Rattle.std.specs.Option.{option_or}
 use Rattle.omf_frame.specs.Bytes.{is_one_of, with_before}
 use Rattle.omf_frame.specs.Fault.{Fault}
@@ -85,9 +85,10 @@ pub record IsWideRecord (r : Raw) : Type 0 where
   pub right : IsTrue (is_right r)
   pub short : length r.body < 65535
 
--- An input begins with these records, none of which has a fault or is a MODEND; the rest follows.
+-- An input begins with these records, which are not too many, and none of which has a fault or is a MODEND; the rest follows.
 pub record BeginsWith (input : List ℕ) (rs : List Raw) (rest : List ℕ) : Type 0 where
   pub spelled : input ≡ flat_map raw_bytes rs ++ rest
+  pub count : length rs ≤ item_limit
   pub each : All IsWideRecord rs
   pub sound : faults rs ≡ []
   pub no_end : All (λ r. IsTrue (not (is_end r.kind))) rs

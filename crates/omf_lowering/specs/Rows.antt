@@ -1,7 +1,6 @@
 -- Definitions for the worked examples.
-use Rattle.std.specs.Prelude.{◌≡◌, ℕ, List, ◌++◌, flat_map, Option, Some, codes}
-use Rattle.omf_frame.specs.Fault.{Fault}
-use Rattle.omf_frame.specs.Framing.{raw_bytes, front_record}
+use Rattle.std.specs.Prelude.{◌≡◌, ℕ, List, ◌++◌, flat_map, Some, codes}
+use Rattle.omf_frame.specs.Framing.{raw_bytes}
 use Rattle.omf_frame.specs.Rows.{hex}
 use Rattle.omf_frame.specs.declared.fault.Reason.{Reason}
 use Rattle.omf_check.specs.Module.{records_in}

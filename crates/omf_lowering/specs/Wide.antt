@@ -1,7 +1,7 @@
 -- The records of an input that is lowered (TIS OMF 1.1, "Object record format"): of all types of the standard, whether this profile reads them or not.
-use Rattle.std.specs.Prelude.{ℕ, ◌+◌, ◌*◌, List, [], ◌∷◌, length, Bool, ◌||◌, ◌==◌, nat_lt, Option, Some, None, is_some, if◌then◌else◌}
+use Rattle.std.specs.Prelude.{ℕ, ◌+◌, ◌*◌, ◌%◌, sum, List, [], ◌∷◌, length, Bool, ◌||◌, ◌==◌, nat_lt, Option, Some, None, is_some, if◌then◌else◌}
 use Rattle.omf_frame.specs.Fault.{Fault}
-use Rattle.omf_frame.specs.Framing.{Raw, checksum_of, front_record}
+use Rattle.omf_frame.specs.Framing.{Raw, raw_bytes, front_record}
 use Rattle.omf_frame.specs.Types.{type_of}
 use Rattle.omf_frame.specs.declared.fault.Reason.TheVariants as reason
 use Rattle.omf_records.specs.Layout.{fault}
@@ -12,7 +12,7 @@ is_known kind = is_some (type_of kind)
 
 -- The checksum byte is 0, or it makes the sum of all bytes 0 modulo 256.
 abbrev pub is_right : Raw → Bool
-is_right r = (r.checksum == 0) || (r.checksum == checksum_of r.kind r.body)
+is_right r = (r.checksum == 0) || (sum (raw_bytes r) % 256 == 0)
 
 -- The fault of a record of a known type, by its length and its checksum: the input ends inside it, its length is 0, its checksum byte is wrong.
 abbrev pub length_fault : List ℕ → Option Fault

@@ -5,6 +5,7 @@ mod bakpat;
 mod cextdef;
 mod fault;
 mod fields;
+pub mod laws;
 mod lowering;
 mod record;
 pub mod rows;

@@ -48,6 +48,7 @@ fn is_known(kind: u8) -> bool
 }
 
 /// Whether the checksum byte is 0 or makes the sum of the bytes 0 modulo 256.
+#[tactic(auto, using(crate::proofs::SumLaws::right_test))]
 fn is_right(kind: u8, body: &[u8], sum: u8) -> bool
     requires { length body.now ≤ 65534 }
     ensures { result ≡ is_right (record { kind = kind; body = body.now; checksum = sum }) }

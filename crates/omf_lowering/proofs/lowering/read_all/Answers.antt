@@ -24,6 +24,7 @@ returns-in-Err-clause-err c =
 pub loop-number-preserved : goal.loop-number-preserved
 loop-number-preserved c =
     let rest = c.loop-number.rest.now in
+    let few : c.loop-number.number < item_limit = search rules in
     let still : is_end (front_record rest).kind ≡ false = search rules in
     let e = c.in-Ok-false-default.ensures in
-    open_more c.args.bytes.now rest c.in-Ok-false-default.after.now c.loop-number.number c.loop-number.work c.take_front.new.work c.loop-number.invariant e.spelled e.wide e.sound still e.added
+    open_more c.args.bytes.now rest c.in-Ok-false-default.after.now c.loop-number.number c.loop-number.work c.take_front.new.work c.loop-number.invariant few e.spelled e.wide e.sound still e.added

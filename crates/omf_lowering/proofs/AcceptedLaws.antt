@@ -1,0 +1,180 @@
+-- An accepted module is its own lowering.
+use Rattle.std.proofs.Common.{◌≡◌, ℕ, ◌+◌, ◌<◌, inl, inr, Bool, true, false, cond, List, [], ◌∷◌, ◌++◌, refl, sym, ap, subst, ◌∙◌, length, append_assoc, append-nil, arith, None, Result, Ok, Err}
+use Rattle.std.specs.Prelude.{IsTrue, not, All, flat_map, ◌&&◌, ◌==◌}
+use Rattle.std.specs.List.{list_all, list_any}
+use Rattle.std.proofs.lemmas.Bool.{eqb-true, eq-eqb, or_cases, or_left, or_right, ltb-true}
+use Rattle.std.proofs.lemmas.Grind.{flat_map-append}
+use Rattle.std.proofs.lemmas.List.Elements.{All-head, All-tail, All-cons, All-nil}
+use Rattle.omf_frame.specs.Bytes.{with_before}
+use Rattle.omf_frame.specs.Fault.{Fault}
+use Rattle.omf_frame.specs.Framing.{Raw, IsRecord, is_taken, raw_bytes}
+use Rattle.omf_frame.specs.Types.{is_treated, row, types_treated}
+use Rattle.omf_frame.specs.declared.kinds.Treatment.TheVariants.{Read, Carried}
+use Rattle.omf_records.specs.Inner.LawProofs.{are_typed}
+use Rattle.omf_records.specs.Inner.Reading.{fault_list, read_body, typed}
+use Rattle.omf_records.specs.Records.{IsTyped}
+use Rattle.omf_frame.specs.Fault.{Rule}
+use Rattle.omf_records.specs.Values.{Contents, Fixups}
+use Rattle.omf_image.specs.declared.limits.Limits.{Limits}
+use Rattle.omf_check.specs.Rules.{item_limit, item_places, room}
+use Rattle.omf_check.specs.Tables.{item_count}
+use Rattle.omf_check.specs.WellFormed.{IsAccepted, recs}
+use Rattle.omf_check.specs.declared.profile.Profile.{Profile}
+use Rattle.omf_check.proofs.Moving.{item_more}
+use Rattle.omf_check.proofs.WellLaws.{well-read}
+use Rattle.omf_lowering.specs.Externals.{names_of}
+use Rattle.omf_lowering.specs.Lowering.{IsLowered, IsWideRecord, fault_of, faults_in, is_bakpat, is_cextdef, lowered_records, lowering_fault, patches_in, pieces, replaced, replacement}
+use Rattle.omf_lowering.specs.Patches.{patched}
+use Rattle.omf_lowering.specs.Wide.{is_known, is_right}
+
+-- each of a list of numbers passes a test, so one of them does
+by_list : (test : ℕ → Bool) (ks : List ℕ) (k : ℕ) → list_all test ks ≡ true → list_any (λ n. n == k) ks ≡ true → test k ≡ true
+by_list test [] k all one = absurd cc
+by_list test (n ∷ ks) k all one =
+    let h = both (test n) (list_all test ks) all in
+    elim (or_cases (n == k) (list_any (λ m. m == k) ks) one) [
+      | inl e ↦ subst (λ m. test m ≡ true) (eqb-true n k e) h.0
+      | inr e ↦ by_list test ks k h.1 e
+    ]
+  where
+    both : (a b : Bool) → (a && b) ≡ true → (a ≡ true) × (b ≡ true)
+    both true b e = (refl, e)
+    both false b e = absurd cc
+
+-- a type that this profile reads or carries is known, and neither a CEXTDEF nor a BAKPAT
+abbrev is_plain : ℕ → Bool
+is_plain k = is_known k && (not (is_cextdef k) && not (is_bakpat k))
+
+record Plain (k : ℕ) : Type 0 where
+  known : is_known k ≡ true
+  cextdef : is_cextdef k ≡ false
+  bakpat : is_bakpat k ≡ false
+
+plain_by : (a b c : Bool) → (a && (not b && not c)) ≡ true → (a ≡ true) × (b ≡ false) × (c ≡ false)
+plain_by true false false e = (refl, refl, refl)
+plain_by true false true e = absurd cc
+plain_by true true c e = absurd cc
+plain_by false b c e = absurd cc
+
+plain_is : (k : ℕ) → is_taken k ≡ true → is_plain k ≡ true
+plain_is k e =
+    elim (or_cases (is_treated Read k) (is_treated Carried k) e) [
+      | inl p ↦ by_list is_plain (flat_map (λ t. (row t).bytes) (types_treated Read)) k refl p
+      | inr p ↦ by_list is_plain (flat_map (λ t. (row t).bytes) (types_treated Carried)) k refl p
+    ]
+
+plain : (k : ℕ) → is_taken k ≡ true → Plain k
+plain k e = let p = plain_by (is_known k) (is_cextdef k) (is_bakpat k) (plain_is k e) in record { known = p.0; cextdef = p.1; bakpat = p.2 }
+
+third : {A : Type 0} (a b : Bool) (x y z : A) → a ≡ false → b ≡ false → cond a x (cond b y z) ≡ z
+third false false x y z e f = refl
+third true b x y z e f = absurd cc
+third false true x y z e f = absurd cc
+
+second : {A : Type 0} (a : Bool) (x y : A) → a ≡ false → cond a x y ≡ y
+second false x y e = refl
+second true x y e = absurd cc
+
+unfaulty : (r : Result Contents Fault) → fault_list r ≡ [] → fault_of r ≡ None
+unfaulty (Ok c) e = refl
+unfaulty (Err f) e = absurd cc
+
+abbrev IsTaken : Raw → Type 0
+IsTaken r = IsTrue (is_taken r.kind)
+
+abbrev IsSpelled : Raw → Type 0
+IsSpelled r = IsTyped (typed r) r.body
+
+sound_one : (before : List Raw) (r : Raw) → IsTaken r → IsSpelled r → lowering_fault before r ≡ None
+sound_one before r taken spelled =
+    let p = plain r.kind taken in
+    third (is_cextdef r.kind) (is_bakpat r.kind) _ _ (cond (is_taken r.kind) (fault_of (read_body r.kind r.body)) None) p.cextdef p.bakpat
+    ∙ ap (λ b. cond b (fault_of (read_body r.kind r.body)) None) taken
+    ∙ unfaulty (read_body r.kind r.body) (are_typed r (typed r) refl spelled).1
+
+sound_all : (before xs : List Raw) → All IsTaken xs → All IsSpelled xs → with_before (λ b r. faults_in (lowering_fault b r)) before xs ≡ []
+sound_all before [] taken spelled = refl
+sound_all before (x ∷ xs) taken spelled =
+    ap (λ f. faults_in f ++ with_before (λ b r. faults_in (lowering_fault b r)) (before ++ x ∷ []) xs) (sound_one before x (All-head IsTaken x xs taken) (All-head IsSpelled x xs spelled))
+    ∙ sound_all (before ++ x ∷ []) xs (All-tail IsTaken x xs taken) (All-tail IsSpelled x xs spelled)
+
+kept_all : (before xs : List Raw) → All IsTaken xs → with_before (λ b r. replacement (names_of b) r) before xs ≡ xs
+kept_all before [] taken = refl
+kept_all before (x ∷ xs) taken =
+    let p = plain x.kind (All-head IsTaken x xs taken) in
+    ap (λ l. l ++ with_before (λ b r. replacement (names_of b) r) (before ++ x ∷ []) xs) (third (is_cextdef x.kind) (is_bakpat x.kind) _ _ (x ∷ []) p.cextdef p.bakpat)
+    ∙ ap (λ l. x ∷ l) (kept_all (before ++ x ∷ []) xs (All-tail IsTaken x xs taken))
+
+no_patches : (before xs : List Raw) → All IsTaken xs → with_before (λ b r. patches_in (pieces b) r) before xs ≡ []
+no_patches before [] taken = refl
+no_patches before (x ∷ xs) taken =
+    let p = plain x.kind (All-head IsTaken x xs taken) in
+    let none : patches_in (pieces before) x ≡ [] = second (is_bakpat x.kind) _ [] p.bakpat in
+    ap (λ l. l ++ with_before (λ b r. patches_in (pieces b) r) (before ++ x ∷ []) xs) none ∙ no_patches (before ++ x ∷ []) xs (All-tail IsTaken x xs taken)
+
+same_records : (xs : List Raw) → All IsTaken xs → lowered_records xs ≡ xs
+same_records xs taken = ap (λ ps. patched (replaced xs) ps) (no_patches [] xs taken) ∙ kept_all [] xs taken
+
+right_one : (r : Raw) → IsRecord r → IsTrue (is_right r)
+right_one r (short, inl zero_sum) = or_left (r.checksum == 0) _ (eq-eqb r.checksum 0 zero_sum)
+right_one r (short, inr balanced) = or_right (r.checksum == 0) _ (eq-eqb _ 0 balanced)
+
+wide_one : (r : Raw) → IsRecord r → IsTaken r → IsWideRecord r
+wide_one r is taken = record { known = (plain r.kind taken).known; right = right_one r is; short = let s = is.0 in omega arith }
+
+wide_all : (xs : List Raw) → All IsRecord xs → All IsTaken xs → All IsWideRecord xs
+wide_all [] each taken = All-nil IsWideRecord
+wide_all (x ∷ xs) each taken = All-cons IsWideRecord x xs (wide_one x (All-head IsRecord x xs each) (All-head IsTaken x xs taken)) (wide_all xs (All-tail IsRecord x xs each) (All-tail IsTaken x xs taken))
+
+All-front : {A : Type 0} (P : A → Type 0) (xs ys : List A) → All P (xs ++ ys) → All P xs
+All-front P [] ys h = All-nil P
+All-front P (x ∷ xs) ys h = All-cons P x xs (All-head P x (xs ++ ys) h) (All-front P xs ys (All-tail P x (xs ++ ys) h))
+
+All-last : {A : Type 0} (P : A → Type 0) (xs : List A) (y : A) → All P (xs ++ y ∷ []) → P y
+All-last P [] y h = All-head P y [] h
+All-last P (x ∷ xs) y h = All-last P xs y (All-tail P x (xs ++ y ∷ []) h)
+
+-- a record that keeps its rules has room among the items
+abbrev Holds : Rule → Type 0
+Holds r = IsTrue r.holds
+
+room_first : (before at : ℕ) (places : List ℕ) (more : List Rule) → All Holds (room item_limit before (at ∷ places) ++ more) → before + 0 < item_limit
+room_first before at places more h = ltb-true (before + 0) item_limit (All-head Holds _ _ h)
+
+has_room : (before : ℕ) (c : Contents) (more : List Rule) → All Holds (room item_limit before (item_places c) ++ more) → before + 0 < item_limit
+has_room before (Fixups []) more h = room_first before 0 [] more h
+has_room before (Fixups (s ∷ subs)) more h = room_first before s.within _ more h
+has_room before _ more h = room_first before 0 [] more h
+
+pub accepted : (profile : Profile) (limits : Limits) (input : List ℕ) (records : List Raw) (a : IsAccepted profile limits input records) → IsLowered input a.bytes
+accepted profile limits input records a =
+    let w = well-read profile limits a.bytes records a.well_formed in
+    let l = w.framed.last in
+    let front = l.0 in
+    let end = l.1 in
+    let is : records ≡ front ++ end ∷ [] = l.2 in
+    let each : All IsRecord (front ++ end ∷ []) = subst (All IsRecord) is w.framed.each in
+    let taken : All IsTaken (front ++ end ∷ []) = subst (All IsTaken) is w.framed.types in
+    let spelled : All IsSpelled (front ++ end ∷ []) = subst (All IsSpelled) is w.spelled in
+    let room : item_count (recs front) + 0 < item_limit = has_room (item_count (recs front)) (typed end).contents _ (w.kept front [] end is) in
+    let few : length front < item_limit = omega (arith, room, item_more front) in
+    let bytes : a.bytes ≡ flat_map raw_bytes (front ++ end ∷ []) = w.framed.spelled ∙ ap (flat_map raw_bytes) is in
+    let parts : flat_map raw_bytes (front ++ end ∷ []) ≡ flat_map raw_bytes front ++ raw_bytes end =
+        flat_map-append raw_bytes front (end ∷ []) ∙ ap (λ e. flat_map raw_bytes front ++ e) (append-nil (raw_bytes end)) in
+    record {
+      before = front;
+      end = end;
+      rest = a.rest;
+      begins = record {
+        spelled = a.spelled ∙ ap (λ b. b ++ a.rest) (bytes ∙ parts) ∙ append_assoc (flat_map raw_bytes front) (raw_bytes end) a.rest;
+        count = omega arith;
+        each = wide_all front (All-front IsRecord front (end ∷ []) each) (All-front IsTaken front (end ∷ []) taken);
+        sound = sound_all [] front (All-front IsTaken front (end ∷ []) taken) (All-front IsSpelled front (end ∷ []) spelled);
+        no_end = l.4;
+      };
+      few = few;
+      last = wide_one end (All-last IsRecord front end each) (All-last IsTaken front end taken);
+      ends = l.3;
+      sound = sound_one front end (All-last IsTaken front end taken) (All-last IsSpelled front end spelled);
+      lowered = bytes ∙ ap (flat_map raw_bytes) (sym (same_records (front ++ end ∷ []) taken));
+    }

@@ -1,0 +1,18 @@
+//! Laws of the definitions, for all inputs.
+
+ghost use Rattle.omf_lowering.specs.Laws.{AcceptedStay, AnswersAreUnique, ReadingsMeetLayouts};
+
+/// Reading the contents of a CEXTDEF or a BAKPAT gives the one value that they encode, or else the least of their faults.
+pub fn readings_meet_layouts()
+    ensures { ReadingsMeetLayouts }
+{}
+
+/// An input has at most one lowering or refusal, and not both.
+pub fn answers_are_unique()
+    ensures { AnswersAreUnique }
+{}
+
+/// A module that is accepted is its own lowering.
+pub fn accepted_stay()
+    ensures { AcceptedStay }
+{}
