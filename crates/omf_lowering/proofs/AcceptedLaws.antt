@@ -160,7 +160,7 @@ accepted profile limits input records a =
     let few : length front < item_limit = omega (arith, room, item_more front) in
     let bytes : a.bytes ≡ flat_map raw_bytes (front ++ end ∷ []) = w.framed.spelled ∙ ap (flat_map raw_bytes) is in
     let parts : flat_map raw_bytes (front ++ end ∷ []) ≡ flat_map raw_bytes front ++ raw_bytes end =
-        flat_map-append raw_bytes front (end ∷ []) ∙ ap (λ e. flat_map raw_bytes front ++ e) (append-nil (raw_bytes end)) in
+    flat_map-append raw_bytes front (end ∷ []) ∙ ap (λ e. flat_map raw_bytes front ++ e) (append-nil (raw_bytes end)) in
     record {
       before = front;
       end = end;

@@ -1,5 +1,7 @@
 pub mod AcceptedLaws
+pub mod DataLaws
 pub mod FieldSteps
+pub mod FitLaws
 pub mod FrontLaws
 pub mod LastLaws
 pub mod NameLaws

@@ -138,14 +138,14 @@ same_sum a b = omega arith
 pub lowered_once : (input a b : List ℕ) → IsLowered input a → IsLowered input b → a ≡ b
 lowered_once input a b k l =
     let same : Done (k.before ++ k.end ∷ []) ≡ Done (l.before ++ l.end ∷ []) =
-        sym (walk_lowered input a k (length l.before)) ∙ ap (λ n. walked n [] input) (same_sum (length k.before) (length l.before)) ∙ walk_lowered input b l (length k.before) in
+    sym (walk_lowered input a k (length l.before)) ∙ ap (λ n. walked n [] input) (same_sum (length k.before) (length l.before)) ∙ walk_lowered input b l (length k.before) in
     let records : k.before ++ k.end ∷ [] ≡ l.before ++ l.end ∷ [] = cc in
     k.lowered ∙ ap (λ rs. flat_map raw_bytes (lowered_records rs)) records ∙ sym l.lowered
 
 pub never_both : (input out : List ℕ) (why : Reason) (at : Place) → IsLowered input out → IsRefused input why at → ⊥
 never_both input out why at k l =
     let same : Done (k.before ++ k.end ∷ []) ≡ Stopped l.before (record { within = at.within; reason = why }) =
-        sym (walk_lowered input out k (length l.before)) ∙ ap (λ n. walked n [] input) (same_sum (length k.before) (length l.before)) ∙ walk_refused input why at l (length k.before) in
+    sym (walk_lowered input out k (length l.before)) ∙ ap (λ n. walked n [] input) (same_sum (length k.before) (length l.before)) ∙ walk_refused input why at l (length k.before) in
     absurd cc
 
 same_place : (p q : Place) → p.number ≡ q.number → p.start ≡ q.start → p.within ≡ q.within → p ≡ q
@@ -154,7 +154,7 @@ same_place p q number start within i = record { number = number i; start = start
 pub refused_once : (input : List ℕ) (why other : Reason) (at there : Place) → IsRefused input why at → IsRefused input other there → (why ≡ other) × (at ≡ there)
 refused_once input why other at there k l =
     let same : Stopped k.before (record { within = at.within; reason = why }) ≡ Stopped l.before (record { within = there.within; reason = other }) =
-        sym (walk_refused input why at k (length l.before)) ∙ ap (λ n. walked n [] input) (same_sum (length k.before) (length l.before)) ∙ walk_refused input other there l (length k.before) in
+    sym (walk_refused input why at k (length l.before)) ∙ ap (λ n. walked n [] input) (same_sum (length k.before) (length l.before)) ∙ walk_refused input other there l (length k.before) in
     let before : k.before ≡ l.before = cc in
     let given : fault at.within why ≡ fault there.within other = cc in
     let number : at.number ≡ there.number = k.number ∙ ap length before ∙ sym l.number in

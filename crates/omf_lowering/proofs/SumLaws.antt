@@ -7,9 +7,9 @@ use Rattle.omf_frame.specs.Framing.{raw_bytes, checksum_of}
 
 same_test : (c s : ℕ) → c < 256 → (c == (256 - s % 256) % 256) ≡ ((s + c) % 256 == 0)
 same_test c s low = elim (cases_Bool ((s + c) % 256 == 0)) [
-    | inl t ↦ let e = eqb-true ((s + c) % 256) 0 t in eq-eqb c ((256 - s % 256) % 256) (omega (arith, e, low)) ∙ sym t
-    | inr t ↦ let e = eqb-false ((s + c) % 256) 0 t in ne_eqb c ((256 - s % 256) % 256) (λ z. e (omega (arith, z, low))) ∙ sym t
-  ]
+  | inl t ↦ let e = eqb-true ((s + c) % 256) 0 t in eq-eqb c ((256 - s % 256) % 256) (omega (arith, e, low)) ∙ sym t
+  | inr t ↦ let e = eqb-false ((s + c) % 256) 0 t in ne_eqb c ((256 - s % 256) % 256) (λ z. e (omega (arith, z, low))) ∙ sym t
+]
 
 sum_more : (xs : List ℕ) (c : ℕ) → sum (xs ++ c ∷ []) ≡ sum (xs ++ 0 ∷ []) + c
 sum_more xs c =

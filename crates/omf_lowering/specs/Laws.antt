@@ -1,18 +1,26 @@
 -- Laws of the definitions, each the contract of a function of the same name.
-use Rattle.std.specs.Prelude.{◌≡◌, ℕ, List}
-use Rattle.omf_frame.specs.Bytes.{AreBytes}
+use Rattle.std.specs.Prelude.{◌≡◌, ℕ, ◌+◌, ◌-◌, ◌≤◌, List, length, All, Some, true, slice_get}
+use Rattle.omf_frame.specs.Bytes.{AreBytes, is_one_of}
+use Rattle.omf_frame.specs.Types.{ledata}
 use Rattle.omf_frame.specs.Framing.{Raw}
 use Rattle.omf_frame.specs.declared.fault.Place.{Place}
 use Rattle.omf_frame.specs.declared.fault.Reason.{Reason}
 use Rattle.omf_image.specs.declared.limits.Limits.{Limits}
+use Rattle.omf_image.specs.Inner.Names.{part_size}
+use Rattle.omf_image.specs.Parts.{add_part}
+-- computed: readings_meet_layouts and contents_are_typed_once of omf_records.
+use Rattle.omf_records.specs.Inner.Reading.{typed}
 use Rattle.omf_records.specs.Layout.{Meets}
+use Rattle.omf_records.specs.Values.{DataItem, Plain}
 use Rattle.omf_check.specs.WellFormed.{IsAccepted}
 use Rattle.omf_check.specs.declared.profile.Profile.{Profile}
 use Rattle.omf_lowering.specs.Layouts.{cextdef, bakpat}
 -- computed: readings_meet_layouts of omf_lowering.
 use Rattle.omf_lowering.specs.Inner.Readers.{cextdef_whole, bakpat_whole}
 use Rattle.std.specs.Prelude.{Bool}
-use Rattle.omf_lowering.specs.Lowering.{IsLowered, IsRefused}
+use Rattle.omf_lowering.specs.Lowering.{IsLowered, IsRefused, patches, replaced}
+use Rattle.omf_lowering.specs.Patches.{with_value}
+use Rattle.omf_lowering.specs.declared.values.Patch.{Patch}
 
 -- Reading the contents of a CEXTDEF or a BAKPAT gives the one value that they encode, or else the least of their faults.
 pub record ReadingsMeetLayouts : Type 0 where
@@ -28,3 +36,22 @@ pub record AnswersAreUnique : Type 0 where
 -- A module that is accepted is its own lowering.
 abbrev pub AcceptedStay : Type 0
 AcceptedStay = (profile : Profile) (limits : Limits) (input : List ℕ) (records : List Raw) (a : IsAccepted profile limits input records) → IsLowered input a.bytes
+
+-- A value is for an LEDATA among these records, and its location is in the data of it.
+pub record Fits (rs : List Raw) (p : Patch) : Type 0 where
+  pub holder : Raw
+  pub data_item : DataItem
+  pub there : slice_get rs p.number ≡ Some holder
+  pub plain : (typed holder).contents ≡ Plain data_item
+  pub from : length holder.body - length data_item.bytes ≤ p.at
+  pub to : p.at + part_size p.part ≤ length holder.body - length data_item.bytes + length data_item.bytes
+
+-- No value of a BAKPAT is lost: each is for an LEDATA, with all bytes of its location in the data.
+abbrev pub ValuesFit : Type 0
+ValuesFit = (rs : List Raw) → All (Fits (replaced rs)) (patches rs)
+
+-- An LEDATA with a value added has the same segment and the same offset in it, and the value is added to the data at the location's place in them.
+abbrev pub DataAreAdded : Type 0
+DataAreAdded = (r : Raw) (d : DataItem) (p : Patch) → AreBytes r.body → (typed r).contents ≡ Plain d → is_one_of ledata r.kind ≡ true
+    → length r.body - length d.bytes ≤ p.at → p.at + part_size p.part ≤ length r.body
+    → (typed (with_value p r)).contents ≡ Plain (record d { bytes = add_part d.bytes (p.at - (length r.body - length d.bytes)) (part_size p.part) p.value })

@@ -69,8 +69,8 @@ patch_by size b None = Err (fault b.within reason.NoDataRecord)
 patch_by size b (Some p) =
     if p.is_plain
     then (if has_all b.item.offset (part_size size) p
-        then Ok (record { number = p.number; at = p.at + (b.item.offset - p.offset); part = size; value = b.item.value })
-        else Err (fault b.within reason.OutsideRecord))
+    then Ok (record { number = p.number; at = p.at + (b.item.offset - p.offset); part = size; value = b.item.value })
+    else Err (fault b.within reason.OutsideRecord))
     else Err (fault b.within reason.FixupOnIterated)
 
 abbrev pub patch_at : List Piece → ℕ → Part → At Backpatch → Result Patch Fault

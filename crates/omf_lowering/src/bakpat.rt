@@ -199,11 +199,7 @@ fn patch_at(
 }
 
 /// Appends the values of backpatches.
-fn push_patches(
-    patches: &mut Vec<Patch>,
-    pieces: &[Piece],
-    given: &Backpatches,
-) -> Result<(), Stop>
+fn push_patches(patches: &mut Vec<Patch>, pieces: &[Piece], given: &Backpatches) -> Result<(), Stop>
     ensures ok { OnOk result (patches.new.items ≡ patches.old.items ++ or_none (placed pieces.now (record { segment = given.now.segment; location = given.now.location; items = given.now.items.items }))) }
     ensures sound { OnOk result (fault_of (placed pieces.now (record { segment = given.now.segment; location = given.now.location; items = given.now.items.items })) ≡ None) }
     ensures err { IfErr result (λ stop. IsStop stop (fault_of (placed pieces.now (record { segment = given.now.segment; location = given.now.location; items = given.now.items.items })))) }

@@ -1,6 +1,6 @@
 //! Laws of the definitions, for all inputs.
 
-ghost use Rattle.omf_lowering.specs.Laws.{AcceptedStay, AnswersAreUnique, ReadingsMeetLayouts};
+ghost use Rattle.omf_lowering.specs.Laws.{AcceptedStay, AnswersAreUnique, DataAreAdded, ReadingsMeetLayouts, ValuesFit};
 
 /// Reading the contents of a CEXTDEF or a BAKPAT gives the one value that they encode, or else the least of their faults.
 pub fn readings_meet_layouts()
@@ -15,4 +15,14 @@ pub fn answers_are_unique()
 /// A module that is accepted is its own lowering.
 pub fn accepted_stay()
     ensures { AcceptedStay }
+{}
+
+/// No value of a BAKPAT is lost: each is for an LEDATA, with all bytes of its location in the data.
+pub fn values_fit()
+    ensures { ValuesFit }
+{}
+
+/// An LEDATA with a value added has the same segment and offset, and the value is added to its data.
+pub fn data_are_added()
+    ensures { DataAreAdded }
 {}

@@ -24,7 +24,11 @@ fn is_end(kind: u8) -> bool
 }
 
 /// Takes the record at the front of the bytes. Returns whether it is a MODEND, and the bytes after it.
-fn take_front<'a>(alloc: Global, work: &mut Work<'a>, bytes: &'a [u8]) -> Result<(bool, &'a [u8]), Stop>
+fn take_front<'a>(
+    alloc: Global,
+    work: &mut Work<'a>,
+    bytes: &'a [u8],
+) -> Result<(bool, &'a [u8]), Stop>
     ensures spelled { IfOk result (λ r. bytes.entry.now ≡ raw_bytes (front_record bytes.entry.now) ++ r.1.now) }
     ensures wide { OnOk result (IsWideRecord (front_record bytes.entry.now)) }
     ensures end { IfOk result (λ r. r.0 ≡ is_end (front_record bytes.entry.now).kind) }

@@ -122,7 +122,12 @@ pub(crate) fn front_of<'a>(bytes: &'a [u8]) -> Result<Front<'a>, LayoutFault>
 
 impl Record {
     /// A copy of a record.
-    pub(crate) fn copied(alloc: Global, kind: u8, body: &[u8], sum: u8) -> Result<Record, AllocError>
+    pub(crate) fn copied(
+        alloc: Global,
+        kind: u8,
+        body: &[u8],
+        sum: u8,
+    ) -> Result<Record, AllocError>
         requires { length body.now ≤ 65534 }
         ensures { IfOk result (λ r. r ≡ record { kind = kind; body = body.now; checksum = sum }) }
     {

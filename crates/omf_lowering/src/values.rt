@@ -1,8 +1,8 @@
 //! The values that a lowering reads, and what it makes of them.
 
+use omf_frame::Index;
 use omf_image::Part;
 use omf_records::At;
-use omf_frame::Index;
 
 /// An external of a CEXTDEF: the index of its name, and its type index (TIS OMF 1.1, "CEXTDEF").
 #[derive(Clone, Copy, Drop)]

@@ -25,6 +25,7 @@ mod layouts;
 mod libraries;
 mod limits;
 mod linking;
+mod lowering;
 mod needed;
 mod order;
 mod own;

@@ -18,7 +18,7 @@ returns-in-Ok-take-clause-added c =
     let front = c.in-Ok.front in
     let raw = front_record c.args.bytes.now in
     let same : seen front ≡ raw =
-        ap (λ k. record { kind = k; body = front.body.now; checksum = front.checksum }) c.in-Ok.ensures.kind
-        ∙ ap (λ b. record { kind = raw.kind; body = b; checksum = front.checksum }) c.in-Ok.ensures.body
-        ∙ ap (λ s. record { kind = raw.kind; body = raw.body; checksum = s }) c.in-Ok.ensures.sum in
+    ap (λ k. record { kind = k; body = front.body.now; checksum = front.checksum }) c.in-Ok.ensures.kind
+    ∙ ap (λ b. record { kind = raw.kind; body = b; checksum = front.checksum }) c.in-Ok.ensures.body
+    ∙ ap (λ s. record { kind = raw.kind; body = raw.body; checksum = s }) c.in-Ok.ensures.sum in
     c.in-Ok-take.ensures.ok ∙ ap (added c.args.work.now) same

@@ -11,7 +11,7 @@ returns-in-188-clause-ok c =
     let w = c.self.inside in
     let old : State = record { names = w.names.items; data_before = w.pieces.items; patches = w.patches.items; records = w.records.items } in
     on_ok c.lower_externals.result
-        (λ e. added_cextdef old front.body.now front.checksum c.lower_externals.new.records.items (e ∙ ap (λ names. w.records.items ++ map extdef (or_none (externals_by names front.body.now))) c.deref.ensures.value)
-            ∙ ap (λ s. added s (record { kind = 0xBC; body = front.body.now; checksum = front.checksum })) c.self.view_is
-            ∙ ap (λ k. added c.args.self.now (record { kind = k; body = front.body.now; checksum = front.checksum })) (sym c.in-188.is))
-        c.lower_externals.ensures.ok
+    (λ e. added_cextdef old front.body.now front.checksum c.lower_externals.new.records.items (e ∙ ap (λ names. w.records.items ++ map extdef (or_none (externals_by names front.body.now))) c.deref.ensures.value)
+    ∙ ap (λ s. added s (record { kind = 0xBC; body = front.body.now; checksum = front.checksum })) c.self.view_is
+    ∙ ap (λ k. added c.args.self.now (record { kind = k; body = front.body.now; checksum = front.checksum })) (sym c.in-188.is))
+    c.lower_externals.ensures.ok

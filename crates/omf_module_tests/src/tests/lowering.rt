@@ -1,0 +1,242 @@
+//! Modules that are lowered. Their bytes are written by hand from the standard.
+
+use super::verdicts::ANY;
+use omf_check::check;
+use omf_frame::{Bytes, Place, Reason};
+use omf_lowering::{LoweringFault, lowered};
+use omf_samples::{DATA, END, FIXUP, HEADER, NAMES, SEGMENT, joined};
+use std::alloc::Global;
+
+type Rows = &'static [&'static str];
+
+// CEXTDEF: the names 2 and 1, with the type indices 0 and 5. Their EXTDEFs.
+const COMDAT_EXTERNALS: &str = "BC 05 00 02 00 01 05 37";
+
+const EXTERNAL_T: &str = "8C 04 00 01 54 00 1B";
+
+const EXTERNAL_EMPTY: &str = "8C 03 00 00 05 6C";
+
+// BAKPATs of segment 1: 1234H to the word at 1; 148H to the byte at 0; FFFFFFFFH to the doubleword at 0.
+const WORD: &str = "B2 07 00 01 01 01 00 34 12 FE";
+
+const BYTE: &str = "B2 07 00 01 00 00 00 48 01 FD";
+
+const DOUBLEWORD: &str = "B3 0B 00 01 02 00 00 00 00 FF FF FF FF 43";
+
+// The data B8 00 00 90 with these values added.
+const DATA_WORD: &str = "A0 08 00 01 00 00 B8 34 12 90 C9";
+
+const DATA_BYTE: &str = "A0 08 00 01 00 00 00 00 00 90 C7";
+
+const DATA_DOUBLEWORD: &str = "A0 08 00 01 00 00 B7 00 00 90 10";
+
+// An LEDATA of 2 bytes at 2, and an LIDATA of 2 bytes at 0.
+const DATA_AT_2: &str = "A0 06 00 01 02 00 05 00 52";
+
+const TWO_BYTES: &str = "A2 0A 00 01 00 00 02 00 00 00 01 AA A6";
+
+const COMDAT: &str = "C2 03 00 00 00 3B";
+
+/// Records, and the records of the lowered module.
+static LOWERED: [(Rows, Rows); 8] = [
+    (
+        &[HEADER, NAMES, SEGMENT, DATA, FIXUP, END],
+        &[HEADER, NAMES, SEGMENT, DATA, FIXUP, END],
+    ),
+    // What is after the module is not read.
+    (&[HEADER, END, COMDAT, "7F"], &[HEADER, END]),
+    (
+        &[HEADER, NAMES, COMDAT_EXTERNALS, END],
+        &[HEADER, NAMES, EXTERNAL_T, EXTERNAL_EMPTY, END],
+    ),
+    (
+        &[HEADER, NAMES, SEGMENT, DATA, WORD, FIXUP, END],
+        &[HEADER, NAMES, SEGMENT, DATA_WORD, FIXUP, END],
+    ),
+    (
+        &[HEADER, NAMES, SEGMENT, DATA, BYTE, END],
+        &[HEADER, NAMES, SEGMENT, DATA_BYTE, END],
+    ),
+    (
+        &[HEADER, NAMES, SEGMENT, DATA, DOUBLEWORD, END],
+        &[HEADER, NAMES, SEGMENT, DATA_DOUBLEWORD, END],
+    ),
+    // The later data stay as they are.
+    (
+        &[HEADER, NAMES, SEGMENT, DATA, WORD, DATA_AT_2, END],
+        &[HEADER, NAMES, SEGMENT, DATA_WORD, DATA_AT_2, END],
+    ),
+    (&[HEADER, COMDAT, END], &[HEADER, COMDAT, END]),
+];
+
+/// Whether records have these lowered; or a growth is refused, and it `may_fail`.
+fn lowers(alloc: Global, rows: Rows, wanted: Rows, may_fail: bool) -> bool {
+    let (Ok(bytes), Ok(wanted)) = (joined(alloc, rows), joined(alloc, wanted)) else {
+        return may_fail;
+    };
+    match lowered(alloc, &bytes) {
+        Ok(out) => out.as_slice() == wanted.as_slice(),
+        Err(LoweringFault::Memory) => may_fail,
+        Err(LoweringFault::Refused { .. }) => false,
+    }
+}
+
+#[test]
+fn modules_are_lowered(rt: HostRuntime) {
+    for (rows, wanted) in &LOWERED {
+        assert!(rt; lowers(rt.alloc(), *rows, *wanted, false));
+    }
+}
+
+#[test]
+fn a_refused_growth_lowers_to_nothing_else(rt: HostRuntime) {
+    for (rows, wanted) in &LOWERED {
+        assert!(rt; lowers(rt.alloc(), *rows, *wanted, true));
+    }
+}
+
+/// Records that are refused: the number of the record at fault, its offset, the place in it, and the reason.
+static REFUSED: [(Rows, u32, u64, u32, Reason); 9] = [
+    (&[HEADER, NAMES], 2, 13, 0, Reason::NoEnd),
+    (&[HEADER, "BC 05 00 02"], 1, 6, 4, Reason::Cut),
+    (&[HEADER, "7F"], 1, 6, 0, Reason::UnknownType),
+    (
+        &[HEADER, COMDAT_EXTERNALS, END],
+        1,
+        6,
+        3,
+        Reason::UndefinedName,
+    ),
+    (
+        &[HEADER, NAMES, "BC 04 00 02 00 02 3C", END],
+        2,
+        13,
+        6,
+        Reason::Short,
+    ),
+    (
+        &[HEADER, NAMES, SEGMENT, WORD, DATA, END],
+        3,
+        23,
+        5,
+        Reason::NoDataRecord,
+    ),
+    (
+        &[HEADER, NAMES, SEGMENT, DATA, TWO_BYTES, WORD, END],
+        5,
+        47,
+        5,
+        Reason::FixupOnIterated,
+    ),
+    (
+        &[HEADER, NAMES, SEGMENT, DATA, DATA_AT_2, WORD, END],
+        5,
+        43,
+        5,
+        Reason::OutsideRecord,
+    ),
+    (
+        &[HEADER, "B2 07 00 01 01 01 00 34 12 01", END],
+        1,
+        6,
+        9,
+        Reason::Checksum,
+    ),
+];
+
+/// Whether records are refused so.
+fn is_refused(alloc: Global, rows: Rows, place: Place, reason: Reason) -> bool {
+    let Ok(bytes) = joined(alloc, rows) else {
+        return false;
+    };
+    match lowered(alloc, &bytes) {
+        Err(
+            LoweringFault::Refused {
+                reason: why,
+                place: at,
+            },
+        ) => why == reason && at == place,
+        Err(LoweringFault::Memory) => false,
+        Ok(_) => false,
+    }
+}
+
+#[test]
+fn the_first_record_at_fault_is_named(rt: HostRuntime) {
+    for (rows, number, start, within, reason) in &REFUSED {
+        let place = Place {
+            number: *number,
+            start: *start,
+            within: *within,
+        };
+        assert!(rt; is_refused(rt.alloc(), *rows, place, *reason));
+    }
+}
+
+/// Whether the lowered module of these records is accepted, with a number of externals.
+fn is_accepted(alloc: Global, rows: Rows, externals: u16) -> bool {
+    let Ok(bytes) = joined(alloc, rows) else {
+        return false;
+    };
+    let Ok(out) = lowered(alloc, &bytes) else {
+        return false;
+    };
+    match check(alloc, &mut Bytes::new(&out), ANY) {
+        Ok(module) => module.externals() == externals,
+        Err(_) => false,
+    }
+}
+
+#[test]
+fn a_lowered_module_is_accepted(rt: HostRuntime) {
+    assert!(rt;
+        is_accepted(
+            rt.alloc(),
+            &[
+                HEADER,
+                NAMES,
+                COMDAT_EXTERNALS,
+                SEGMENT,
+                DATA,
+                WORD,
+                FIXUP,
+                END
+            ],
+            2
+        )
+    );
+}
+
+/// Whether each shorter front of a module is refused.
+fn fronts_are_refused(alloc: Global, rows: Rows) -> bool {
+    let Ok(bytes) = joined(alloc, rows) else {
+        return false;
+    };
+    for size in 0..bytes.len() {
+        match lowered(alloc, &bytes[..size]) {
+            Err(LoweringFault::Refused { .. }) => {}
+            Err(LoweringFault::Memory) => return false,
+            Ok(_) => return false,
+        }
+    }
+    true
+}
+
+#[test]
+fn a_cut_module_is_refused(rt: HostRuntime) {
+    assert!(rt;
+        fronts_are_refused(
+            rt.alloc(),
+            &[
+                HEADER,
+                NAMES,
+                COMDAT_EXTERNALS,
+                SEGMENT,
+                DATA,
+                WORD,
+                DOUBLEWORD,
+                END
+            ]
+        )
+    );
+}
