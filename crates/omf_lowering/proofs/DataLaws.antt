@@ -7,13 +7,13 @@ use Rattle.omf_frame.specs.Bytes.{AreBytes, is_one_of}
 use Rattle.omf_frame.specs.Fault.{Fault}
 use Rattle.omf_frame.specs.Framing.{Raw, raw_of}
 use Rattle.omf_frame.specs.Types.{ledata}
-use Rattle.omf_image.specs.Inner.Names.{part_size}
 use Rattle.omf_image.specs.Parts.{add_part}
 use Rattle.omf_records.specs.Inner.Reading.{contents_or, read_body, typed}
 use Rattle.omf_records.specs.Inner.Reads.{and_then}
 use Rattle.omf_records.specs.Inner.RecordReaders.{data_whole, plain_whole}
 use Rattle.omf_records.specs.Values.{DataItem, Plain, is_wide}
 use Rattle.omf_lowering.specs.Laws.{DataAreAdded}
+use Rattle.omf_lowering.specs.Patches.{size_of}
 
 zero_plus : (k : ℕ) → 0 + k ≡ k
 zero_plus k = omega arith
@@ -21,15 +21,15 @@ zero_plus k = omega arith
 suc_plus : (a b : ℕ) → suc a + b ≡ suc (a + b)
 suc_plus a b = omega arith
 
--- a value added behind other bytes
-add_behind : (a b : List ℕ) (k pos n v : ℕ) → pos ≡ length a + k → add_part (a ++ b) pos n v ≡ a ++ add_part b k n v
-add_behind [] b k pos n v e = ap (λ p. add_part b p n v) (e ∙ zero_plus k)
-add_behind (x ∷ a) b k zero n v e = absurd (let f : 0 ≡ suc (length a) + k = e in omega (arith, f))
-add_behind (x ∷ a) b k (suc pos) n v e =
+-- a value added to bytes after others
+add_after : (a b : List ℕ) (k pos n v : ℕ) → pos ≡ length a + k → add_part (a ++ b) pos n v ≡ a ++ add_part b k n v
+add_after [] b k pos n v e = ap (λ p. add_part b p n v) (e ∙ zero_plus k)
+add_after (x ∷ a) b k zero n v e = absurd (let f : 0 ≡ suc (length a) + k = e in omega (arith, f))
+add_after (x ∷ a) b k (suc pos) n v e =
     let f : suc pos ≡ suc (length a) + k = e in
     let g : pos ≡ length a + k = omega (arith, f) in
     ap (λ m. x ∷ take pos (a ++ b) ++ little_bytes n ((little_number n (drop pos (a ++ b)) + v) % 256 ^ n) ++ drop m (x ∷ a ++ b)) (suc_plus pos n)
-    ∙ ap (λ l. x ∷ l) (add_behind a b k pos n v g)
+    ∙ ap (λ l. x ∷ l) (add_after a b k pos n v g)
 
 -- an LEDATA is read as data
 read_plain : (kind : ℕ) (body : List ℕ) → is_one_of ledata kind ≡ true → read_body kind body ≡ (plain_whole (is_wide kind)).read 3 body
@@ -76,14 +76,14 @@ chosen_first false x y e = absurd cc
 pub data_are_added : DataAreAdded
 data_are_added r d p fit is kind from to =
     let wide : Bool = is_wide r.kind in
-    let size : ℕ = part_size p.part in
+    let size : ℕ = size_of p.part in
     let given : (data_whole wide).read 3 r.body ≡ Ok d = of_plain ((data_whole wide).read 3 r.body) r.body d (ap (contents_or r.body) (sym (read_plain r.kind r.body kind)) ∙ is) in
     let s = ends wide r.body d fit given in
     let start : length r.body - length d.bytes ≡ length s.front = omega (arith, ap length s.parts, length-append s.front d.bytes) in
     let k : ℕ = p.at - (length r.body - length d.bytes) in
     let at : p.at ≡ length s.front + k = omega (arith, from, start) in
     let new : List ℕ = add_part r.body p.at size p.value in
-    let added : new ≡ s.front ++ add_part d.bytes k size p.value = ap (λ b. add_part b p.at size p.value) s.parts ∙ add_behind s.front d.bytes k p.at size p.value at in
+    let added : new ≡ s.front ++ add_part d.bytes k size p.value = ap (λ b. add_part b p.at size p.value) s.parts ∙ add_after s.front d.bytes k p.at size p.value at in
     let result : DataItem = record d { bytes = add_part d.bytes k size p.value } in
     let read : read_body r.kind new ≡ Ok (Plain result) =
     read_plain r.kind new kind ∙ ap (λ b. and_then ((data_whole wide).read 3 b) (λ x. Ok (Plain x))) added

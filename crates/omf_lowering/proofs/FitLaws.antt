@@ -6,7 +6,6 @@ use Rattle.std.proofs.lemmas.Bool.{leb-true}
 use Rattle.std.proofs.lemmas.List.Elements.{All-head, All-tail, All-append, All-cons, All-nil}
 use Rattle.omf_frame.specs.Fault.{Fault}
 use Rattle.omf_frame.specs.Framing.{Raw, is_taken}
-use Rattle.omf_image.specs.Inner.Names.{part_size}
 use Rattle.omf_image.specs.declared.part.Part.{Part}
 use Rattle.omf_records.specs.Inner.Reading.{typed}
 use Rattle.omf_records.specs.Inner.Reads.{and_then, or_none}
@@ -16,7 +15,7 @@ use Rattle.omf_lowering.specs.Externals.{all_of, names_of}
 use Rattle.omf_lowering.specs.Inner.Readers.{bakpat_whole}
 use Rattle.omf_lowering.specs.Laws.{Fits, ValuesFit}
 use Rattle.omf_lowering.specs.Lowering.{is_bakpat, patches, patches_in, pieces, replaced, replacement}
-use Rattle.omf_lowering.specs.Patches.{has_all, has_byte_of, holder, part_of, patch_at, patch_by, patches_by, piece_in, piece_of, pieces_from, placed}
+use Rattle.omf_lowering.specs.Patches.{has_all, has_byte_of, holder, part_of, patch_at, patch_by, patches_by, piece_in, piece_of, pieces_from, placed, size_of}
 use Rattle.omf_lowering.specs.declared.values.Backpatch.{Backpatch}
 use Rattle.omf_lowering.specs.declared.values.Patch.{Patch}
 use Rattle.omf_lowering.specs.declared.values.Piece.{Piece}
@@ -98,7 +97,7 @@ record Found (size : Part) (b : At Backpatch) (o : Option Piece) (p : Patch) : T
   piece : Piece
   is : o ≡ Some piece
   plain : piece.is_plain ≡ true
-  inside : has_all b.item.offset (part_size size) piece ≡ true
+  inside : has_all b.item.offset (size_of size) piece ≡ true
   patch : p ≡ record { number = piece.number; at = piece.at + (b.item.offset - piece.offset); part = size; value = b.item.value }
 
 chosen_patch : (plain inside : Bool) (good p : Patch) (outside iterated : Fault) → cond {A = Result Patch Fault} plain (cond {A = Result Patch Fault} inside (Ok good) (Err outside)) (Err iterated) ≡ Ok p → (plain ≡ true) × (inside ≡ true) × (p ≡ good)
@@ -110,7 +109,7 @@ found : (size : Part) (b : At Backpatch) (o : Option Piece) (p : Patch) → patc
 found size b None p e = absurd cc
 found size b (Some q) p e =
     let good : Patch = record { number = q.number; at = q.at + (b.item.offset - q.offset); part = size; value = b.item.value } in
-    let c = chosen_patch q.is_plain (has_all b.item.offset (part_size size) q) good p _ _ e in
+    let c = chosen_patch q.is_plain (has_all b.item.offset (size_of size) q) good p _ _ e in
     record { piece = q; is = refl; plain = c.0; inside = c.1; patch = c.2 }
 
 both_le : (a b c d : ℕ) → (nat_le a b && nat_le c d) ≡ true → (a ≤ b) × (c ≤ d)
@@ -123,10 +122,10 @@ both_le a b c d e = let h = split (nat_le a b) (nat_le c d) e in (leb-true a b h
 fits_one : (rs : List Raw) (segment : ℕ) (size : Part) (b : At Backpatch) (p : Patch) → patch_at (pieces_from 0 rs) segment size b ≡ Ok p → Fits rs p
 unfolding IfPlain
 fits_one rs segment size b p e =
-    let f = found size b (holder (pieces_from 0 rs) segment b.item.offset (part_size size)) p e in
+    let f = found size b (holder (pieces_from 0 rs) segment b.item.offset (size_of size)) p e in
     let q = f.piece in
-    let h = holder_holds 0 rs segment b.item.offset (part_size size) q f.is f.plain in
-    let inside = both_le q.offset b.item.offset (b.item.offset + part_size size) (q.offset + q.size) f.inside in
+    let h = holder_holds 0 rs segment b.item.offset (size_of size) q f.is f.plain in
+    let inside = both_le q.offset b.item.offset (b.item.offset + size_of size) (q.offset + q.size) f.inside in
     let index : q.number ≡ h.index = omega (arith, h.is) in
     subst (Fits rs) (sym f.patch) (record {
       holder = h.holder;
@@ -152,7 +151,7 @@ fits_record rs kind body (Ok ps) e =
     let read = and_then_ok ((bakpat_whole (is_wide kind)).read 3 body) (placed (pieces_from 0 rs)) ps e in
     fits_items rs read.0.segment.item (part_of read.0.location) read.0.items ps read.2
 
--- more records behind
+-- more records after them
 there_still : (rs more : List Raw) (i : ℕ) (r : Raw) → slice_get rs i ≡ Some r → slice_get (rs ++ more) i ≡ Some r
 there_still [] more i r e = absurd cc
 there_still (x ∷ rs) more zero r e = e

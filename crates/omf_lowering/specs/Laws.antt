@@ -6,7 +6,6 @@ use Rattle.omf_frame.specs.Framing.{Raw}
 use Rattle.omf_frame.specs.declared.fault.Place.{Place}
 use Rattle.omf_frame.specs.declared.fault.Reason.{Reason}
 use Rattle.omf_image.specs.declared.limits.Limits.{Limits}
-use Rattle.omf_image.specs.Inner.Names.{part_size}
 use Rattle.omf_image.specs.Parts.{add_part}
 -- computed: readings_meet_layouts and contents_are_typed_once of omf_records.
 use Rattle.omf_records.specs.Inner.Reading.{typed}
@@ -19,7 +18,7 @@ use Rattle.omf_lowering.specs.Layouts.{cextdef, bakpat}
 use Rattle.omf_lowering.specs.Inner.Readers.{cextdef_whole, bakpat_whole}
 use Rattle.std.specs.Prelude.{Bool}
 use Rattle.omf_lowering.specs.Lowering.{IsLowered, IsRefused, patches, replaced}
-use Rattle.omf_lowering.specs.Patches.{with_value}
+use Rattle.omf_lowering.specs.Patches.{with_value, size_of}
 use Rattle.omf_lowering.specs.declared.values.Patch.{Patch}
 
 -- Reading the contents of a CEXTDEF or a BAKPAT gives the one value that they encode, or else the least of their faults.
@@ -44,7 +43,7 @@ pub record Fits (rs : List Raw) (p : Patch) : Type 0 where
   pub there : slice_get rs p.number ≡ Some holder
   pub plain : (typed holder).contents ≡ Plain data_item
   pub from : length holder.body - length data_item.bytes ≤ p.at
-  pub to : p.at + part_size p.part ≤ length holder.body - length data_item.bytes + length data_item.bytes
+  pub to : p.at + size_of p.part ≤ length holder.body - length data_item.bytes + length data_item.bytes
 
 -- No value of a BAKPAT is lost: each is for an LEDATA, with all bytes of its location in the data.
 abbrev pub ValuesFit : Type 0
@@ -53,5 +52,5 @@ ValuesFit = (rs : List Raw) → All (Fits (replaced rs)) (patches rs)
 -- An LEDATA with a value added has the same segment and the same offset in it, and the value is added to the data at the location's place in them.
 abbrev pub DataAreAdded : Type 0
 DataAreAdded = (r : Raw) (d : DataItem) (p : Patch) → AreBytes r.body → (typed r).contents ≡ Plain d → is_one_of ledata r.kind ≡ true
-    → length r.body - length d.bytes ≤ p.at → p.at + part_size p.part ≤ length r.body
-    → (typed (with_value p r)).contents ≡ Plain (record d { bytes = add_part d.bytes (p.at - (length r.body - length d.bytes)) (part_size p.part) p.value })
+    → length r.body - length d.bytes ≤ p.at → p.at + size_of p.part ≤ length r.body
+    → (typed (with_value p r)).contents ≡ Plain (record d { bytes = add_part d.bytes (p.at - (length r.body - length d.bytes)) (size_of p.part) p.value })

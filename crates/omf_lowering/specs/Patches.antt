@@ -6,7 +6,6 @@ use Rattle.omf_frame.specs.Bytes.{last}
 use Rattle.omf_frame.specs.Fault.{Fault}
 use Rattle.omf_frame.specs.Framing.{Raw, raw_of, is_taken}
 use Rattle.omf_frame.specs.declared.fault.Reason.TheVariants as reason
-use Rattle.omf_image.specs.Inner.Names.{part_size}
 -- computed: lengths_are_decided of omf_image.
 use Rattle.omf_image.specs.Inner.Expanding.{expanded_length}
 use Rattle.omf_image.specs.Limits.{profile_limits}
@@ -58,6 +57,12 @@ holder pieces segment offset size = last (filter (has_byte_of segment offset siz
 abbrev pub part_of : ℕ → Part
 part_of location = if location == 0 then part.Byte else if location == 1 then part.Word else part.Dword
 
+-- The number of bytes of a location.
+abbrev pub size_of : Part → ℕ
+size_of part.Byte = 1
+size_of part.Word = 2
+size_of part.Dword = 4
+
 -- All bytes of a location are in the data.
 abbrev pub has_all : ℕ → ℕ → Piece → Bool
 has_all offset size p = nat_le p.offset offset && nat_le (offset + size) (p.offset + p.size)
@@ -68,13 +73,13 @@ abbrev pub patch_by : Part → At Backpatch → Option Piece → Result Patch Fa
 patch_by size b None = Err (fault b.within reason.NoDataRecord)
 patch_by size b (Some p) =
     if p.is_plain
-    then (if has_all b.item.offset (part_size size) p
+    then (if has_all b.item.offset (size_of size) p
     then Ok (record { number = p.number; at = p.at + (b.item.offset - p.offset); part = size; value = b.item.value })
     else Err (fault b.within reason.OutsideRecord))
     else Err (fault b.within reason.FixupOnIterated)
 
 abbrev pub patch_at : List Piece → ℕ → Part → At Backpatch → Result Patch Fault
-patch_at pieces segment size b = patch_by size b (holder pieces segment b.item.offset (part_size size))
+patch_at pieces segment size b = patch_by size b (holder pieces segment b.item.offset (size_of size))
 
 abbrev pub placed : List Piece → Backpatches → Result (List Patch) Fault
 placed pieces b = all_of (patch_at pieces b.segment.item (part_of b.location)) b.items
@@ -85,7 +90,7 @@ patches_by pieces kind body = and_then ((bakpat_whole (is_wide kind)).read 3 bod
 
 -- The record with a value added to a location in its contents, and the computed checksum byte.
 abbrev pub with_value : Patch → Raw → Raw
-with_value p r = if nat_le (p.at + part_size p.part) (length r.body) then raw_of r.kind (add_part r.body p.at (part_size p.part) p.value) else r
+with_value p r = if nat_le (p.at + size_of p.part) (length r.body) then raw_of r.kind (add_part r.body p.at (size_of p.part) p.value) else r
 
 -- Records of which one has the value added.
 abbrev pub set_value : List Raw → Patch → Option Raw → List Raw

@@ -1,14 +1,13 @@
 //! The values that a BAKPAT adds (TIS OMF 1.1, "BAKPAT").
 
 ghost use Rattle.std.specs.Prelude.{◌≡◌, ◌+◌, ◌<◌, ◌≤◌, ◌++◌, ◌∷◌, [], ℕ, List, drop, length, IfOk, IfErr, OnOk, Ok, None};
-ghost use Rattle.omf_image.specs.Inner.Names.{part_size};
 ghost use Rattle.omf_records.specs.Inner.Reads.{each, or_none};
 ghost use Rattle.omf_records.specs.Values.{is_wide};
 ghost use Rattle.omf_lowering.specs.Externals.{all_of};
 ghost use Rattle.omf_lowering.specs.Inner.Readers.{backpatch_reader, bakpat_whole, read_to, type_reader};
 ghost use Rattle.omf_lowering.specs.Inner.State.{GivesAll, IsStop};
 ghost use Rattle.omf_lowering.specs.Lowering.{fault_of};
-ghost use Rattle.omf_lowering.specs.Patches.{has_all, has_byte_of, holder, part_of, patch_at, patch_by, patches_by, placed};
+ghost use Rattle.omf_lowering.specs.Patches.{has_all, has_byte_of, holder, part_of, patch_at, patch_by, patches_by, placed, size_of};
 
 use crate::fault::Stop;
 use crate::fields::{byte_at, fault_at, number_at, placed_index_at};
@@ -98,9 +97,9 @@ fn backpatches_in(alloc: Global, wide: bool, body: &[u8]) -> Result<Backpatches,
     })
 }
 
-/// The size of a part in bytes.
-fn part_size(part: Part) -> usize
-    ensures size { result ≡ part_size part }
+/// The number of bytes of a location.
+fn size_of(part: Part) -> usize
+    ensures size { result ≡ size_of part }
     ensures small { result ≤ 4 }
 {
     match part {
@@ -179,7 +178,7 @@ fn patch_at(
     ensures ok { IfOk result (λ p. patch_at pieces.now segment part item.now ≡ Ok p) }
     ensures err { IfErr result (λ f. fault_of (patch_at pieces.now segment part item.now) ≡ Some f) }
 {
-    let size = part_size(part);
+    let size = size_of(part);
     let Backpatch { offset, value } = item.item;
     let Some(piece) = holder(pieces, segment, offset, size) else {
         return Err(refused(item, Reason::NoDataRecord));
