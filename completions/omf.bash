@@ -71,7 +71,7 @@ complete -o default -o bashdefault -F _omf_lib omf-lib
 
 _omf_link() {
     local task=${COMP_WORDS[1]} before=${COMP_WORDS[COMP_CWORD-1]} current=${COMP_WORDS[COMP_CWORD]} words=
-    if [ "$COMP_CWORD" -eq 1 ]; then COMPREPLY=($(compgen -W "exe com image map bin hex srec draft --help --version" -- "$current")); return; fi
+    if [ "$COMP_CWORD" -eq 1 ]; then COMPREPLY=($(compgen -W "exe com image map bin hex srec draft lower --help --version" -- "$current")); return; fi
     case "$task $before" in
         'exe -o') return;;
         'exe --map') return;;
@@ -112,6 +112,7 @@ _omf_link() {
         'draft --base') return;;
         'draft --flat') return;;
         'draft -o') return;;
+        'lower -o') return;;
     esac
     [[ $current == -* ]] || return
     case "$task" in
@@ -123,6 +124,7 @@ _omf_link() {
         'hex') words="--addresses --allow --ignore-case -t -o";;
         'srec') words="--addresses --allow --ignore-case -t -o";;
         'draft') words="--base --real --flat --ignore-case -o";;
+        'lower') words="-o";;
     esac
     COMPREPLY=($(compgen -W "$words" -- "$current"))
 }

@@ -46,7 +46,7 @@ complete -c omf-lib -n '__fish_seen_subcommand_from canon' -s o -r -d 'the libra
 complete -c omf-lib -l help -d 'how to call it'
 complete -c omf-lib -l version -d 'the version'
 
-complete -c omf-link -n __fish_use_subcommand -x -a 'exe com image map bin hex srec draft'
+complete -c omf-link -n __fish_use_subcommand -x -a 'exe com image map bin hex srec draft lower'
 complete -c omf-link -n '__fish_seen_subcommand_from exe' -s o -r -d 'the output'
 complete -c omf-link -n '__fish_seen_subcommand_from exe' -l map -r -d 'the map of the program'
 complete -c omf-link -n '__fish_seen_subcommand_from exe' -l stack -r -d 'a stack of BYTES more bytes: decimal, or 4K'
@@ -97,6 +97,7 @@ complete -c omf-link -n '__fish_seen_subcommand_from draft' -l real -d 'addresse
 complete -c omf-link -n '__fish_seen_subcommand_from draft' -l flat -r -d 'one frame with base 0 and this selector'
 complete -c omf-link -n '__fish_seen_subcommand_from draft' -l ignore-case -d 'ignore the case of publics, externals and communals, and show them in lower case'
 complete -c omf-link -n '__fish_seen_subcommand_from draft' -s o -r -d 'the output'
+complete -c omf-link -n '__fish_seen_subcommand_from lower' -s o -r -d 'the output'
 complete -c omf-link -l help -d 'how to call it'
 complete -c omf-link -l version -d 'the version'
 

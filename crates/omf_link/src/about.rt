@@ -2,7 +2,7 @@
 
 use omf_host::About;
 
-/// Its name, how it is called, and what its tasks and options do. The second is that of `omf_linker::link::Link`.
+/// Its name, how it is called, and what its tasks and options do. The second is that of `omf_linker::link::Link`, with one task more.
 pub(crate) const ABOUT: About = About {
     name: "omf-link",
     colored_name: "\x1B[1;36momf-link\x1B[0m",
@@ -28,6 +28,7 @@ pub(crate) const ABOUT: About = About {
            [--ignore-case] [-t TEXT] [-o FILE] [FILE ..]
        omf-link draft [--base ADDRESS] [--real | --flat SELECTOR]
            [--ignore-case] [-o FILE] [FILE ..]
+       omf-link lower -o FILE FILE
 ",
     details: "
   exe     a DOS program (.EXE) of object modules (.OBJ) and libraries (.LIB)
@@ -39,6 +40,7 @@ pub(crate) const ABOUT: About = About {
   map     the addresses of segments, publics and externals, as far as a text
           gives them
   draft   a text with addresses, to begin with
+  lower   a module whose CEXTDEFs are EXTDEFs, and whose BAKPATs are applied
 
   -o FILE                  the output; without it, or where FILE is -, the
                            standard output

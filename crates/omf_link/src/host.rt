@@ -9,8 +9,8 @@ ghost use Rattle.omf_linker.specs.Link.Folded.{AreFilesFolded};
 ghost use Rattle.omf_linker.specs.Seen.Looks.{AreLookedFolded, AreLookedFrom, AreLookedIn};
 
 use crate::about::ABOUT;
-use crate::exe;
 use crate::mapping::kept_files;
+use crate::{exe, lowering};
 use omf_cmd::Fault;
 use omf_frame::Sink;
 use omf_host::{
@@ -401,6 +401,9 @@ fn act<K: Sink, E: Sink>(
     }
     if makes_program(&words) {
         return exe::on_words(rt, &words, streams);
+    }
+    if lowering::is_asked(&words) {
+        return lowering::on_words(rt, &words, streams);
     }
     match allowed_in(rt.alloc(), &words)? {
         Some((allowed, words)) => on_words(rt, &words, allowed, streams),

@@ -8,6 +8,7 @@ mod exe;
 mod folders;
 mod host;
 mod libraries;
+mod lowering;
 mod mapping;
 
 use std::process::ExitCode;
