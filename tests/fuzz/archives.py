@@ -81,7 +81,7 @@ class Library:
         notes = re.findall(rb"^note (1[789]|20) \w+ at \d+", check, re.M)
         is_ok = re.match(rb"OK (\d+) members, (\d+) publics, (\d+) entries\n", check)
         promised(bool(is_ok) != bool(faults) and bool(is_ok) + len(faults) + len(notes) == check.count(b"\n"), f"check {check[:200]}")
-        promised(all(1 <= int(it[0]) <= 17 and int(it[1]) <= 2 ** 32 + 2 ** 25 for it in faults), "a fault's number or offset")
+        promised(all((1 <= int(it[0]) <= 16 or it[0] == b"21") and int(it[1]) <= 2 ** 32 + 2 ** 25 for it in faults), "a fault's number or offset")
         ends = [it for it in faults if int(it[0]) <= 6]
         promised(bool(ends) != has_end, f"the end of the members, here {has_end}")
         refused = [it for it in rows if it[5]]

@@ -11,7 +11,7 @@ def is_whole(lib, file, folder):
     status, text = run([lib, "check", file], folder=folder)
     promised(status == 0 and text.startswith(b"OK ") and all(it[:7] in (b"note 17", b"note 20") for it in text.splitlines()[1:]), f"check of {file}: {text[:200]}")
     bytes_ = (folder / file).read_bytes()
-    promised(all(libraries.is_found(bytes_, it, keeps) for it in libraries.entries(bytes_) for keeps in (False, True)), f"{file}: an entry is not found")
+    promised(all(libraries.is_found(bytes_, it, keeps) for it, _ in libraries.entries(bytes_) for keeps in (False, True)), f"{file}: an entry is not found")
     return [bytes_[at:at + length] for at, length in libraries.members(bytes_)[0]]
 
 
