@@ -78,7 +78,10 @@ def with_frames(text, modules):
             said, mark, comment = line[found.end():].partition(" ;")
             words, title = said.split(), (found[1], next(left[found[1]]))
             frame = [f"{int(words[0], 16) // PARAGRAPH * PARAGRAPH:X}", f"{int(words[0], 16) // PARAGRAPH:X}"] if words[-1] == "real" else words[-2:]
-            frame = frames[title] if words[-1] == "shared" else frames.setdefault(title, frame)
+            if words[-1] == "shared":
+                frame = frames[title]
+            elif " absolute " not in comment:
+                frames.setdefault(title, frame)
             line = " ".join([found[0], *words[:found[1] == "S"], *frame]) + mark + comment
         made.append(line)
     return ("\n".join(made) + "\n").encode()

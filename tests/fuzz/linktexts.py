@@ -58,7 +58,9 @@ class LinkText:
             (folder / "text").write_bytes(text)
         text_options = [] if text is None else [*ALLOW_ALL, "-t", "text"]
         status, answer = run([self.link, task, *options, *text_options, *names], folder=folder)
-        is_fault = FAULT.fullmatch(answer) or UNRESOLVED.fullmatch(answer)
+        named = UNRESOLVED.match(answer)
+        rest = answer[named.end():] if named else answer
+        is_fault = (named and not rest) or FAULT.fullmatch(rest)
         promised(status == 0 or (status == 1 and is_fault), f"{task}: status {status}, {answer[:200]}")
         return status, answer
 
