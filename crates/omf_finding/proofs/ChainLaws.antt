@@ -16,12 +16,13 @@ use Rattle.omf_check.specs.Module.{Module, recs_of}
 use Rattle.omf_placement.specs.declared.frame.Placed.{Placed}
 use Rattle.omf_finding.specs.Chain.{AreChained, Draft, EndsChain, enough, IsAlone, IsChained, IsDraft, IsDraftOf, IsSure, Stands, draft_at, draft_in, found_at, found_in, found_with, present_at}
 use Rattle.omf_finding.specs.Finding.{IsHeld}
-use Rattle.omf_finding.specs.Inner.Chaining.{AreJoined, HasClosed, RefersAt, found_by, has_joined, kept}
+use Rattle.omf_finding.specs.Inner.Chaining.{AreJoined, RefersAt, found_by, has_joined, kept}
 use Rattle.omf_finding.specs.Inner.Shaping.{IsPatternOf, IsShapeOf, bytes_of}
 use Rattle.omf_finding.specs.Inner.Walking.{Marks, byte_in}
 use Rattle.omf_finding.specs.Near.{AreClosed}
 use Rattle.omf_finding.specs.Run.{closed_byte}
 use Rattle.omf_image.proofs.RunLaws.{contains_first, contains_none}
+use Rattle.omf_finding.proofs.ListLaws.{at-end, at-left}
 use Rattle.omf_finding.specs.declared.closed.ClosedByte.{ClosedByte}
 use Rattle.omf_finding.specs.declared.findings.Found.{Found}
 use Rattle.omf_finding.specs.declared.findings.Verdict.{Verdict}
@@ -130,26 +131,19 @@ module _ (program : Program) (n : ℕ) (ms : List Module) where
 
 -- ---- sure by its bytes
 
-pub alone-at : (program : Program) (most n : ℕ) (m : Module) (p : Marks) (s : Shape) (f : Found) (place : Placed) (address : ℕ) → s.places.items ≡ address ∷ [] → s.more ≡ false
-    → present_at f s.segment ≡ Some place → place.address ≡ address → HasClosed (byte_in p s.segment) (enough n (recs_of m.bytes) s.segment) → IsPatternOf m p → IsShapeOf program most m s → IsAlone program n m f
-alone-at program most n m p s f pl address one all at same few own shape = record {
+pub alone-shape : (program : Program) (most n : ℕ) (m : Module) (s : Shape) (f : Found) (place : Placed) (address : ℕ) → s.places.items ≡ address ∷ [] → s.more ≡ false
+    → present_at f s.segment ≡ Some place → place.address ≡ address → enough n (recs_of m.bytes) s.segment ≤ s.closed → IsShapeOf program most m s → IsAlone program n m f
+alone-shape program most n m s f pl address one all at same many shape = record {
   segment = s.segment;
   place = pl;
   present = at;
-  bytes = few.0;
-  closed = closed-as few.0 few.1;
-  many = few.2;
+  bytes = shape.measured.bytes;
+  closed = shape.measured.are;
+  many = let count = shape.measured.count in omega (arith, many, count);
   there = shape.places.agree pl.address (subst (λ xs. Contains xs pl.address) (sym one) (subst (λ (a : ℕ). Contains (a ∷ []) pl.address) same (0, omega arith, refl)));
   only = λ inside other h. only-one other (subst (λ xs. Contains xs other) one (shape.places.all all inside other h));
 }
   where
-    closed-as : (cs : List ClosedByte) → AreClosed (byte_in p s.segment) cs → AreClosed (bytes_of m s.segment) cs
-    closed-as cs h = record {
-      each = λ c k. ap closed_byte (sym (own.bytes s.segment c.offset)) ∙ h.each c k;
-      every = λ x b e. h.every x b (ap closed_byte (own.bytes s.segment x) ∙ e);
-      rising = h.rising;
-    }
-
     only-one : (other : ℕ) → Contains (address ∷ []) other → other ≡ pl.address
     only-one other c = elim (contains_first other address [] c) [
       | inl e ↦ e ∙ sym same
@@ -157,15 +151,6 @@ alone-at program most n m p s f pl address one all at same few own shape = recor
     ]
 
 -- ---- verdicts, one after another
-
-pub at-left : {A : Type 0} (xs ys : List A) (i : ℕ) → i < length xs → slice_get (xs ++ ys) i ≡ slice_get xs i
-at-left [] ys i h = absurd (omega (arith, h))
-at-left (x ∷ xs) ys zero h = refl
-at-left (x ∷ xs) ys (suc i) h = at-left xs ys i (omega (arith, h))
-
-pub at-end : {A : Type 0} (xs : List A) (x : A) → slice_get (xs ++ x ∷ []) (length xs) ≡ Some x
-at-end [] x = refl
-at-end (y ∷ ys) x = at-end ys x
 
 pub drop-first : {A : Type 0} (xs ys : List A) (n : ℕ) (y : A) → drop n xs ≡ y ∷ ys → slice_get xs n ≡ Some y
 drop-first [] ys zero y e = absurd cc

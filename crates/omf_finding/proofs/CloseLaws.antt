@@ -8,7 +8,7 @@ use Rattle.std.specs.List.{list_any}
 use Rattle.std.specs.Ordering.{is_eq, match_ordering, nat_cmp, ordering_then}
 use Rattle.std.proofs.lemmas.Bool.{and_parts, cases_Bool, cases_lt, eq-eqb, eqb-true, false≢true, leb-true, or_cases, true≢false}
 use Rattle.std.proofs.lemmas.List.{length-append}
-use Rattle.std.proofs.lemmas.Option.{none-some, same_Some, slice_get_past}
+use Rattle.std.proofs.lemmas.Option.{none-some, same_Some, slice_get_past, slice_get_within}
 use Rattle.std.proofs.lemmas.Slice.Eq.{bytes_eq-Decides}
 use Rattle.omf_frame.specs.Types.{is_local}
 use Rattle.omf_names.specs.Names.{name_cmp}
@@ -17,10 +17,13 @@ use Rattle.omf_records.specs.Values.{At, Contents, PublicItem, Publics, Rec}
 use Rattle.omf_check.specs.Module.{Module, recs_of}
 use Rattle.omf_check.specs.Tables.{entry, externals}
 use Rattle.omf_placement.specs.declared.frame.Placed.{Placed}
-use Rattle.omf_finding.specs.Chain.{AreAllFound, Draft, IsStart, Refers, RefersTo, Stands, contents_define, defines, draft_at, draft_in, found_at, is_public, present_at, record_defines}
+use Rattle.omf_finding.specs.Chain.{AreAllFound, Draft, IsStart, IsSure, Refers, RefersTo, Stands, contents_define, defines, draft_at, draft_in, found_at, is_public, present_at, record_defines}
 use Rattle.omf_finding.specs.Inner.Chaining.{HaveJoined, RefersAt, found_by, has_joined, kept}
 use Rattle.omf_finding.specs.Inner.Closing.{Adds, AreAll, AreAllJoined, AreAsked, AsksAt, FirstOf, HasOneMore, HaveAsked, IsAskedOf, IsIdle, RefersBy, Spot, Spots, contents_asked, has_spot, is_asked, left_of, public_asked, publics_asked, record_asked, spot_cmp, unreferenced_by}
-use Rattle.omf_finding.proofs.ChainLaws.{as-long, at-end, at-left, drop-first, found-grows, joined-more, joined-sure, kept-both, kept-found, kept-none, kept-parts}
+use Rattle.omf_finding.specs.Inner.Surely.{AreAllSure, AreSureJoined}
+use Rattle.omf_finding.specs.Sure.{AreSureFound}
+use Rattle.omf_finding.proofs.ListLaws.{at-end, at-left}
+use Rattle.omf_finding.proofs.ChainLaws.{as-long, drop-first, found-grows, joined-more, joined-sure, kept-both, kept-found, kept-none, kept-parts}
 use Rattle.omf_finding.specs.declared.chaining.Tried.{Tried}
 use Rattle.omf_finding.specs.declared.findings.Found.{Found}
 use Rattle.omf_finding.specs.declared.findings.Verdict.{Verdict}
@@ -28,11 +31,11 @@ use Rattle.omf_finding.specs.declared.program.Program.{Program}
 
 -- ---- tests
 
-or-left : (x y : Bool) → x ≡ true → (x || y) ≡ true
+pub or-left : (x y : Bool) → x ≡ true → (x || y) ≡ true
 or-left true y e = refl
 or-left false y e = absurd (false≢true e)
 
-or-right : (x y : Bool) → y ≡ true → (x || y) ≡ true
+pub or-right : (x y : Bool) → y ≡ true → (x || y) ≡ true
 or-right true y e = refl
 or-right false y e = e
 
@@ -46,7 +49,7 @@ or-swap true false z = refl
 or-swap false true z = refl
 or-swap false false z = refl
 
-and-both : (x y : Bool) → x ≡ true → y ≡ true → (x && y) ≡ true
+pub and-both : (x y : Bool) → x ≡ true → y ≡ true → (x && y) ≡ true
 and-both true y e f = f
 and-both false y e f = absurd (false≢true e)
 
@@ -56,7 +59,7 @@ on-ok f (Err e) h = h
 
 -- ---- names at addresses
 
-tied-then : (o p : Ordering) → is_eq (ordering_then o p) ≡ (is_eq o && is_eq p)
+pub tied-then : (o p : Ordering) → is_eq (ordering_then o p) ≡ (is_eq o && is_eq p)
 tied-then Less p = refl
 tied-then Equal p = refl
 tied-then Greater p = refl
@@ -65,7 +68,7 @@ spot-tied : (a b : ℕ) (xs ys : List ℕ) → is_eq (ordering_then (nat_cmp a b
 spot-tied a b xs ys = tied-then (nat_cmp a b) (name_cmp xs ys) ∙ ap₂ (λ x y. x && y) (sym (unsigned_ties a b)) (sym (names_tied xs ys))
 
 -- What finds a key in a list finds it after one more, or finds the new one.
-insert-any : {K : Type 0} (cmp : K → K → Ordering) (test : K → Bool) (k : K) → ((x : K) → cmp k x ≡ Equal → test k ≡ test x) → (xs : List K) → list_any test (insert_key cmp xs k) ≡ (test k || list_any test xs)
+pub insert-any : {K : Type 0} (cmp : K → K → Ordering) (test : K → Bool) (k : K) → ((x : K) → cmp k x ≡ Equal → test k ≡ test x) → (xs : List K) → list_any test (insert_key cmp xs k) ≡ (test k || list_any test xs)
 insert-any cmp test k h [] = refl
 insert-any cmp test k h (x ∷ xs) = by-order (insert-any cmp test k h xs) (cmp k x) refl
   where
@@ -362,9 +365,9 @@ module _ (t : Tried) where
       )
 
   pub joined-due : (marks after : List Bool) (n : ℕ) (m : Module) (f : Found) (s : Spots) → after ≡ set marks n true → n < length marks → slice_get t.modules.now n ≡ Some m → draft_at t.drafts.now n ≡ Some f
-      → IsStart t.program.now m f ⊎ (is_asked s f (recs_of m.bytes) ≡ true) → IsAskedOf t marks s → HaveJoined t marks → HaveJoined t after
-  joined-due marks after n m f s e low is draft (inl start) asked h =
-      (joined-sure t.program.now t.least t.modules.now t.drafts.now marks after n m f e low is draft (inl start) h.0, as-long marks after n e ∙ h.1)
+      → IsSure t.program.now t.least m f ⊎ (is_asked s f (recs_of m.bytes) ≡ true) → IsAskedOf t marks s → HaveJoined t marks → HaveJoined t after
+  joined-due marks after n m f s e low is draft (inl sure) asked h =
+      (joined-sure t.program.now t.least t.modules.now t.drafts.now marks after n m f e low is draft sure h.0, as-long marks after n e ∙ h.1)
   joined-due marks after n m f s e low is draft (inr hit) asked h =
       (joined-more t.program.now t.least t.modules.now t.drafts.now marks after by.0 n e low both.0 reference h.0, as-long marks after n e ∙ h.1)
     where
@@ -421,6 +424,15 @@ module _ (t : Tried) where
             let there = asked.has i to.name (to.place.address + to.offset) (record { m = r.m; f = r.f; module_is = r.module_is; found_is = kept-both (draft_at t.drafts.now i) (has_joined marks i) r.f marked r.found_is; refers = to.refers }) in
             let hit = asked-has s r.g (recs_of r.other.bytes) to.name to.segment to.offset to.place to.defined to.present there in
             absurd (false≢true (sym (idle j (low-of j r.other r.other_is) r.other r.g r.other_is r.there_is out).1 ∙ hit))
+      ]
+
+  pub closed-sure : (marks after : List Bool) (s : Spots) → after ≡ marks → ((j : ℕ) → j < length t.modules.now → IsIdle t marks s j) → AreAllSure t after
+  closed-sure marks after s same idle = subst (AreAllSure t) (sym same) sure
+    where
+      sure : AreAllSure t marks
+      sure inside two j m f is draft h = elim (cases_Bool (has_joined marks j)) [
+        | inl here ↦ here
+        | inr out ↦ absurd ((idle j (slice_get_within t.modules.now j m is) m f is draft out).2 inside two h)
       ]
 
 -- ---- verdicts
@@ -490,3 +502,9 @@ all-found program ms drafts marks vs us same others h = record { apart = apart; 
         let both = parts i f s.found_is in
         let out = left j g to.found_is in
         not-both (has_joined marks j) (h.followed i j both.0 (record { m = m; f = f; module_is = s.module_is; found_is = both.1; other = other; g = g; other_is = to.module_is; there_is = out.1; refers = r })) out.0
+
+pub sure-found : (program : Program) (n most : ℕ) (ms : List Module) (drafts : List Draft) (marks : List Bool) (us : List Draft) → ((i : ℕ) → draft_at us i ≡ unreferenced_by drafts marks i) → AreSureJoined program n most ms drafts marks → AreSureFound program n most ms us
+sure-found program n most ms drafts marks us other h inside two i m f stands sure =
+    let parts = kept-parts (draft_at drafts i) (not (has_joined marks i)) f (sym (other i) ∙ stands.found_is) in
+    let joined = h inside two i m f stands.module_is parts.1 sure in
+    absurd (false≢true (ap not (sym joined) ∙ parts.0))

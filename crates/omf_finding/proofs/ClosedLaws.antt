@@ -10,7 +10,7 @@ use Rattle.std.proofs.lemmas.Option.{get_or_from_slice_get, slice_get_within}
 use Rattle.omf_image.proofs.RunLaws.{contains_first, contains_here, contains_more}
 use Rattle.omf_finding.specs.Near.{AreClosed}
 use Rattle.omf_finding.specs.Run.{closed_byte}
-use Rattle.omf_finding.specs.Inner.Nearing.{closed_at, closed_in, closed_with}
+use Rattle.omf_finding.specs.Inner.Measuring.{closed_at, closed_in, closed_with}
 use Rattle.omf_finding.specs.Inner.Shaping.{AreInOrder, AreIntervals}
 use Rattle.omf_finding.specs.Inner.Walking.{byte_with}
 use Rattle.omf_finding.specs.declared.closed.ClosedByte.{ClosedByte}

@@ -1,13 +1,15 @@
 -- Four bytes in a row, of a segment and of a program.
-use Rattle.std.proofs.Common.{◌≡◌, ℕ, ◌+◌, List, [], ◌∷◌, drop, Option, Some, None, refl, sym, ap, ap₂, ◌∙◌, arith}
-use Rattle.std.specs.Prelude.{slice_get, if◌then◌else◌}
+use Rattle.std.proofs.Common.{◌≡◌, ℕ, zero, suc, ◌+◌, ◌<◌, List, [], ◌∷◌, drop, Option, Some, None, refl, sym, ap, ap₂, subst, ◌∙◌, arith}
+use Rattle.std.specs.Prelude.{IsSome, slice_get, if◌then◌else◌}
 use Rattle.std.proofs.lemmas.Option.{slice_get_within}
+use Rattle.omf_finding.specs.Agrees.{HasFour}
 use Rattle.omf_finding.specs.Fours.{four, four_at, four_closed}
 use Rattle.omf_finding.specs.Run.{closed_byte}
-use Rattle.omf_finding.specs.Inner.Shaping.{IsInterval, front, key_at}
+use Rattle.omf_finding.specs.Inner.Shaping.{AreIntervals, IsInterval, IsRareOf, front, key_at}
 use Rattle.omf_finding.specs.Inner.Walking.{byte_with}
 use Rattle.omf_finding.specs.declared.patterning.Interval.{Interval}
 use Rattle.omf_finding.specs.declared.patterning.PatternByte.{PatternByte}
+use Rattle.omf_finding.specs.declared.shapes.Rare.{Rare}
 use Rattle.omf_finding.proofs.FoundLaws.{get-drop}
 use Rattle.omf_finding.proofs.RareLaws.{IsClosedAt, key-from}
 
@@ -56,3 +58,28 @@ module _ (byte : ℕ → Option PatternByte) (i : Interval) (is : IsInterval byt
       four-same (closed_byte (byte x)) (closed_byte (byte (x + 1))) (closed_byte (byte (x + 2))) (closed_byte (byte (x + 3))) (Some k.a) (Some k.b) (Some k.c) (Some k.d) one (cell-closed at 1 k.b k.are.second)
       (cell-closed at 2 k.c k.are.third) (cell-closed at 3 k.d k.are.fourth)
       ∙ ap Some (sym k.key_is)
+
+-- ---- of a segment that is searched for
+
+all-some : (o p q r : Option ℕ) (key : ℕ) → four o p q r ≡ Some key → IsSome o × IsSome p × IsSome q × IsSome r
+all-some None p q r key e = absurd cc
+all-some (Some a) None q r key e = absurd cc
+all-some (Some a) (Some b) None r key e = absurd cc
+all-some (Some a) (Some b) (Some c) None key e = absurd cc
+all-some (Some a) (Some b) (Some c) (Some d) key e = (refl, refl, refl, refl)
+
+pub has-four : (byte : ℕ → Option PatternByte) (x key : ℕ) → four_closed byte x ≡ Some key → HasFour byte
+has-four byte x key e = record { x = x; each = each }
+  where
+    some : IsSome (closed_byte (byte x)) × IsSome (closed_byte (byte (x + 1))) × IsSome (closed_byte (byte (x + 2))) × IsSome (closed_byte (byte (x + 3)))
+    some = all-some (closed_byte (byte x)) (closed_byte (byte (x + 1))) (closed_byte (byte (x + 2))) (closed_byte (byte (x + 3))) key e
+
+    each : (i : ℕ) → i < 4 → IsSome (closed_byte (byte (x + i)))
+    each zero low = subst (λ (n : ℕ). IsSome (closed_byte (byte n))) (let z : x ≡ x + zero = omega arith in z) some.0
+    each (suc zero) low = some.1
+    each (suc (suc zero)) low = some.2
+    each (suc (suc (suc zero))) low = some.3
+    each (suc (suc (suc (suc i)))) low = absurd (omega (arith, low))
+
+pub rare-four : (byte : ℕ → Option PatternByte) (is : List Interval) → AreIntervals byte is → (r : Rare) → IsRareOf is r → HasFour byte
+rare-four byte is are r rare = has-four byte (rare.0.first + rare.2.0) r.key (key-closed byte rare.0 (are.each rare.0 rare.1) rare.2.0 r.key rare.2.1.key)

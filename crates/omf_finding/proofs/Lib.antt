@@ -18,6 +18,10 @@ pub mod RareLaws
 pub mod FourLaws
 pub mod WindowLaws
 pub mod PlaceLaws
+pub mod ListLaws
+pub mod MeasureLaws
+pub mod SingleLaws
+pub mod SureLaws
 pub mod ShapeLaws
 pub mod CandidateLaws
 pub mod ClosedLaws

@@ -14,7 +14,8 @@ use Rattle.omf_finding.specs.Agrees.{HasFour}
 use Rattle.omf_finding.specs.Finding.{IsInside}
 use Rattle.omf_finding.specs.Near.{AreClosed, AreNear, IsAmong, IsFar, IsNear, IsSame, IsTried, differences, differing}
 use Rattle.omf_finding.specs.Run.{closed_byte}
-use Rattle.omf_finding.specs.Inner.Nearing.{AreNearOf, IsBest, IsNearOf, IsShownOf, better, better_by, closed_in, few_differences, one_more}
+use Rattle.omf_finding.specs.Inner.Nearing.{AreNearOf, IsBest, IsNearOf, IsShownOf, better, better_by, few_differences, one_more}
+use Rattle.omf_finding.specs.Inner.Measuring.{closed_in}
 use Rattle.omf_finding.specs.Inner.Shaping.{AreIntervals, bytes_of}
 use Rattle.omf_finding.specs.declared.closed.ClosedByte.{ClosedByte}
 use Rattle.omf_finding.specs.declared.nearing.Difference.{Difference}

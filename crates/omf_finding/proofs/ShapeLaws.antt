@@ -1,6 +1,14 @@
 -- The shapes of a module's segments.
-use Rattle.std.proofs.Common.{◌≡◌, ◌⊎◌, inl, inr, ℕ, ◌+◌, ◌≤◌, Bool, true, false, List, [], ◌∷◌, ◌++◌, Option, sym, ap, subst, ◌∙◌, arith}
-use Rattle.std.specs.Prelude.{All, IfOk, Result, Ok, Err, get_or}
+use Rattle.std.proofs.Common.{◌≡◌, ◌⊎◌, inl, inr, ℕ, zero, suc, ◌+◌, ◌-◌, ◌<◌, ◌≤◌, Bool, true, false, List, [], ◌∷◌, ◌++◌, length, filter, not, Option, Some, None, refl, sym, ap, ap₂, subst, ◌∙◌, if◌then◌else◌, arith}
+use Rattle.std.specs.Prelude.{All, IfOk, IsSome, Result, Ok, Err, get_or, slice_get}
+use Rattle.std.proofs.lemmas.Bool.{cases_lt}
+use Rattle.std.proofs.lemmas.List.{length-append}
+use Rattle.std.proofs.lemmas.Option.{none-some, slice_get_within}
+use Rattle.omf_finding.specs.Agrees.{HasFour}
+use Rattle.omf_finding.specs.Sure.{closed_before, is_fresh, is_value}
+use Rattle.omf_finding.specs.Inner.Measuring.{IsMeasured}
+use Rattle.omf_finding.specs.declared.closed.ClosedByte.{ClosedByte}
+use Rattle.omf_finding.proofs.ListLaws.{at-end, at-left}
 use Rattle.std.proofs.lemmas.Bool.Decides.{leb_tells}
 use Rattle.std.proofs.lemmas.List.Elements.{Contains-append_left, Contains-push, Contains-push_cases, Contains-get_or}
 use Rattle.omf_finding.specs.Finding.{IsCommon, IsCut, IsFull}
@@ -23,19 +31,23 @@ module _ (byte : ℕ → Option PatternByte) (program : List ℕ) (base most : �
 
   -- a segment that is searched for
   pub shape-searched : (s : Shape) (places : List ℕ) (more : Bool) → s.is_searched ≡ true → s.places.items ≡ places → s.more ≡ more → ArePlaces byte program base places more → (more ≡ true → IsCut byte program base most places)
-      → IsShape byte program base most s
-  shape-searched s places more e p q h cut = record {
+      → HasFour byte → IsMeasured byte s → IsShape byte program base most s
+  shape-searched s places more e p q h cut four measured = record {
     places = subst (λ (ps : List ℕ). ArePlaces byte program base ps s.more) (sym p) (subst (ArePlaces byte program base places) (sym q) h);
-    sought = λ four. e;
+    sought = λ f. e;
+    found = λ f. four;
+    measured = measured;
     others = λ f. absurd (let w : true ≡ false = sym e ∙ f in cc);
     cut = λ f m. subst (λ (ps : List ℕ). IsCut byte program base most ps) (sym p) (cut (sym q ∙ m));
   }
 
   -- one that is not
-  pub shape-few : (is : List Interval) → AreIntervals byte is → All HasNone is → (s : Shape) → s.is_searched ≡ false → s.places.items ≡ [] → s.more ≡ true → IsShape byte program base most s
-  shape-few is are none s few p q = record {
+  pub shape-few : (is : List Interval) → AreIntervals byte is → All HasNone is → (s : Shape) → s.is_searched ≡ false → s.places.items ≡ [] → s.more ≡ true → IsMeasured byte s → IsShape byte program base most s
+  shape-few is are none s few p q measured = record {
     places = subst (λ (ps : List ℕ). ArePlaces byte program base ps s.more) (sym p) (subst (ArePlaces byte program base []) (sym q) no-places);
     sought = λ four. absurd (none-sought byte is are none four);
+    found = λ f. absurd (let w : true ≡ false = sym f ∙ few in cc);
+    measured = measured;
     others = λ f. q;
     cut = λ f. absurd (let w : true ≡ false = sym f ∙ few in cc);
   }
@@ -66,6 +78,30 @@ module _ (f g : ℕ → Option PatternByte) (same : (x : ℕ) → f x ≡ g x) w
     cause = cause-as program base most h.x h.key h.end places h.cause;
   }
 
+  fresh-as : (cs : List ClosedByte) → filter (is_fresh f) cs ≡ filter (is_fresh g) cs
+  fresh-as [] = refl
+  fresh-as (c ∷ cs) = ap₂ (λ (b : Bool) (ds : List ClosedByte). if b then c ∷ ds else ds) (ap (λ (o : Option ℕ). not (is_value o c.value)) (before-as c.offset)) (fresh-as cs)
+    where
+      before-as : (x : ℕ) → closed_before f x ≡ closed_before g x
+      before-as zero = refl
+      before-as (suc x) = closed-as x
+
+  measured-as : (s : Shape) → IsMeasured f s → IsMeasured g s
+  measured-as s h = record {
+    bytes = h.bytes;
+    are = record {
+      each = λ c k. sym (closed-as c.offset) ∙ h.are.each c k;
+      every = λ x b e. h.are.every x b (closed-as x ∙ e);
+      rising = h.are.rising;
+    };
+    count = h.count;
+    vary = λ one. h.vary one ∙ ap length (fresh-as h.bytes);
+    extent = record {
+      some = λ low. let w = h.extent.some low in (w.0, subst IsSome (same s.first) w.1, subst IsSome (same (s.end - 1)) w.2);
+      none = λ x k. h.extent.none x (subst IsSome (sym (same x)) k);
+    };
+  }
+
   shape-as : (program : List ℕ) (base most : ℕ) (s : Shape) → IsShape f program base most s → IsShape g program base most s
   shape-as program base most s h = record {
     places = record {
@@ -74,6 +110,8 @@ module _ (f g : ℕ → Option PatternByte) (same : (x : ℕ) → f x ≡ g x) w
       all = λ e fits a ag. h.places.all e fits a (agrees-as g f (λ x. sym (same x)) program base a ag);
     };
     sought = λ four. h.sought (four-as g f (λ x. sym (same x)) four);
+    found = λ e. four-as f g same (h.found e);
+    measured = measured-as s h.measured;
     others = h.others;
     cut = λ searched more. cut-as program base most s.places.items (h.cut searched more);
   }
@@ -82,17 +120,18 @@ pub shapes-as : (f g : ℕ → ℕ → Option PatternByte) → ((segment x : ℕ
 shapes-as f g same program base most n ss h = record {
   each = λ s c. shape-as (f s.segment) (g s.segment) (same s.segment) program base most s (h.each s c);
   every = h.every;
+  numbered = h.numbered;
 }
 
 module _ (byte : ℕ → ℕ → Option PatternByte) (program : List ℕ) (base most : ℕ) where
   pub shapes-first : AreShapes byte program base most 0 []
-  shapes-first = record { each = λ s c. absurd (omega (arith, c.1)); every = λ segment one low. absurd (omega (arith, one, low)) }
+  shapes-first = record { each = λ s c. absurd (omega (arith, c.1)); every = λ segment one low. absurd (omega (arith, one, low)); numbered = λ k s e. absurd (none-some s e) }
 
   pub shapes-last : (n count : ℕ) (ss : List Shape) → count ≤ n → AreShapes byte program base most n ss → AreShapes byte program base most count ss
-  shapes-last n count ss low h = record { each = h.each; every = λ segment one high. h.every segment one (omega (arith, high, low)) }
+  shapes-last n count ss low h = record { each = h.each; every = λ segment one high. h.every segment one (omega (arith, high, low)); numbered = h.numbered }
 
-  pub shapes-next : (n : ℕ) (ss new : List Shape) (s : Shape) → IsShape (byte s.segment) program base most s → s.segment ≡ n + 1 → new ≡ ss ++ s ∷ [] → AreShapes byte program base most n ss → AreShapes byte program base most (n + 1) new
-  shapes-next n ss new s one is e h = subst (AreShapes byte program base most (n + 1)) (sym e) (record {
+  pub shapes-next : (n : ℕ) (ss new : List Shape) (s : Shape) → IsShape (byte s.segment) program base most s → s.segment ≡ n + 1 → length ss ≡ n → new ≡ ss ++ s ∷ [] → AreShapes byte program base most n ss → AreShapes byte program base most (n + 1) new
+  shapes-next n ss new s one is long e h = subst (AreShapes byte program base most (n + 1)) (sym e) (record {
     each = λ t c. elim (Contains-push_cases ss s t c) [
       | inl d ↦ h.each t d
       | inr q ↦ subst (λ (u : Shape). IsShape (byte u.segment) program base most u) q one
@@ -100,6 +139,17 @@ module _ (byte : ℕ → ℕ → Option PatternByte) (program : List ℕ) (base 
     every = λ segment low high. elim (leb_tells segment n) [
       | inl t ↦ let got = h.every segment low t.1 in (got.0, Contains-append_left ss (s ∷ []) got.0 got.1, got.2)
       | inr t ↦ let same : s.segment ≡ segment = omega (arith, is, t.1, high) in (s, Contains-push ss s, same)
+    ];
+    numbered = λ k t f. elim (cases_lt k (length ss)) [
+      | inl l ↦ h.numbered k t (sym (at-left ss (s ∷ []) k l) ∙ f)
+      | inr l ↦
+          let within = slice_get_within (ss ++ s ∷ []) k t f in
+          let size = length-append ss (s ∷ []) in
+          let end : length ss ≡ k = omega (arith, l, within, size) in
+          let both : Some s ≡ Some t = sym (at-end ss s) ∙ ap (slice_get (ss ++ s ∷ [])) end ∙ f in
+          let same : s ≡ t = cc in
+          let numbers = ap (λ (u : Shape). u.segment) same in
+          omega (arith, numbers, is, long, end)
     ];
   })
 

@@ -5,3 +5,6 @@ pub mod Nearing
 pub mod Straying
 pub mod Chaining
 pub mod Closing
+pub mod Measuring
+pub mod Singling
+pub mod Surely

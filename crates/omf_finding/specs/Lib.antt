@@ -9,6 +9,7 @@ pub mod Finding
 pub mod Near
 pub mod Chain
 pub mod Stray
+pub mod Sure
 pub mod Fours
 pub mod Rows
 pub mod Laws

@@ -6,18 +6,17 @@ ghost use Rattle.omf_check.specs.Module.{Module, recs_of};
 ghost use Rattle.omf_finding.specs.declared.findings.Found.{Found};
 ghost use Rattle.omf_reloc.specs.Reach.{Reaches};
 ghost use Rattle.omf_finding.specs.Chain.{IsAlone, IsDraft, IsStart, IsSure, Refers, address_of, defines, draft_at, enough, is_code, is_code_name, is_public, present_at, record_defines};
-ghost use Rattle.omf_finding.specs.Inner.Chaining.{HasClosed, HaveJoined, IsKnown, RefersAt, has_joined};
+ghost use Rattle.omf_finding.specs.Inner.Chaining.{HaveJoined, IsKnown, RefersAt, has_joined};
 ghost use Rattle.omf_finding.specs.Inner.Closing.{AreAll};
+ghost use Rattle.omf_finding.specs.Inner.Surely.{AreAllSure, HaveSure};
 ghost use Rattle.omf_finding.specs.Inner.Shaping.{HasShapes, HaveShapes, IsMarked, IsPatternOf, IsShapeOf};
 ghost use Rattle.omf_finding.specs.Inner.Walking.{byte_in};
 
-use crate::closed::closed_bytes;
 use crate::defined::{Defined, DefinedNames};
 use crate::findings::Found;
 use crate::following::Search;
-use crate::patterning::{Pattern, marked_pattern};
 use crate::program::Program;
-use crate::shapes::{Shape, count_closed};
+use crate::shapes::Shape;
 use crate::singles::Singles;
 use omf_check::{Checked, Undecoded};
 use omf_frame::Name;
@@ -51,22 +50,6 @@ pub(crate) fn present_at(found: &Found, segment: u16) -> Option<Placed>
     found.placement.segment(usize::from(segment))
 }
 
-/// Whether a segment has at least this many closed bytes.
-fn has_closed(
-    alloc: Global,
-    pattern: &Pattern,
-    segment: u16,
-    least: usize,
-) -> Result<bool, AllocError>
-    requires { IsMarked pattern.now }
-    ensures { IfOk result (λ r. r ≡ true → HasClosed (byte_in pattern.now segment) least) }
-{
-    let intervals = pattern.intervals(alloc, segment)?;
-    let count = count_closed(&intervals);
-    let closed = closed_bytes(alloc, &intervals, count)?;
-    Ok(least <= closed.len())
-}
-
 /// Whether a class is one of code, if it has a name.
 fn is_code_name(class: Option<Name<'_>>) -> bool
     ensures { result ≡ is_code_name class.entry }
@@ -95,19 +78,6 @@ pub(crate) fn enough(module: &Checked, segment: u16, least: usize) -> usize
         least / 2
     } else {
         least
-    }
-}
-
-/// The only place of a segment that is searched for.
-fn only_place(shape: &Shape) -> Option<u32>
-    ensures { IfSome result (λ a. (shape.now.places.items ≡ a ∷ []) × (shape.now.more ≡ false)) }
-{
-    if shape.more {
-        return None;
-    }
-    match shape.places.as_slice() {
-        [address] => Some(*address),
-        _ => None,
     }
 }
 
@@ -273,82 +243,6 @@ impl Joined {
 }
 
 impl<'a, 'b, 'c> Tried<'a, 'b, 'c> {
-    /// Whether one of the segments of a module is sure by its bytes.
-    fn is_alone_at(
-        self,
-        module: &Checked,
-        found: &Found,
-        pattern: &Pattern,
-        shape: &Shape,
-    ) -> Result<bool, AllocError>
-        requires { IsMarked pattern.now }
-        ensures { IfOk result (λ r. r ≡ true → IsPatternOf «module».now pattern.now → IsShapeOf self.entry.program.now self.entry.most «module».now shape.now → IsAlone self.entry.program.now self.entry.least «module».now found.now) }
-    {
-        let Some(address) = only_place(shape) else {
-            return Ok(false);
-        };
-        let Some(place) = present_at(found, shape.segment) else {
-            return Ok(false);
-        };
-        if place.address != address {
-            return Ok(false);
-        }
-        let enough = enough(module, shape.segment, self.least);
-        has_closed(self.alloc, pattern, shape.segment, enough)
-    }
-
-    /// Whether a segment of a module is sure by its bytes.
-    fn is_alone(self, module: &Checked, found: &Found, shapes: &[Shape]) -> Result<bool, AllocError>
-        requires { HaveShapes self.program.now self.most «module».now shapes.now }
-        ensures { IfOk result (λ r. r ≡ true → IsAlone self.entry.program.now self.entry.least «module».now found.now) }
-    {
-        let pattern = marked_pattern(self.alloc, module)?;
-        for shape in shapes {
-            if self.is_alone_at(module, found, &pattern, shape)? {
-                return Ok(true);
-            }
-        }
-        Ok(false)
-    }
-
-    /// Whether a segment of a module seems to be sure by its bytes: at its place are no closed bytes of another one.
-    fn seems_alone(self, number: usize, found: &Found, shapes: &[Shape]) -> bool {
-        shapes.iter().any(|shape| match only_place(shape) {
-            Some(address) => self.is_single(number, shape.segment, address)
-                && !found.absent.has(shape.segment),
-            None => false,
-        })
-    }
-
-    /// Whether no other segment is only at this address.
-    fn is_single(self, number: usize, segment: u16, address: u32) -> bool {
-        match self.search.number_of(number, segment) {
-            Some(part) => self.singles.is_alone(address, part) && self.search.is_whole(part),
-            None => false,
-        }
-    }
-
-    /// Whether a module at its placement is sure by itself.
-    fn is_sure(
-        self,
-        number: usize,
-        module: &Checked,
-        found: &Found,
-        shapes: &[Shape],
-    ) -> Result<bool, AllocError>
-        requires shapes { HaveShapes self.program.now self.most «module».now shapes.now }
-        requires held { Reaches found.now.placement (recs_of «module».now.bytes) }
-        ensures { IfOk result (λ r. r ≡ true → IsSure self.entry.program.now self.entry.least «module».now found.now) }
-    {
-        if is_start(self.program, module, found) {
-            return Ok(true);
-        }
-        if !self.seems_alone(number, found, shapes) {
-            return Ok(false);
-        }
-        self.is_alone(module, found, shapes)
-    }
-
     /// Joins a module, if it is sure by itself.
     fn join_sure(self, joined: &mut Joined, number: usize) -> Result<(), AllocError>
         requires shapes { AllZip (HasShapes self.program.now self.most) self.modules.now self.shapes.now }
@@ -367,8 +261,7 @@ impl<'a, 'b, 'c> Tried<'a, 'b, 'c> {
             return Ok(());
         }
         let own = shapes[number].as_slice();
-        let is_sure = self.is_sure(number, module, found, own)?;
-        if is_sure {
+        if self.is_sure(number, module, found, own) {
             joined.join(number)?;
         }
         Ok(())
@@ -537,8 +430,10 @@ impl<'a, 'b, 'c> Tried<'a, 'b, 'c> {
     pub(crate) fn walk(self) -> Result<Joined, AllocError>
         requires shapes { AllZip (HasShapes self.program.now self.most) self.modules.now self.shapes.now }
         requires drafts { AllZip (IsDraft self.program.now) self.modules.now self.drafts.now }
+        requires singles { HaveSure self }
         ensures joined { IfOk result (λ j. HaveJoined self.entry j.marks.items) }
         ensures all { IfOk result (λ j. AreAll self.entry j.marks.items) }
+        ensures sure { IfOk result (λ j. AreAllSure self.entry j.marks.items) }
     {
         let mut joined = Joined::new(self.alloc, self.modules.len())?;
         self.join_all_sure(&mut joined)?;

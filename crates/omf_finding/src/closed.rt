@@ -1,7 +1,7 @@
 //! The closed bytes of a segment.
 
 ghost use Rattle.std.specs.Prelude.{◌≡◌, ◌++◌, ◌^◌, ◌+◌, ◌≤◌, All, IfOk, OnOk, flat_map, length, option_to_list};
-ghost use Rattle.omf_finding.specs.Inner.Nearing.{closed_at, closed_in};
+ghost use Rattle.omf_finding.specs.Inner.Measuring.{closed_at, closed_in};
 ghost use Rattle.omf_finding.specs.Inner.Shaping.{IsWhole};
 
 use crate::patterning::Interval;
@@ -17,7 +17,7 @@ pub struct ClosedByte {
 }
 
 /// The closed byte at an index of an interval; `None` for an open one, and after the last.
-fn closed_at(interval: Interval<'_>, at: usize) -> Option<ClosedByte>
+pub(crate) fn closed_at(interval: Interval<'_>, at: usize) -> Option<ClosedByte>
     requires { interval.first + length interval.values.now ≤ 2 ^ 32 }
     ensures { result ≡ closed_at interval.entry at }
 {

@@ -1,15 +1,18 @@
 //! Whether all modules are found that are to be: each one to which a module that is found refers, and each one at the program's start.
 
-ghost use Rattle.std.specs.Prelude.{◌≡◌, ◌+◌, ◌<◌, ◌⊎◌, ℕ, List, false, length, true, IfOk, OnOk};
+ghost use Rattle.std.specs.Prelude.{◌≡◌, ◌+◌, ◌<◌, ◌⊎◌, ℕ, List, Some, false, length, slice_get, true, IfOk, OnOk};
 ghost use Rattle.std.specs.List.{AllZip, list_any};
 ghost use Rattle.omf_check.specs.Module.{recs_of};
 ghost use Rattle.omf_reloc.specs.Reach.{Reaches};
-ghost use Rattle.omf_finding.specs.Chain.{IsDraft, IsStart, RefersTo};
+ghost use Rattle.omf_finding.specs.Chain.{IsDraft, IsStart, IsSure, RefersTo};
 ghost use Rattle.omf_finding.specs.Inner.Chaining.{HaveJoined};
+ghost use Rattle.omf_finding.specs.Inner.Shaping.{HasShapes};
+ghost use Rattle.omf_finding.specs.Inner.Surely.{AreAllSure, HaveSure, IsUnsure};
 ghost use Rattle.omf_finding.specs.Inner.Closing.{Adds, AreAll, AsksAt, HasOneMore, HaveAsked, IsAskedOf, IsIdle, RefersBy, has_spot, is_asked, left_of, public_asked, record_asked};
 
-use crate::chaining::{Joined, Tried, is_start, known_name, present_at};
+use crate::chaining::{Joined, Tried, known_name, present_at};
 use crate::findings::Found;
+use crate::found::segment_count;
 use omf_check::{Checked, Undecoded};
 use omf_names::NameKey;
 use omf_records::{Items, Public};
@@ -142,13 +145,27 @@ impl<'a, 'b, 'c> Tried<'a, 'b, 'c> {
     }
 
     /// Whether a module that has not joined is to be found.
-    fn is_due(self, names: &ReferredNames<'c>, module: &'c Checked, found: &Found) -> bool
-        requires { Reaches found.now.placement (recs_of «module».now.bytes) }
-        ensures some { result ≡ true → IsStart self.entry.program.now «module».entry.now found.now ⊎ (is_asked names.now.spots found.now (recs_of «module».entry.now.bytes) ≡ true) }
+    fn is_due(
+        self,
+        names: &ReferredNames<'c>,
+        number: usize,
+        module: &'c Checked,
+        found: &Found,
+    ) -> bool
+        requires shapes { AllZip (HasShapes self.program.now self.most) self.modules.now self.shapes.now }
+        requires singles { HaveSure self }
+        requires number { slice_get self.modules.now number ≡ Some «module».now }
+        requires held { Reaches found.now.placement (recs_of «module».now.bytes) }
+        ensures some { result ≡ true → IsSure self.entry.program.now self.entry.least «module».entry.now found.now ⊎ (is_asked names.now.spots found.now (recs_of «module».entry.now.bytes) ≡ true) }
         ensures start { result ≡ false → IsStart self.entry.program.now «module».entry.now found.now → ⊥ }
+        ensures alone { result ≡ false → IsUnsure self.entry number «module».entry.now found.now }
         ensures asked { result ≡ false → is_asked names.now.spots found.now (recs_of «module».entry.now.bytes) ≡ false }
     {
-        if is_start(self.program, module, found) {
+        let _count = segment_count(module);
+        let Some(own) = self.shapes.get(number) else {
+            unreachable!()
+        };
+        if self.is_sure(number, module, found, own.as_slice()) {
             return true;
         }
         names.has_module(module, found)
@@ -162,6 +179,8 @@ impl<'a, 'b, 'c> Tried<'a, 'b, 'c> {
         number: usize,
     ) -> Result<bool, AllocError>
         requires low { number < length self.modules.now }
+        requires shapes { AllZip (HasShapes self.program.now self.most) self.modules.now self.shapes.now }
+        requires singles { HaveSure self }
         requires drafts { AllZip (IsDraft self.program.now) self.modules.now self.drafts.now }
         requires joined { HaveJoined self joined.old.marks.items }
         requires asked { IsAskedOf self joined.old.marks.items names.now.spots }
@@ -177,7 +196,7 @@ impl<'a, 'b, 'c> Tried<'a, 'b, 'c> {
         let Some((module, found)) = self.draft(number) else {
             return Ok(false);
         };
-        if !self.is_due(names, module, found) {
+        if !self.is_due(names, number, module, found) {
             return Ok(false);
         }
         joined.join(number)?;
@@ -190,6 +209,8 @@ impl<'a, 'b, 'c> Tried<'a, 'b, 'c> {
         joined: &mut Joined,
         names: &ReferredNames<'c>,
     ) -> Result<bool, AllocError>
+        requires shapes { AllZip (HasShapes self.program.now self.most) self.modules.now self.shapes.now }
+        requires singles { HaveSure self }
         requires drafts { AllZip (IsDraft self.program.now) self.modules.now self.drafts.now }
         requires joined { HaveJoined self joined.old.marks.items }
         requires asked { IsAskedOf self joined.old.marks.items names.now.spots }
@@ -209,10 +230,13 @@ impl<'a, 'b, 'c> Tried<'a, 'b, 'c> {
 
     /// Joins the modules that are to be found by those that have joined, and returns whether there was one.
     fn close_once(self, joined: &mut Joined) -> Result<bool, AllocError>
+        requires shapes { AllZip (HasShapes self.program.now self.most) self.modules.now self.shapes.now }
+        requires singles { HaveSure self }
         requires drafts { AllZip (IsDraft self.program.now) self.modules.now self.drafts.now }
         requires joined { HaveJoined self joined.old.marks.items }
         ensures joined { OnOk result (HaveJoined self.entry joined.new.marks.items) }
         ensures all { IfOk result (λ r. r ≡ false → AreAll self.entry joined.new.marks.items) }
+        ensures sure { IfOk result (λ r. r ≡ false → AreAllSure self.entry joined.new.marks.items) }
         ensures fewer { IfOk result (λ r. r ≡ true → left_of joined.new.marks.items < left_of joined.old.marks.items) }
     {
         let names = self.referred_names(joined)?;
@@ -222,10 +246,13 @@ impl<'a, 'b, 'c> Tried<'a, 'b, 'c> {
 
     /// Joins modules until all have joined that are to be found.
     pub(crate) fn close(self, joined: &mut Joined) -> Result<(), AllocError>
+        requires shapes { AllZip (HasShapes self.program.now self.most) self.modules.now self.shapes.now }
+        requires singles { HaveSure self }
         requires drafts { AllZip (IsDraft self.program.now) self.modules.now self.drafts.now }
         requires joined { HaveJoined self joined.old.marks.items }
         ensures joined { OnOk result (HaveJoined self.entry joined.new.marks.items) }
         ensures all { OnOk result (AreAll self.entry joined.new.marks.items) }
+        ensures sure { OnOk result (AreAllSure self.entry joined.new.marks.items) }
     {
         while self.close_once(joined)? {}
         Ok(())

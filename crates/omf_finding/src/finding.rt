@@ -9,7 +9,10 @@ ghost use Rattle.omf_finding.specs.Finding.{AreCandidates, IsAt, IsInside, IsRea
 ghost use Rattle.omf_finding.specs.Inner.Chaining.{AreJoined, found_by, kept};
 ghost use Rattle.omf_finding.specs.Inner.Closing.{AreAllJoined, unreferenced_by};
 ghost use Rattle.omf_finding.specs.Inner.Shaping.{AgreeAt, HasShapes, HaveShapes, IsMarked, IsOffered, IsPatternOf, IsShapeOf, bytes_of};
+ghost use Rattle.omf_finding.specs.Inner.Singling.{AreSingles};
+ghost use Rattle.omf_finding.specs.Inner.Surely.{AreSureJoined};
 ghost use Rattle.omf_finding.specs.Inner.Walking.{byte_in};
+ghost use Rattle.omf_finding.specs.Sure.{AreSureFound};
 ghost use Rattle.omf_finding.specs.declared.program.Program.{Program};
 
 use crate::chaining::{Joined, Tried, enough};
@@ -20,7 +23,7 @@ use crate::names::Names;
 use crate::patterning::{Pattern, marked_pattern};
 use crate::program::Program;
 use crate::settling::Settled;
-use crate::shapes::{Shape, is_at, shapes_of};
+use crate::shapes::{Shape, is_at, is_whole, shapes_of};
 use crate::singles::{Singles, is_varied};
 use omf_check::Checked;
 use omf_names::NameKey;
@@ -150,23 +153,32 @@ impl<'a> Search<'a> {
         for (number, module) in modules.iter().enumerate() {
             self.seed_start(number, module)?;
         }
-        for (address, number) in &singles.alone {
-            if self.is_whole(*number) {
-                self.place(*number, *address)?;
+        let shapes = self.shapes;
+        for (number, own) in shapes.iter().enumerate() {
+            if is_whole(own) {
+                self.seed_singles(number, own, singles)?;
             }
         }
         Ok(())
     }
 
-    /// Whether no segment of the module of this segment is nowhere in the program.
-    pub(crate) fn is_whole(&self, number: usize) -> bool {
-        let Some(part) = self.parts.get(number) else {
-            return false;
-        };
-        match self.shapes.get(part.module as usize) {
-            Some(shapes) => !shapes.iter().any(|shape| shape.is_nowhere()),
-            None => false,
+    /// Puts the segments of a module without a rival at their only places.
+    fn seed_singles(
+        &mut self,
+        module: usize,
+        shapes: &[Shape],
+        singles: &Singles,
+    ) -> Result<(), AllocError> {
+        for shape in shapes {
+            if let (Some(address), Some(number)) = (
+                shape.single_place(),
+                self.number_of(module, shape.segment),
+            ) && singles.is_alone(module, shape.segment)
+            {
+                self.place(number, address)?;
+            }
         }
+        Ok(())
     }
 
     /// The place of a segment of a module, if it is known.
@@ -185,9 +197,8 @@ impl<'a> Search<'a> {
         let [address] = shape.places.as_slice() else {
             return None;
         };
-        let number = self.number_of(module, shape.segment)?;
-        let other = self.parts.get(singles.other(*address, number)?)?;
-        Some(other.module)
+        let other = singles.other(*address, module, shape.segment)?;
+        u32::try_from(other).ok()
     }
 
     /// Whether the place that references give a segment is one where it may be. `None` if they give it none.
@@ -616,8 +627,10 @@ fn joined_among<'a, 'b>(
 ) -> Result<Joined, AllocError>
     requires shapes { AllZip (HasShapes ended.program.now ended.most) modules.now shapes.now }
     requires drafts { AllZip (IsDraft ended.program.now) modules.now drafts.now }
+    requires singles { AreSingles ended.program.now least modules.now shapes.now ended.singles.now.alone }
     ensures joined { IfOk result (λ j. AreJoined ended.entry.program.now least modules.now drafts.entry.now j.marks.items) }
     ensures all { IfOk result (λ j. AreAllJoined ended.entry.program.now modules.now drafts.entry.now j.marks.items) }
+    ensures sure { IfOk result (λ j. AreSureJoined ended.entry.program.now least ended.entry.most modules.now drafts.entry.now j.marks.items) }
 {
     let tried = Tried {
         alloc: ended.search.alloc,
@@ -657,6 +670,7 @@ pub fn find(
     ensures chained { IfOk result (λ f. AreChained program.now options.now.least modules.now f.verdicts.items) }
     ensures unreferenced { IfOk result (λ f. AllZip (IsDraft program.now) modules.now f.unreferenced.items) }
     ensures all { IfOk result (λ f. AreAllFound program.now modules.now f.verdicts.items f.unreferenced.items) }
+    ensures sure { IfOk result (λ f. AreSureFound program.now options.now.least options.now.most modules.now f.unreferenced.items) }
 {
     let shapes = shapes_of(alloc, modules, program, options.most)?;
     let singles = Singles::of(alloc, modules, &shapes, options.least)?;

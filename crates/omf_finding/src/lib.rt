@@ -24,6 +24,7 @@ mod settling;
 mod shapes;
 mod singles;
 mod straying;
+mod sure;
 mod wanting;
 mod windows;
 

@@ -1,13 +1,15 @@
 //! The segments of modules, and the places of a program where their closed bytes are.
 
-ghost use Rattle.std.specs.Prelude.{◌≡◌, ◌⊎◌, ◌+◌, ◌++◌, ◌∷◌, [], ◌<◌, ◌≤◌, ◌^◌, ◌==◌, ◌&&◌, ℕ, All, length, false, not, true, Option, None, IfOk, IfSome, OnOk};
+ghost use Rattle.std.specs.Prelude.{◌≡◌, ◌⊎◌, ◌+◌, ◌-◌, ◌++◌, ◌∷◌, [], ◌<◌, ◌≤◌, ◌^◌, ◌==◌, ◌&&◌, ℕ, All, flat_map, length, min, nat_lt, false, not, true, Option, None, IfOk, IfSome, OnOk};
 ghost use Rattle.std.specs.List.{AllZip};
 ghost use Rattle.omf_finding.specs.Finding.{IsCut};
+ghost use Rattle.omf_finding.specs.Inner.Measuring.{IsExtent, closed_in, fresh_at, fresh_in};
+ghost use Rattle.omf_finding.specs.Inner.Surely.{is_whole};
 ghost use Rattle.omf_finding.specs.Inner.Walking.{byte_in};
 ghost use Rattle.omf_finding.specs.Inner.Shaping.{AreIntervals, ArePlaces, AreShapes, AreWindows, HasNone, HasShapes, HaveShapes, IsMarked, IsRareAt, IsRareIn, IsRareOf, IsShape, IsWhole, address_for, cell_agrees, cells_agree, closed_front, interval_agrees, is_at, is_kept, key_at, offset_in, run_agrees, tried_with};
 ghost use Rattle.omf_finding.specs.declared.patterning.PatternByte.{PatternByte};
 
-use crate::closed::{ClosedByte, closed_bytes};
+use crate::closed::{ClosedByte, closed_at, closed_bytes};
 use crate::patterning::{Interval, Pattern, marked_pattern};
 use crate::program::Program;
 use crate::wanting::wanted;
@@ -260,33 +262,55 @@ pub(crate) fn is_at(program: &Program, intervals: &[Interval<'_>], address: u32)
 }
 
 /// The number of closed bytes of an interval.
-fn closed_in(interval: Interval<'_>) -> usize {
+fn closed_in(interval: Interval<'_>) -> usize
+    requires { length interval.marks.now ≡ length interval.values.now }
+    ensures { result ≡ length (closed_in interval.entry) }
+{
     let mut closed: usize = 0;
-    for mark in interval.marks {
-        if is_closed(*mark) {
-            closed = closed.saturating_add(1);
+    for at in 0..interval.marks.len() {
+        if is_closed(interval.marks[at]) {
+            closed += 1;
         }
     }
     closed
 }
 
+/// Whether the byte at an index of an interval is closed, and not the same as a closed one before it.
+fn is_fresh(interval: Interval<'_>, at: usize) -> bool
+    requires { interval.first + length interval.values.now ≤ 2 ^ 32 }
+    ensures { result ≡ fresh_at interval.entry at }
+{
+    let Some(own) = closed_at(interval, at) else {
+        return false;
+    };
+    if at == 0 {
+        return true;
+    }
+    match closed_at(interval, at - 1) {
+        Some(before) => before.value != own.value,
+        None => true,
+    }
+}
+
 /// How many closed bytes of an interval differ from the one before.
-fn varied_in(interval: Interval<'_>) -> usize {
+fn varied_in(interval: Interval<'_>) -> usize
+    requires { interval.first + length interval.values.now ≤ 2 ^ 32 }
+    ensures { result ≡ length (fresh_in interval.entry) }
+{
     let mut varied: usize = 0;
-    let mut last = None;
-    for (value, mark) in interval.values.iter().zip(interval.marks) {
-        if !is_closed(*mark) {
-            last = None;
-        } else if last != Some(*value) {
-            varied = varied.saturating_add(1);
-            last = Some(*value);
+    for at in 0..interval.values.len() {
+        if is_fresh(interval, at) {
+            varied += 1;
         }
     }
     varied
 }
 
 /// How many closed bytes differ from the one before.
-fn count_varied(intervals: &[Interval<'_>]) -> usize {
+fn count_varied(intervals: &[Interval<'_>]) -> usize
+    requires { All IsWhole intervals.now }
+    ensures { result ≡ min (length (flat_map fresh_in intervals.now)) (2 ^ 64 - 1) }
+{
     let mut varied: usize = 0;
     for interval in intervals {
         varied = varied.saturating_add(varied_in(*interval));
@@ -295,7 +319,10 @@ fn count_varied(intervals: &[Interval<'_>]) -> usize {
 }
 
 /// The same of a segment with one place; 0 of others, where it is not needed.
-fn varied_at(places: &[u32], intervals: &[Interval<'_>]) -> usize {
+fn varied_at(places: &[u32], intervals: &[Interval<'_>]) -> usize
+    requires { All IsWhole intervals.now }
+    ensures { length places.now ≡ 1 → result ≡ min (length (flat_map fresh_in intervals.now)) (2 ^ 64 - 1) }
+{
     match places {
         [_] => count_varied(intervals),
         _ => 0,
@@ -303,7 +330,10 @@ fn varied_at(places: &[u32], intervals: &[Interval<'_>]) -> usize {
 }
 
 /// The number of closed bytes.
-pub(crate) fn count_closed(intervals: &[Interval<'_>]) -> usize {
+pub(crate) fn count_closed(intervals: &[Interval<'_>]) -> usize
+    requires { All IsWhole intervals.now }
+    ensures { result ≡ min (length (flat_map closed_in intervals.now)) (2 ^ 64 - 1) }
+{
     let mut closed: usize = 0;
     for interval in intervals {
         closed = closed.saturating_add(closed_in(*interval));
@@ -312,14 +342,29 @@ pub(crate) fn count_closed(intervals: &[Interval<'_>]) -> usize {
 }
 
 /// The offset of the first byte of data, and the offset after the last; 0 after the last if there is none.
-fn extent(intervals: &[Interval<'_>]) -> (u32, u64) {
-    let mut start = u32::MAX;
-    let mut end = 0;
-    for interval in intervals {
-        start = start.min(interval.first);
-        end = end.max(u64::from(interval.first).saturating_add(interval.values.len() as u64));
+fn extent(intervals: &[Interval<'_>]) -> (u32, u64)
+    requires { All IsWhole intervals.now }
+    ensures { (byte : ℕ → Option PatternByte) → AreIntervals byte intervals.now → IsExtent byte result.0 result.1 }
+{
+    match (intervals.first(), intervals.last()) {
+        (Some(first), Some(last)) => (
+            first.first,
+            u64::from(last.first) + last.values.len() as u64,
+        ),
+        _ => (u32::MAX, 0),
     }
-    (start, end)
+}
+
+/// Whether none of a module's segments is nowhere in the program.
+pub(crate) fn is_whole(shapes: &[Shape]) -> bool
+    ensures { result ≡ is_whole shapes.now }
+{
+    for shape in shapes {
+        if shape.is_nowhere() {
+            return false;
+        }
+    }
+    true
 }
 
 /// Appends a place. The first one takes memory for all that there may be.
@@ -525,7 +570,9 @@ pub(crate) fn shapes_of(
 
 impl Shape {
     /// Whether it has data.
-    pub(crate) fn has_data(&self) -> bool {
+    pub(crate) fn has_data(&self) -> bool
+        ensures { result ≡ nat_lt 0 self.now.end }
+    {
         self.end > 0
     }
 
@@ -537,7 +584,10 @@ impl Shape {
     }
 
     /// Its only place; `None` if it has none, or may have more.
-    pub(crate) fn single_place(&self) -> Option<u32> {
+    pub(crate) fn single_place(&self) -> Option<u32>
+        ensures some { IfSome result (λ a. (self.now.places.items ≡ a ∷ []) × (self.now.more ≡ false)) }
+        ensures none { result ≡ None → self.now.more ≡ false → length self.now.places.items ≡ 1 → ⊥ }
+    {
         match (self.places.as_slice(), self.more) {
             ([address], false) => Some(*address),
             _ => None,
@@ -545,10 +595,12 @@ impl Shape {
     }
 
     /// The addresses of its data, where it is at this address: of the first byte, and the one after the last.
-    pub(crate) fn extent(&self, address: u32) -> (u64, u64) {
+    pub(crate) fn extent(&self, address: u32) -> (u64, u64)
+        ensures { result ≡ (address + self.now.first, min (address + self.now.end) (2 ^ 64 - 1)) }
+    {
         let address = u64::from(address);
         (
-            address.saturating_add(u64::from(self.first)),
+            address + u64::from(self.first),
             address.saturating_add(self.end),
         )
     }

@@ -12,10 +12,6 @@ use Rattle.omf_finding.specs.declared.findings.Found.{Found}
 use Rattle.omf_finding.specs.declared.patterning.PatternByte.{PatternByte}
 use Rattle.omf_finding.specs.declared.program.Program.{Program}
 
--- A segment has at least n closed bytes.
-abbrev pub HasClosed : (ℕ → Option PatternByte) → ℕ → Type 0
-HasClosed byte n = (bytes : List ClosedByte) × AreClosed byte bytes × (n ≤ length bytes)
-
 -- The name of an external that is not local, of which something shows where it is.
 pub record IsKnown (m : List Rec) (f : Found) (external : ℕ) (name : List ℕ) : Type 0 where
   pub name_is : entry (externals m) external ≡ Some name

@@ -13,6 +13,7 @@ use Rattle.omf_check.specs.Tables.{entry}
 use Rattle.omf_placement.specs.declared.frame.Placed.{Placed}
 use Rattle.omf_finding.specs.Chain.{Draft, IsStart, RefersTo, draft_at, present_at}
 use Rattle.omf_finding.specs.Inner.Chaining.{IsKnown, RefersAt, found_by, has_joined, kept}
+use Rattle.omf_finding.specs.Inner.Surely.{IsUnsure}
 use Rattle.omf_finding.specs.declared.chaining.Tried.{Tried}
 use Rattle.omf_finding.specs.declared.findings.Found.{Found}
 use Rattle.omf_finding.specs.declared.program.Program.{Program}
@@ -107,9 +108,10 @@ unreferenced_by drafts marks i = kept (draft_at drafts i) (not (has_joined marks
 abbrev pub left_of : List Bool → ℕ
 left_of marks = length (filter not marks)
 
--- Nothing is due of the module with this number: it has joined, or has no draft, or its draft is not at the program's start, and no name of a set is its own.
+-- Nothing is due of the module with this number: it has joined, or has no draft, or its draft is not at the program's start, no name of a set is its own, and it is
+-- not sure by its bytes.
 abbrev pub IsIdle : Tried → List Bool → Spots → ℕ → Type 0
-IsIdle t marks s j = (m : Module) (g : Found) → slice_get t.modules.now j ≡ Some m → draft_at t.drafts.now j ≡ Some g → has_joined marks j ≡ false → (IsStart t.program.now m g → ⊥) × (is_asked s g (recs_of m.bytes) ≡ false)
+IsIdle t marks s j = (m : Module) (g : Found) → slice_get t.modules.now j ≡ Some m → draft_at t.drafts.now j ≡ Some g → has_joined marks j ≡ false → (IsStart t.program.now m g → ⊥) × (is_asked s g (recs_of m.bytes) ≡ false) × IsUnsure t j m g
 
 -- Those that have joined are all: no other one is at the program's start, and none refers to another one.
 pub record AreAllJoined (program : Program) (ms : List Module) (drafts : List Draft) (marks : List Bool) : Type 0 where

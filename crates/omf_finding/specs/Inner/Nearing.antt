@@ -12,20 +12,6 @@ use Rattle.omf_finding.specs.declared.patterning.Interval.{Interval}
 use Rattle.omf_finding.specs.declared.patterning.PatternByte.{PatternByte}
 use Rattle.omf_finding.specs.declared.program.Program.{Program}
 
--- ---- closed bytes
-
-abbrev pub closed_with : ℕ → Option ℕ → Option ℕ → Option ClosedByte
-closed_with offset (Some value) (Some mark) = if mark == 1 then None else Some (record { offset = offset; value = value })
-closed_with offset _ _ = None
-
--- The closed byte at an index of an interval.
-abbrev pub closed_at : Interval → ℕ → Option ClosedByte
-closed_at i at = closed_with (i.first + at) (slice_get i.values.now at) (slice_get i.marks.now at)
-
--- The closed bytes of an interval.
-abbrev pub closed_in : Interval → List ClosedByte
-closed_in i = filter_map (closed_at i) (range_with_len 0 (length i.values.now))
-
 -- ---- counts
 
 abbrev pub few_differences : ℕ → ℕ → Option ℕ

@@ -14,6 +14,7 @@ use Rattle.omf_finding.specs.Pattern.{pattern}
 use Rattle.omf_finding.specs.Finding.{IsAt, IsCandidate, IsCut, IsInside, IsSought}
 use Rattle.omf_finding.specs.declared.findings.Candidate.{Candidate}
 use Rattle.omf_finding.specs.declared.program.Program.{Program}
+use Rattle.omf_finding.specs.Inner.Measuring.{IsMeasured}
 use Rattle.omf_finding.specs.Inner.Walking.{Marks, byte_in, byte_with}
 use Rattle.omf_finding.specs.declared.patterning.Interval.{Interval}
 use Rattle.omf_finding.specs.declared.patterning.PatternByte.{PatternByte}
@@ -190,13 +191,16 @@ pub record ArePlaces (byte : ℕ → Option PatternByte) (program : List ℕ) (b
 pub record IsShape (byte : ℕ → Option PatternByte) (program : List ℕ) (base most : ℕ) (s : Shape) : Type 0 where
   pub places : ArePlaces byte program base s.places.items s.more
   pub sought : HasFour byte → s.is_searched ≡ true
+  pub found : s.is_searched ≡ true → HasFour byte
   pub others : s.is_searched ≡ false → s.more ≡ true
   pub cut : s.is_searched ≡ true → s.more ≡ true → IsCut byte program base most s.places.items
+  pub measured : IsMeasured byte s
 
 -- The shapes of the segments of a module: each of the first n segments has one.
 pub record AreShapes (byte : ℕ → ℕ → Option PatternByte) (program : List ℕ) (base most n : ℕ) (ss : List Shape) : Type 0 where
   pub each : (s : Shape) → Contains ss s → IsShape (byte s.segment) program base most s
   pub every : (segment : ℕ) → 1 ≤ segment → segment ≤ n → (s : Shape) × Contains ss s × (s.segment ≡ segment)
+  pub numbered : (k : ℕ) (s : Shape) → slice_get ss k ≡ Some s → s.segment ≡ k + 1
 
 -- The bytes of a segment of a module, as its pattern has them.
 abbrev pub bytes_of : Module → ℕ → ℕ → Option PatternByte

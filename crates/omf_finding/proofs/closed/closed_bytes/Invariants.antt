@@ -1,6 +1,6 @@
 use Rattle.std.proofs.Common.{◌≡◌, take}
 use Rattle.std.specs.Prelude.{flat_map}
-use Rattle.omf_finding.specs.Inner.Nearing.{closed_in}
+use Rattle.omf_finding.specs.Inner.Measuring.{closed_in}
 use Rattle.omf_finding.proofs.closed.closed_bytes.Given as goal
 
 -- the closed bytes of the intervals so far

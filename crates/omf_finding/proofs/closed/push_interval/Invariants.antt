@@ -1,7 +1,7 @@
 use Rattle.std.proofs.Common.{◌≡◌, ◌++◌}
 use Rattle.std.specs.Prelude.{filter_map}
 use Rattle.std.specs.List.{range_with_len}
-use Rattle.omf_finding.specs.Inner.Nearing.{closed_at}
+use Rattle.omf_finding.specs.Inner.Measuring.{closed_at}
 use Rattle.omf_finding.proofs.closed.push_interval.Given as goal
 
 -- the closed bytes so far

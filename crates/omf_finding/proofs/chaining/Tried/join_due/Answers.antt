@@ -3,8 +3,8 @@ use Rattle.omf_finding.proofs.ChainLaws.{held-at}
 use Rattle.omf_finding.proofs.CloseLaws.{asks-grow, fewer, joined-due}
 use Rattle.omf_finding.proofs.chaining.Tried.join_due.Goals as goal
 
-pub is_due-requires : goal.is_due-requires
-is_due-requires c =
+pub is_due-requires-clause-held : goal.is_due-requires-clause-held
+is_due-requires-clause-held c =
     let t = c.args.self in
     (held-at t.program.now t.modules.now t.drafts.now c.args.number c.in-Some.«module».now c.in-Some.found.now c.requires.drafts c.in-Some.ensures.some.0 c.in-Some.ensures.some.1).found.reaches
 

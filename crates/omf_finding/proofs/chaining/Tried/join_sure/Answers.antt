@@ -25,7 +25,7 @@ returns-in_ok-join c =
     let marks = c.args.joined.now.marks.items in
     let low : c.args.number < length marks = search rules in
     let there = c.in-Some.ensures.some in (
-      joined-sure t.program.now t.least t.modules.now t.drafts.now marks c.join.new.self.marks.items c.args.number c.in-Some.«module».now c.in-Some.found.now c.in_ok-join.ensures low there.0 there.1 (c.in_ok-is_sure.ensures c.if-is_sure.true)
+      joined-sure t.program.now t.least t.modules.now t.drafts.now marks c.join.new.self.marks.items c.args.number c.in-Some.«module».now c.in-Some.found.now c.in_ok-join.ensures low there.0 there.1 (c.is_sure.ensures.some c.if-is_sure.true)
           c.requires.joined.0,
       as-long marks c.join.new.self.marks.items c.args.number c.in_ok-join.ensures ∙ c.requires.joined.1,
     )
