@@ -222,7 +222,6 @@ module _ (byte : ℕ → Option PatternByte) (is : List Interval) (are : AreInte
         by (suc x) e =
             let z : i.first + 0 ≡ suc x = omega (arith, e) in
             ap (closed_before byte) z ∙ none-closed (byte x) (before-none x (omega (arith, e)))
-
     before-is (suc at) low =
         let z : i.first + suc at ≡ suc (i.first + at) = omega arith in
         let v = at-index i.values.now at (omega (arith, low)) in

@@ -8,3 +8,4 @@ pub mod Closing
 pub mod Measuring
 pub mod Singling
 pub mod Surely
+pub mod Fixing

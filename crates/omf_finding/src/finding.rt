@@ -173,7 +173,8 @@ impl<'a> Search<'a> {
             if let (Some(address), Some(number)) = (
                 shape.single_place(),
                 self.number_of(module, shape.segment),
-            ) && singles.is_alone(module, shape.segment)
+            )
+                && singles.is_alone(module, shape.segment)
             {
                 self.place(number, address)?;
             }

@@ -1,5 +1,8 @@
 //! The fixups of a module, each with the bytes that its data have at its location.
 
+ghost use Rattle.std.specs.Prelude.{◌≡◌, IfSome, None, Some, drop, if◌then◌else◌, unwrap_or};
+ghost use Rattle.omf_finding.specs.Inner.Fixing.{IsAdded, IsAddedThere, IsDistance, IsOwn, after, has_selector, little_number, location_at, modulus, offset_size};
+
 use crate::program::{Program, little_number};
 use omf_check::{Checked, Data, Undecoded};
 use omf_frame::Index;
@@ -28,7 +31,9 @@ pub(crate) struct Fix {
 }
 
 /// The size of the part of a location that is no selector, in bytes.
-fn offset_size(kind: LocationType) -> u8 {
+fn offset_size(kind: LocationType) -> u8
+    ensures { result ≡ offset_size kind }
+{
     match kind {
         LocationType::LowByte | LocationType::HighByte => 1,
         LocationType::Offset16 | LocationType::LoaderOffset16 | LocationType::Pointer16 => 2,
@@ -38,7 +43,9 @@ fn offset_size(kind: LocationType) -> u8 {
 }
 
 /// Whether a location has a selector.
-fn has_selector(kind: LocationType) -> bool {
+fn has_selector(kind: LocationType) -> bool
+    ensures { result ≡ has_selector kind }
+{
     match kind {
         LocationType::Base | LocationType::Pointer16 | LocationType::Pointer32 => true,
         LocationType::LowByte
@@ -51,33 +58,51 @@ fn has_selector(kind: LocationType) -> bool {
 }
 
 /// The difference of two numbers, modulo 2 to the power of 8 times a size.
-fn wrapped(one: u32, other: u32, size: u8) -> u32 {
+fn wrapped(one: u32, other: u32, size: u8) -> u32
+    ensures { IsAdded (modulus size) other result one }
+{
     let difference = one.wrapping_sub(other);
     match size {
-        1 => difference & 0xFF,
-        2 => difference & 0xFFFF,
+        1 => difference % 0x100,
+        2 => difference % 0x1_0000,
         _ => difference,
+    }
+}
+
+/// The bytes past the first n.
+#[tactic(auto, using(std::proofs::lemmas::List::drop_min))]
+fn past(bytes: &[u8], n: usize) -> &[u8]
+    ensures { result.now ≡ drop n bytes.now }
+{
+    bytes.split_at(n.min(bytes.len())).1
+}
+
+/// The little-endian number of 16 bits at the front; 0 if there are fewer.
+fn word(bytes: &[u8]) -> u16
+    ensures { result ≡ unwrap_or (little_number 2 bytes.now) 0 }
+{
+    match bytes {
+        [a, b, ..] => u16::from_le_bytes([*a, *b]),
+        _ => 0,
     }
 }
 
 impl Fix {
     /// A fixup in data of this segment, which begin at an offset.
-    fn of(fixup: &PlainFixup, segment: u16, offset: u32, data: &[u8]) -> Fix {
+    fn of(fixup: &PlainFixup, segment: u16, offset: u32, data: &[u8]) -> Fix
+        ensures { IsOwn fixup.now data.now result }
+    {
         let kind = fixup.location.location_type();
         let size = offset_size(kind);
-        let start = usize::from(fixup.location.offset());
-        let own = data.get(start..).unwrap_or(&[]);
-        let high = own.get(usize::from(size)..).unwrap_or(&[]);
+        let own = past(data, usize::from(fixup.location.offset()));
+        let high = past(own, usize::from(size));
         Fix {
             segment,
             location: offset.wrapping_add(u32::from(fixup.location.offset())),
             kind,
             is_segment_relative: fixup.location.is_segment_relative(),
             own: little_number(own, size).unwrap_or(0),
-            own_selector: match high {
-                [a, b, ..] => u16::from_le_bytes([*a, *b]),
-                _ => 0,
-            },
+            own_selector: word(high),
             frame: fixup.reference.frame,
             target: fixup.reference.target,
             displacement: fixup.reference.displacement,
@@ -95,7 +120,9 @@ impl Fix {
     }
 
     /// The address of the selector at its location, where its segment is at this address; `None` if the location has none.
-    pub(crate) fn selector_address(&self, segment: u32) -> Option<u32> {
+    pub(crate) fn selector_address(&self, segment: u32) -> Option<u32>
+        ensures { result ≡ (if has_selector self.now.kind then Some (after self.now segment) else None) }
+    {
         if has_selector(self.kind) {
             Some(self.after(segment))
         } else {
@@ -105,7 +132,9 @@ impl Fix {
 
     /// What it adds to the selector at its location, where its segment is at this address; `None` if the location has none, or one that the
     /// loader does not change.
-    pub(crate) fn selector(&self, program: &Program, segment: u32) -> Option<u16> {
+    pub(crate) fn selector(&self, program: &Program, segment: u32) -> Option<u16>
+        ensures { IfSome result (λ v. IsAddedThere program.now 2 (after self.now segment) self.now.own_selector v) }
+    {
         let at = self.selector_address(segment)?;
         if !program.may_change(at) {
             return None;
@@ -114,7 +143,9 @@ impl Fix {
     }
 
     /// What it adds to the offset at its location, where its segment is at this address; `None` if the location has none, or only a half.
-    pub(crate) fn offset(&self, program: &Program, segment: u32) -> Option<u32> {
+    pub(crate) fn offset(&self, program: &Program, segment: u32) -> Option<u32>
+        ensures { IfSome result (λ v. IsAddedThere program.now (offset_size self.now.kind) (location_at self.now segment) self.now.own v) }
+    {
         let size = offset_size(self.kind);
         if size == 0 || (size == 1 && self.is_segment_relative) {
             return None;
@@ -125,7 +156,9 @@ impl Fix {
 
     /// What it adds to a self-relative distance at its location, as a signed number of 32 bits, and the number of bytes of that; where its
     /// segment is at this address.
-    pub(crate) fn distance(&self, program: &Program, segment: u32) -> Option<(u32, u8)> {
+    pub(crate) fn distance(&self, program: &Program, segment: u32) -> Option<(u32, u8)>
+        ensures { IfSome result (λ v. (v.1 ≡ offset_size self.now.kind) × IsDistance program.now v.1 (location_at self.now segment) self.now.own v.0) }
+    {
         let size = offset_size(self.kind);
         let at = segment.wrapping_add(self.location);
         let distance = wrapped(program.number(at, size)?, self.own, size);
@@ -136,7 +169,9 @@ impl Fix {
     }
 
     /// The address after its location, where its segment is at this address.
-    pub(crate) fn after(&self, segment: u32) -> u32 {
+    pub(crate) fn after(&self, segment: u32) -> u32
+        ensures { result ≡ after self.now segment }
+    {
         segment
             .wrapping_add(self.location)
             .wrapping_add(u32::from(offset_size(self.kind)))

@@ -2,6 +2,7 @@
 
 ghost use Rattle.std.specs.Prelude.{◌≡◌};
 ghost use Rattle.omf_finding.specs.Found.{program_byte};
+ghost use Rattle.omf_finding.specs.Inner.Fixing.{little_number, number_at};
 ghost use Rattle.omf_finding.specs.Inner.Shaping.{bytes_from};
 
 use std::alloc::AllocError;
@@ -40,7 +41,9 @@ impl Program {
     }
 
     /// The bytes from an address on; none if it is outside.
-    pub(crate) fn bytes_at(&self, address: u32) -> &[u8] {
+    pub(crate) fn bytes_at(&self, address: u32) -> &[u8]
+        ensures { result.now ≡ bytes_from self.now.bytes.items self.now.base address }
+    {
         self.bytes_from(u64::from(address))
     }
 
@@ -52,7 +55,9 @@ impl Program {
     }
 
     /// The little-endian number of 16 bits at an address.
-    pub(crate) fn word(&self, address: u32) -> Option<u16> {
+    pub(crate) fn word(&self, address: u32) -> Option<u16>
+        ensures { result ≡ number_at self.now 2 address }
+    {
         match self.bytes_at(address) {
             [low, high, ..] => Some(u16::from_le_bytes([*low, *high])),
             _ => None,
@@ -60,7 +65,9 @@ impl Program {
     }
 
     /// The little-endian number of 8, 16 or 32 bits at an address, of this many bytes.
-    pub(crate) fn number(&self, address: u32, size: u8) -> Option<u32> {
+    pub(crate) fn number(&self, address: u32, size: u8) -> Option<u32>
+        ensures { result ≡ number_at self.now size address }
+    {
         little_number(self.bytes_at(address), size)
     }
 
@@ -95,7 +102,9 @@ impl Program {
 }
 
 /// The little-endian number of 1, 2 or 4 bytes at the front; of any other size, 4.
-pub(crate) fn little_number(bytes: &[u8], size: u8) -> Option<u32> {
+pub(crate) fn little_number(bytes: &[u8], size: u8) -> Option<u32>
+    ensures { result ≡ little_number size bytes.now }
+{
     match (size, bytes) {
         (1, [a, ..]) => Some(u32::from(*a)),
         (2, [a, b, ..]) => Some(u32::from(u16::from_le_bytes([*a, *b]))),
