@@ -64,7 +64,7 @@ after f segment = (location_at f segment + offset_size f.kind) % 2 ^ 32
 abbrev pub modulus : ℕ → ℕ
 modulus size = if size == 1 then 2 ^ 8 else if size == 2 then 2 ^ 16 else 2 ^ 32
 
--- A value, added to what stands at a location, gives what is there.
+-- A value, added to what the data have at a location, gives what the program has there.
 pub record IsAdded (m own value there : ℕ) : Type 0 where
   pub below : value < m
   pub sum : (value + own) % m ≡ there % m
