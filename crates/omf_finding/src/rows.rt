@@ -7,7 +7,8 @@ ghost use Rattle.omf_reloc.specs.Modules.{overlaid, overlapping, with_blocks, wi
 ghost use Rattle.omf_reloc.specs.Rows.{low};
 ghost use Rattle.omf_finding.specs.Found.{program_byte, byte_there};
 ghost use Rattle.omf_finding.specs.Places.{places};
-ghost use Rattle.omf_finding.specs.Rows.{closed, opened, pattern_row};
+ghost use Rattle.omf_finding.specs.Rows.{byte_of, closed, closed_byte_at, opened, pattern_row};
+ghost use Rattle.omf_finding.specs.Sure.{varied};
 
 /// B8 00 00 90 with a fixup of an offset at 1: its two bytes are open. No data record covers offset 4.
 pub fn first_pattern()
@@ -27,6 +28,12 @@ pub fn locations_overlap()
 /// Repeated blocks, expanded: all are closed.
 pub fn blocks_are_closed()
     ensures { pattern_row with_blocks 5 ≡ closed 0xAA ∷ closed 0xAA ∷ closed 0xBB ∷ closed 0xCC ∷ closed 0xAA ∷ [] }
+{}
+
+/// Of a row of zeros the first byte counts; of other bytes each that is not the same as a closed one before it.
+pub fn bytes_that_vary()
+    ensures zeros { varied (byte_of (closed 0 ∷ closed 0 ∷ closed 0 ∷ [])) (closed_byte_at 0 0 ∷ closed_byte_at 1 0 ∷ closed_byte_at 2 0 ∷ []) ≡ 1 }
+    ensures some { varied (byte_of (closed 7 ∷ closed 7 ∷ closed 8 ∷ opened 8 ∷ closed 8 ∷ [])) (closed_byte_at 0 7 ∷ closed_byte_at 1 7 ∷ closed_byte_at 2 8 ∷ closed_byte_at 4 8 ∷ []) ≡ 3 }
 {}
 
 /// The first module's pattern is where its closed bytes are; a place past the last byte is none.
