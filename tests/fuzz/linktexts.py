@@ -8,6 +8,18 @@ from texts import TURNS, as_read, changed_text, first_bad, is_linked, respelled
 
 FAULT = re.compile(rb"(?:text: line .*\n  |(?:file|module|two starts|no room|memory)\b).*\n")
 MOST = 1 << 16
+# Lines of every form, to put among others.
+FORMS = b"""C "CODE" 7C00 real
+C "DATA" after 0 0 at after
+P "_TEXT" 0x500 500H 50
+P "_DATA" "DATA" after real at F0000
+F "DGROUP" 7C00 7C0
+S #1 10 shared at 20
+S "_TEXT" "CODE" 10 10 1 at 0FFFF0h
+G #1 real
+G "DGROUP" shared
+X "f" 10 real
+M #1""".split(b"\n")
 
 
 def of_hex(text):
@@ -81,11 +93,11 @@ class LinkText:
         self.accepted += answer[0] == 0
         if all(map(is_simple, inputs)):
             self.compare(inputs, draft, answer)
-        promised(self.task("image", names, folder, respelled(random_, draft)) == answer, "another spelling has another image")
+        promised(self.task("image", names, folder, respelled(random_, draft, True)) == answer, "another spelling has another image")
         if answer[0] == 0:
             self.look_at_files(names, folder, draft, answer[1])
         for _ in range(TURNS):
-            self.try_text(names, folder, changed_text(random_, draft, self.texts))
+            self.try_text(names, folder, changed_text(random_, draft, [*self.texts, *FORMS]))
 
     def compare(self, inputs, draft, answer):
         """The image is that of the modules, each relocated alone; or the first that does not reach is reported, or the names without one public."""

@@ -2,15 +2,16 @@
 import re
 
 import executables
+import libraries
 from changes import change_bytes
 from promises import promised, program, run
 
-NUMBER, SELECTOR = rb"[0-9A-Fa-f]{1,8}", rb"[0-9A-Fa-f]{1,4}"
-PLACE = re.compile(rb"(?:%b %b|0{0,3}[0-9A-Fa-f]{1,5} real)" % (NUMBER + b" " + NUMBER, SELECTOR))
-FRAME = re.compile(rb"(?:%b %b|real)" % (NUMBER, SELECTOR))
-SHARED = {b"S": re.compile(rb"%b shared" % NUMBER), b"G": re.compile(rb"shared")}
+PLACE = re.compile(rb"(?:[0-9A-Fa-f]{1,8} [0-9A-Fa-f]{1,8} [0-9A-Fa-f]{1,4}|0{0,3}[0-9A-Fa-f]{1,5} real)")
+FRAME = re.compile(rb"(?:[0-9A-Fa-f]{1,8} [0-9A-Fa-f]{1,4}|real)")
 KEY = re.compile(rb'(?: *"[ !#-~]*"(?: *"[ !#-~]*")? *| #([0-9]{1,10})(?: |$))')
 TURNS = 6
+# What takes the place of a word of a line.
+WORDS = b"real shared at after 0 FFFFFFFF 100000000 FFFFF 100000 #1 #0 #4294967296 10 7c00 0x7C00 7C00H 0FFFFh".split() + b'" S X C P F'.split()
 
 
 def said(line):
@@ -32,24 +33,63 @@ def without_comment(line):
     return found[0].strip(b" ") if found else None
 
 
+def number(word, most=8):
+    """The value of a hexadecimal number of a link text, marked (0x7C00, 7C00H) or not; None where it is none."""
+    found = re.fullmatch(rb"(?:0[xX])?([0-9A-Fa-f]{1,%d})|0?([0-9A-Fa-f]{1,%d})[hH]" % (most, most), word)
+    return int(found[1] or found[2], 16) if found else None
+
+
+def is_frame(words):
+    """A base and a selector."""
+    return len(words) == 2 and number(words[0]) is not None and number(words[1], 4) is not None
+
+
+def is_place(words):
+    """An address and a frame, or an address of real mode."""
+    at = number(words[0]) if len(words) in (2, 3) else None
+    return at is not None and (is_frame(words[1:]) or (words[1:] == [b"real"] and at < 1 << 20))
+
+
+def is_where(word):
+    return word == b"after" or number(word) is not None
+
+
+def is_laid(words):
+    """Where segments of all modules begin, and their frame; and perhaps where they are stored."""
+    if len(words) > 2 and words[-2] == b"at" and is_where(words[-1]):
+        words = words[:-2]
+    return len(words) in (2, 3) and is_where(words[0]) and (words[1:] == [b"real"] or is_frame(words[1:]))
+
+
+def is_segment(words):
+    """The place of a segment, or an address in a frame that it shares; and perhaps the address at which it is stored."""
+    if len(words) > 2 and words[-2] == b"at" and number(words[-1]) is not None:
+        words = words[:-2]
+    return is_place(words) or (words[1:] == [b"shared"] and number(words[0]) is not None)
+
+
+# What the words after a key are, by the letter of the line. The last three are for all modules, and have names for a key.
+MEANT = {b"M": lambda words: not words, b"S": is_segment, b"G": lambda words: words in ([b"real"], [b"shared"]) or is_frame(words), b"X": is_place,
+         b"C": is_laid, b"P": is_laid, b"F": is_frame}
+MOST_NAMES = {b"C": 1, b"F": 1}
+
+
 def is_linked(line):
     """A line of a link text."""
     text = without_comment(line)
     if text is None or text == b"":
         return text == b""
-    key = KEY.match(text, 1)
-    if text[:1] not in (b"M", b"S", b"G", b"X") or not key or (key[1] and int(key[1]) >= 2 ** 32):
+    letter, key = text[:1], KEY.match(text, 1)
+    if letter not in MEANT or not key or (key[1] and (letter in b"CPF" or int(key[1]) >= 2 ** 32)) or key[0].count(b'"') > 2 * MOST_NAMES.get(letter, 2):
         return False
-    rest, shared = text[key.end():], SHARED.get(text[:1])
-    if shared and shared.fullmatch(rest):
-        return True
-    return rest == b"" if text[:1] == b"M" else bool((FRAME if text[:1] == b"G" else PLACE).fullmatch(rest))
+    rest = text[key.end():]
+    return MEANT[letter](rest.split(b" ") if rest else [])
 
 
 def as_read(text):
-    """A link text with spaces for the tabs outside of names, and without a byte-order mark."""
+    """A link text with one space for the spaces and tabs in a row outside of names, and without a byte-order mark."""
     parts = re.split(rb'("[^"\n]*"?|;[^\n]*)', text.removeprefix(b"\xEF\xBB\xBF"))
-    return b"".join(part if part[:1] == b'"' else part.replace(b"\t", b" ") for part in parts)
+    return b"".join(part if part[:1] in (b'"', b";") else re.sub(rb"[ \t]+", b" ", part) for part in parts)
 
 
 def first_bad(text, is_line):
@@ -57,7 +97,13 @@ def first_bad(text, is_line):
     return next((number for number, line in enumerate(text.split(b"\n"), 1) if not is_line(line)), None)
 
 
-def respelled(random_, text):
+def spelled(random_, digits, is_link):
+    """Another spelling of a hexadecimal number; those of link texts may be marked."""
+    digits = digits.lower().rjust(random_.randrange(5), b"0")
+    return random_.choice((digits, b"0x" + digits, digits + b"H", b"0" + digits + b"h")) if is_link else digits
+
+
+def respelled(random_, text, is_link=False):
     """The same entries in other spellings."""
     lines = []
     for line in text.split(b"\n"):
@@ -66,7 +112,9 @@ def respelled(random_, text):
         entry = re.match(rb'(?:[^";]*"[^"]*")*[^";]*', line)[0].rstrip(b" ")
         key, mark, numbers = entry.rpartition(b'"')
         if random_.randrange(2):
-            numbers = re.sub(rb"(?<= )[0-9A-F]{1,4}(?= |$)", lambda it: it[0].lower().rjust(random_.randrange(5), b"0"), numbers)
+            numbers = re.sub(rb"(?<= )[0-9A-F]{1,4}(?= |$)", lambda it: spelled(random_, it[0], is_link), numbers)
+        if is_link:
+            numbers = numbers.replace(b" ", random_.choice((b" ", b"  ", b"\t", b" \t  ")))
         entry = b" " * random_.randrange(3) + key + mark + numbers + b" " * random_.randrange(3)
         lines.append(entry + random_.choice((b"", b"; x", b";", b'; "a" "')) + random_.choice((b"", b"\r")))
     return b"\n".join(lines)
@@ -85,7 +133,7 @@ def changed_text(random_, text, others):
         elif kind == 2:
             lines.insert(at, random_.choice(random_.choice(others).split(b"\n")))
         elif kind == 3:
-            words[random_.randrange(len(words))] = random_.choice((b"real", b"shared", b"0", b"FFFFFFFF", b"100000000", b"FFFFF", b"100000", b"#1", b"#0", b"#4294967296", b'"', b"S", b"X", b"10", b"7c00"))
+            words[random_.randrange(len(words))] = random_.choice(WORDS)
             lines[at] = b" ".join(words)
         elif kind == 4:
             random_.shuffle(words)
@@ -115,12 +163,12 @@ class Placement:
         return run([self.place, "--base", base, *frame], module)
 
     def look(self, inputs, folder):
-        module = inputs[0]
-        status, draft = self.draft(module)
+        """The draft is of the first module, whatever follows it."""
+        status, draft = self.draft(inputs[0])
         promised(status == 0 or draft.count(b"\n") == 1, f"omf-place: status {status}, {draft[:200]}")
         if status:
             return
-        draft = draft.removesuffix(b"\n")
+        module, draft = inputs[0][:libraries.module_length(inputs[0])], draft.removesuffix(b"\n")
         self.texts = [*self.texts[-50:], draft]
         status, listing = run([self.omf, "reloc"], module + draft)
         promised(status == 0 or re.match(rb"reach [34] ", listing), f"a draft is not read back: {listing[:200]}")
