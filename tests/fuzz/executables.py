@@ -4,7 +4,7 @@ import struct
 import subprocess
 
 from libraries import record
-from modules import externals_of, publics_of, titles_of
+from modules import ends_of, externals_of, named_externals, publics_of, titles_of
 
 PARAGRAPH = 16
 COM_FRONT = 0x100
@@ -112,10 +112,27 @@ def public_place(places, group, segment, frame, offset):
     return (at + offset, *(groups[group - 1] if group else (base, selector)))
 
 
+def public_places(modules, places):
+    """The place of each public of modules, and of each alias that leads to one."""
+    found = {one[0]: public_place(there, *one[1:]) for module_, there in zip(modules, places) for one in publics_of(module_)}
+    return found | {name: found[end] for name, end in ends_of(modules).items() if end in found}
+
+
+def with_aliases(text, modules):
+    """A text whose lines are in the order of the indices, with a line for each external that an alias gives a place: `omf-link image` follows none."""
+    ends, found, made, parts = ends_of(modules), public_places(modules, places_in(text)), [], iter(modules)
+    for line in text.decode().splitlines():
+        made.append(line)
+        externals = named_externals(next(parts)) if line.startswith("M ") else ()
+        led = [(index, name) for index, (name, is_local) in enumerate(externals, 1) if not is_local and name in ends and name in found]
+        made += ["X #{} {:X} {:X} {:X}".format(index, *found[name]) for index, name in led]
+    return ("\n".join(made) + "\n").encode()
+
+
 def relocated(omf, modules, text):
     """The memory and the start of modules, each relocated alone by `omf reloc` at its places of the text; or the first line with a fault."""
     places, memory, start = places_in(with_frames(text, modules)), {}, None
-    found = {one[0]: public_place(there, *one[1:]) for module_, there in zip(modules, places) for one in publics_of(module_)}
+    found = public_places(modules, places)
     for module_, (segments, groups) in zip(modules, places):
         lines = [f"S {it[0]:X} {it[1]:X} {it[2]:X}" for it in segments] + [f"G {it[0]:X} {it[1]:X}" for it in groups]
         lines += ["E {:X} {:X} {:X}".format(*found[it]) for it in externals_of(module_)]

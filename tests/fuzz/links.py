@@ -1,13 +1,14 @@
 """omf-link exe and com: the file as DOS loads it against the modules relocated one by one, and a library against the members that it must give."""
 import os
 import re
-import struct
 import subprocess
 
 import executables
 import libraries
+from aliases import aliased
 from changes import changed_module
-from modules import TWICE, UNRESOLVED, as_library, externals_of, is_main, is_simple, members_needed, provider, repeated_lines, unresolved_lines, with_names
+from modules import TWICE, UNRESOLVED, as_library, ends_of, externals_of, has_defaults, is_main, is_simple, members_needed, pairs_of, provider
+from modules import repeated_lines, unresolved_lines, with_names
 from promises import ALLOW_ALL, TIMEOUT, program, promised, run, told_of
 
 
@@ -32,14 +33,18 @@ class Exe:
         random_ = self.random
         if random_.randrange(3) == 0:
             real = random_.choice(self.modules)
-            own = provider(externals_of(real), not is_main(real))
+            try:
+                own = provider(externals_of(real), not is_main(real))
+            except IndexError:  # an example with a record that is too short
+                own = provider([], True)
             return [changed_module(random_, [real]) if random_.randrange(4) == 0 else real, own]
         main, count = random_.randrange(4), random_.randrange(4) + 1
         made = [executables.module(random_, number, number == main % count) for number in range(count)]
         return self.changed(made)
 
     def changed(self, made):
-        """Made modules, of which one is perhaps changed; or one more, which defines the name of another."""
+        """Made modules, perhaps with aliases, of which one is perhaps changed; or one more, which defines the name of another."""
+        made = aliased(self.random, made) if self.random.randrange(4) == 0 else made
         kind, at = self.random.randrange(8), self.random.randrange(len(made))
         if kind == 0:
             made[at] = changed_module(self.random, [made[at]])
@@ -67,7 +72,7 @@ class Exe:
         status, lines = self.exe("p.exe", names, folder)
         if all(is_simple(it) and libraries.module_length(it) == len(it) for it in inputs) and (status == 0 or UNRESOLVED.fullmatch(lines)):
             places = [f'file "in{number}.obj" module 1' for number in range(len(inputs))]
-            wanted = unresolved_lines(inputs, places)
+            wanted = unresolved_lines(inputs, places, True)
             wanted = repeated_lines(inputs, places) if wanted == b"" else wanted
             promised(wanted in (None, lines if status else b""), f"{lines}, not {wanted}")
         if status == 0 or (TWICE.fullmatch(lines) and self.is_allowed(lines, names, folder)):
@@ -103,23 +108,24 @@ class Exe:
     def look_at_library(self, inputs, names, folder):
         """Some modules in a library: the members that are needed, as a second reader finds them, linked by name give the same file."""
         count = self.random.randrange(1, len(inputs))
-        (folder / "rt.lib").write_bytes(as_library(inputs[count:]))
-        try:
-            needed = members_needed(inputs[:count], inputs[count:])
-        except (struct.error, IndexError):  # a changed member with a record that is too short
-            return
-        if needed is None or any(libraries.module_length(it) != len(it) for it in inputs[count:]):
+        members, needed = inputs[count:], members_needed(inputs[:count], inputs[count:])
+        (folder / "rt.lib").write_bytes(as_library(members))
+        if needed is None or any(libraries.module_length(it) != len(it) or self.hides_aliases(it) for it in members):
             return
         status, line = self.exe("l.exe", [*names[:count], "rt.lib"], folder)
         refused = re.match(rb'file "rt.lib" module (\d+) (refused .*\n)', line)
         if refused:
-            member = inputs[count + int(refused[1]) - 1]
+            member = members[int(refused[1]) - 1]
             return promised(run([self.omf, "check"], member) == (1, refused[2]), f"{line}, of a member that omf check accepts")
         other, alone = self.exe("q.exe", [*names[:count], *(names[count + it] for it in needed)], folder)
         promised(status == other, f"with the library {line[:200]}, without it {alone[:200]}")
         same = status or (folder / "l.exe").read_bytes() == (folder / "q.exe").read_bytes()
         promised(same, f"members {needed}: other files")
         self.compared += 1
+
+    def hides_aliases(self, member):
+        """Whether a member has aliases and is refused: then only its publics count, and not all that the reader finds."""
+        return any(pairs_of(member)) and run([self.omf, "check"], member)[0] != 0
 
     def look_at_case(self, inputs, folder):
         """With --ignore-case, modules whose names have any case are linked as those are that have these names in lower case."""
@@ -139,12 +145,15 @@ class Exe:
         """The file at some paragraphs, and the memory of the modules there."""
         status, text = run([self.link, "draft", "--base", "0", "--real", *names], folder=folder)
         promised(status == 0, f"draft: {text[:200]}")
+        if any(map(has_defaults, inputs)) and ends_of(inputs):
+            return
         text = executables.with_frames(text, inputs)
         for paragraph in (0, *(self.random.randrange(1, 0x8000) for _ in range(2))):
             image, start, _ = self.LOADED(file, paragraph)
-            (folder / "text").write_bytes(executables.moved(text, paragraph))
+            there = executables.moved(text, paragraph)
+            (folder / "text").write_bytes(executables.with_aliases(there, inputs))
             if self.random.randrange(2) and all(map(is_simple, inputs)):
-                memory, own = executables.relocated(self.omf, inputs, executables.moved(text, paragraph))
+                memory, own = executables.relocated(self.omf, inputs, there)
             else:
                 status, lines = run([self.link, "image", *ALLOW_ALL, "-t", "text", *names], folder=folder)
                 promised(status == 0, f"image at {paragraph}: {lines[:200]}")
