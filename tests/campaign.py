@@ -41,7 +41,7 @@ HEAD = "| Program | Built | Date | Commit | Tries | Of these | Differ |\n|---|--
 DIFFERENCE = re.compile(r"^(?:seed \d+: .*|line \d+: .*|failed: .*|FAILED.*|.*: not so\b.*|.*: (?:ERROR|SUMMARY): .*)$", re.M)
 SEEDS = re.compile(r"^seeds \d+ to (\d+)$", re.M)
 # The programs of each target of tests/fuzz/programs.py.
-CHANGED = {"dump": "OMF_DUMP OMF", "library": "OMF_LIB OMF", "exe": "OMF_LINK OMF", "com": "OMF_LINK OMF", "placement": "OMF_PLACE OMF", "linktext": "OMF_LINK OMF", "find": "OMF_FIND OMF_LINK"}
+CHANGED = {"dump": "OMF_DUMP OMF", "library": "OMF_LIB OMF", "exe": "OMF_LINK OMF", "com": "OMF_LINK OMF", "placement": "OMF_PLACE OMF", "linktext": "OMF_LINK OMF", "find": "OMF_FIND OMF_LINK", "lower": "OMF_LINK OMF"}
 GUIDED = ("check", "canon", "reloc", "members", "link", "program", "shown")
 # A target: its programs, its tools (as in release.py), its command, in which a slice puts its own SEED and SECONDS, what a try looks like, whether it
 # has no seeds, and the variables of its environment.

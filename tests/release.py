@@ -92,7 +92,7 @@ def examples():
 
 def fuzz():
     script, seconds = "tests/fuzz/run.sh", f"{60 * MINUTES:.0f}"
-    for target in ("dump", "library", "exe", "com", "placement", "linktext", "find"):
+    for target in ("dump", "library", "exe", "com", "placement", "linktext", "find", "lower"):
         yield Stage(f"fuzz {target}", [script, seconds, target], " ".join(PROGRAMS), "", 120 * MINUTES + 600, r": (\d+) inputs", {"WORK": str(BROKEN)})
     for target in ("check", "canon", "reloc", "members", "link", "program", "shown"):
         units = r"number_of_executed_units: *(\d+)"
@@ -127,7 +127,7 @@ def stages():
     pages = ["README.md", *sorted(str(it.relative_to(ROOT)) for it in (ROOT / "docs").glob("*.md"))]
     yield Stage("shown commands", ["tests/shown.sh", *pages], " ".join([*PROGRAMS, "LIBOMF"]), "", 1800, r"^(\d+) commands, \d+ failed, (\d+) left out")
     yield from fuzz()
-    seeded = ["dump", "library", "exe", "com", "placement", "linktext", "find", "executed", "names", "found", "modules", "conformance"]
+    seeded = ["dump", "library", "exe", "com", "placement", "linktext", "find", "lower", "executed", "names", "found", "modules", "conformance"]
     yield Stage("campaign", ["tests/campaign.py", "--hours", f"{MINUTES / 60:.3f}", "--target", *seeded], " ".join(PROGRAMS), "", 120 * MINUTES + 3600, r"^(\d+) tries")
 
 

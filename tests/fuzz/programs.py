@@ -1,7 +1,7 @@
 #!/usr/bin/env python3
 """Runs the programs on changed files and texts, and compares what they print with one another and with a second reading of the standard.
 
-usage: tests/fuzz/programs.py SECONDS [dump|library|exe|com|placement|linktext|find ..] [--seeds FOLDER] [--number N] [--keep FOLDER] [--every N]
+usage: tests/fuzz/programs.py SECONDS [dump|library|exe|com|placement|linktext|find|lower ..] [--seeds FOLDER] [--number N] [--keep FOLDER] [--every N]
                               [--smaller SECONDS] [--again FILE ..]
 
 dump       changed modules: omf-dump refuses exactly what `omf check` refuses, at the same place and for the same reason, and shows the records
@@ -11,13 +11,15 @@ library    changed libraries: omf-lib finds the members that tests/fuzz/librarie
 exe        modules, made at random or real, some changed: what `omf-link exe` writes, loaded by tests/fuzz/executables.py at several paragraphs, has
            the bytes and the start of these modules, linked or each relocated alone, at addresses so much higher; with some of them in a library
            the file is that of the members that are needed; of a fault there is one line, or one for each name, and no file; names that more than one
-           module defines are those that a second reader finds, and with --allow twice they are lines on standard error
+           module defines are those that a second reader finds, and with --allow twice they are lines on standard error; it follows aliases too
 com        the same for `omf-link com`
 placement  placement texts: a draft of omf-place is read back, another spelling of it has the same listing, and of a changed text the first line
            that a second reader does not understand is reported
 linktext   the same of link texts; the image is that of the modules, each relocated alone; HEX, S-records and raw binary have its bytes
 find       programs that omf-link makes of made modules: each segment that omf-find finds has the bytes that no fixup touches; changed programs and
            modules are read or refused, and each line is JSON
+lower      modules with CEXTDEFs and BAKPATs, some changed: `omf-link lower` writes the bytes that the reader of tests/fuzz/wide.py gives, or has
+           the line of the fault that it finds; a module that `omf check` accepts stays as it is
 
 The seeds are examples/, the data of the crates, libraries made of these modules, and the files of FOLDER that have less than 5 KB. --number begins
 the random numbers, so that a run can be repeated. An input that breaks a promise is kept in the folder of --keep, or in that which is printed, with
@@ -41,12 +43,13 @@ from dumps import Dump
 from finding import Find
 from links import Com, Exe
 from linktexts import LinkText
+from lowering import Lower
 from promises import ROOT
 from smaller import smallest
 from texts import Placement
 
 MOST_BROKEN = 10
-TARGETS = {"dump": Dump, "library": Library, "exe": Exe, "com": Com, "placement": Placement, "linktext": LinkText, "find": Find}
+TARGETS = {"dump": Dump, "library": Library, "exe": Exe, "com": Com, "placement": Placement, "linktext": LinkText, "find": Find, "lower": Lower}
 
 
 def load_seeds(more):

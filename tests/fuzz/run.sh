@@ -1,8 +1,8 @@
 #!/usr/bin/env bash
 # Fuzzes the library for C and the programs: run.sh SECONDS [TARGET..]. The targets are check, canon, reloc, members, link and program of the
-# library (all six); shown, which is omf-dump as a function beside the library; and dump, library, exe, com, placement, linktext and find of the programs,
-# which tests/fuzz/programs.py runs: they need neither the library nor clang. SECONDS is for each target: of the clock for those of programs.py, and
-# of processor time for the others, so that other work that goes first does not shorten a run.
+# library (all six); shown, which is omf-dump as a function beside the library; and dump, library, exe, com, placement, linktext, find and lower of the
+# programs, which tests/fuzz/programs.py runs: they need neither the library nor clang. SECONDS is for each target: of the clock for those of
+# programs.py, and of processor time for the others, so that other work that goes first does not shorten a run.
 #
 # `rt lib` builds the library, and for shown `rt run` builds omf-dump, which takes a proof where there is none yet; on the way the bitcode that is handed
 # to the kit's clang is kept, and compiled a second time with counters of what is reached. So what runs is the proved code, built by a way that the kit
@@ -29,7 +29,7 @@ calls=()
 for one in "$@"; do
     case $one in
     check | canon | reloc | members | link | program | shown) calls+=("$one") ;;
-    dump | library | exe | com | placement | linktext | find) "$root/tests/fuzz/programs.py" "$seconds" "$one" ${SEEDS:+--seeds "$SEEDS"} --keep "$work" || failed=1 ;;
+    dump | library | exe | com | placement | linktext | find | lower) "$root/tests/fuzz/programs.py" "$seconds" "$one" ${SEEDS:+--seeds "$SEEDS"} --keep "$work" || failed=1 ;;
     *)
         echo "no target $one" >&2
         exit 2

@@ -1,0 +1,54 @@
+"""omf-link lower: made modules with CEXTDEFs and BAKPATs, and changed ones, against a second reader."""
+import functools
+import re
+
+import wide
+from changes import changed_module
+from libraries import record
+from promises import program, promised, run
+
+# A fault of a record's layout, as `omf check` prints it.
+LAYOUT = re.compile(rb"refused ((?:[89]|1[0-8]) \w+) record (\d+) at \d+ within (\d+)\n")
+HEADER, HEADERS = record(0x80, b"\x01A"), (0x80, 0x82)
+
+
+class Lower:
+    IS_BATCH = False
+
+    def __init__(self, seeds, random_, every):
+        self.link, self.omf, self.random, self.seeds = program("omf_link"), program("omf"), random_, seeds
+        self.accepted = self.compared = 0
+        self.verdict = functools.lru_cache(4096)(lambda bytes_: run([self.omf, "check"], bytes_))
+
+    def inputs(self):
+        """A made module, perhaps changed, or with bytes after it; or any file, changed."""
+        random_, kind = self.random, self.random.randrange(8)
+        made = b"".join(wide.Made(random_).records)
+        if kind < 3:
+            return [changed_module(random_, [made, made, made, *random_.sample(self.seeds, 3)])]
+        if kind == 3:
+            return [made + random_.choice(self.seeds)]
+        return [made]
+
+    def judge(self, one):
+        """The fault of a record's layout: the one that `omf check` has for the record alone, or after a header."""
+        front = b"" if one[0] in HEADERS else HEADER
+        found = LAYOUT.fullmatch(self.verdict(front + one)[1])
+        if found and int(found[2]) == (front != b""):
+            raise wide.Fault(found[1].decode(), int(found[3]))
+
+    def look(self, inputs, folder):
+        """The bytes are those of the reader, or the line is; a module that `omf check` accepts stays."""
+        bytes_, path = inputs[0], folder / "out.obj"
+        (folder / "wide.obj").write_bytes(bytes_)
+        path.unlink(missing_ok=True)
+        status, line = run([self.link, "lower", "-o", "out.obj", "wide.obj"], folder=folder)
+        wanted, made = wide.lowered(bytes_, self.judge), path.read_bytes() if path.exists() else None
+        if isinstance(wanted, bytes):
+            promised((status, line, made) == (0, b"", wanted), f"lower: status {status}, {line[:200]}, not the bytes of the reader")
+            self.accepted += 1
+        else:
+            promised((status, line, made) == (1, wanted.encode(), None), f"lower: status {status}, {line[:200]}, not {wanted}")
+        if run([self.omf, "check"], bytes_)[0] == 0:
+            promised(status == 0 and bytes_.startswith(made), "lower: an accepted module is changed")
+        self.compared += 1
