@@ -113,7 +113,7 @@ def public_place(places, group, segment, frame, offset):
 
 
 def public_places(modules, places):
-    """The place of each public of modules, and of each alias that leads to one."""
+    """The place of each public of modules, and of each alias of one."""
     found = {one[0]: public_place(there, *one[1:]) for module_, there in zip(modules, places) for one in publics_of(module_)}
     return found | {name: found[end] for name, end in ends_of(modules).items() if end in found}
 

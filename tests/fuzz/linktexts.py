@@ -100,7 +100,7 @@ class LinkText:
             self.try_text(names, folder, changed_text(random_, draft, [*self.texts, *FORMS]))
 
     def compare(self, inputs, draft, answer):
-        """The image is that of the modules, each relocated alone; or the first that does not reach is reported, or the names without one public."""
+        """The image has the bytes of the modules, each relocated alone; or the first that does not reach is reported, or the names without one public."""
         if answer[0] == 0 or UNRESOLVED.fullmatch(answer[1]):
             wanted = unresolved_lines(inputs, [f'file "in{number}.obj" module 1' for number in range(len(inputs))])
             promised(wanted in (None, answer[1] if answer[0] else b""), f"{answer[1]}, not {wanted}")

@@ -2,7 +2,7 @@
 """Runs a fuzzer for a number of seconds of processor time: processor.py SECONDS COMMAND..
 
 libFuzzer's own limit is one of the clock, which is another time where other work goes first. At the limit it is sent SIGUSR1, at which libFuzzer
-ends after the input that it is at, and prints its last lines. The last line on standard error is the processor time. The status is that of the command."""
+ends after the input that it is at, and prints its last lines. The last line on standard error is the processor time. The status is the command's."""
 import os
 import resource
 import signal

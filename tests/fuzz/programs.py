@@ -10,12 +10,12 @@ library    changed libraries: omf-lib finds the members that tests/fuzz/librarie
            exactly the members, only into its folder, and changes no file that is there; `make` of them and `canon` give libraries without faults
 exe        modules, made at random or real, some changed: what `omf-link exe` writes, loaded by tests/fuzz/executables.py at several paragraphs, has
            the bytes and the start of these modules, linked or each relocated alone, at addresses so much higher; with some of them in a library
-           the file is that of the members that are needed; of a fault there is one line, or one for each name, and no file; names that more than one
+           the file has the members that are needed; of a fault there is one line, or one for each name, and no file; names that more than one
            module defines are those that a second reader finds, and with --allow twice they are lines on standard error; it follows aliases too
 com        the same for `omf-link com`
 placement  placement texts: a draft of omf-place is read back, another spelling of it has the same listing, and of a changed text the first line
            that a second reader does not understand is reported
-linktext   the same of link texts; the image is that of the modules, each relocated alone; HEX, S-records and raw binary have its bytes
+linktext   the same of link texts; the image has the bytes of the modules, each relocated alone; HEX, S-records and raw binary have its bytes
 find       programs that omf-link makes of made modules: each segment that omf-find finds has the bytes that no fixup touches; changed programs and
            modules are read or refused, and each line is JSON
 lower      modules with CEXTDEFs and BAKPATs, some changed: `omf-link lower` writes the bytes that the reader of tests/fuzz/wide.py gives, or has

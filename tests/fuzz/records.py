@@ -71,7 +71,7 @@ def last_judged(found):
 
 
 def compare_verdict(answer, found, bytes_):
-    """The answer of `omf check`, and that of omf-dump."""
+    """The answers of `omf check` and of omf-dump."""
     accepted = re.fullmatch(rb"OK (\d+) records, (\d+) bytes\n", answer)
     last = last_judged(found)
     if accepted:
