@@ -15,7 +15,7 @@ use Rattle.omf_lowering.specs.Externals.{all_of, names_of}
 use Rattle.omf_lowering.specs.Inner.Readers.{bakpat_whole}
 use Rattle.omf_lowering.specs.Laws.{Fits, ValuesFit}
 use Rattle.omf_lowering.specs.Lowering.{is_bakpat, patches, patches_in, pieces, replaced, replacement}
-use Rattle.omf_lowering.specs.Patches.{has_all, has_byte_of, holder, part_of, patch_at, patch_by, patches_by, piece_in, piece_of, pieces_from, placed, size_of}
+use Rattle.omf_lowering.specs.Patches.{has_all, has_byte_of, holder, patch_at, patch_by, patches_by, piece_in, piece_of, pieces_from, placed, size_of}
 use Rattle.omf_lowering.specs.declared.values.Backpatch.{Backpatch}
 use Rattle.omf_lowering.specs.declared.values.Patch.{Patch}
 use Rattle.omf_lowering.specs.declared.values.Piece.{Piece}
@@ -149,7 +149,7 @@ fits_record : (rs : List Raw) (kind : ℕ) (body : List ℕ) (r : Result (List P
 fits_record rs kind body (Err f) e = All-nil (Fits rs)
 fits_record rs kind body (Ok ps) e =
     let read = and_then_ok ((bakpat_whole (is_wide kind)).read 3 body) (placed (pieces_from 0 rs)) ps e in
-    fits_items rs read.0.segment.item (part_of read.0.location) read.0.items ps read.2
+    fits_items rs read.0.segment.item read.0.part read.0.items ps read.2
 
 -- more records after them
 there_still : (rs more : List Raw) (i : ℕ) (r : Raw) → slice_get rs i ≡ Some r → slice_get (rs ++ more) i ≡ Some r

@@ -1,7 +1,9 @@
 -- The layouts of the records that a lowering replaces (TIS OMF 1.1, the page of each record). `wide` is true in a record of odd type.
-use Rattle.std.specs.Prelude.{ℕ, nat_lt, Bool, if◌then◌else◌, List}
+use Rattle.std.specs.Prelude.{ℕ, nat_lt, ◌==◌, Bool, if◌then◌else◌, List}
 use Rattle.omf_frame.specs.declared.fault.Reason.{Reason}
 use Rattle.omf_frame.specs.declared.fault.Reason.TheVariants as reason
+use Rattle.omf_image.specs.declared.part.Part.{Part}
+use Rattle.omf_image.specs.declared.part.Part.TheVariants as parts
 use Rattle.omf_records.specs.Values.{At}
 use Rattle.omf_records.specs.Layout.{Layout, ◌>>=◌, give, many, index, byte, number_of, checked, with_place, called}
 use Rattle.omf_records.specs.Entries.{unless}
@@ -22,6 +24,10 @@ cextdef = many named_external
 abbrev pub wrong_type : Bool → ℕ → List Reason
 wrong_type wide t = unless (nat_lt t (if wide then 3 else 2)) reason.LocationType
 
+-- The part that a location type tells; the layout refuses every other type.
+abbrev pub part_of : ℕ → Part
+part_of location = if location == 0 then parts.Byte else if location == 1 then parts.Word else parts.Dword
+
 -- BAKPAT: an offset and a value, both of the record's width.
 abbrev pub backpatch : Bool → Layout Backpatch
 backpatch wide = do
@@ -29,14 +35,14 @@ backpatch wide = do
   value ← number_of wide
   give (record { offset = offset; value = value })
 
--- BAKPAT: the index of a segment, the type of its locations, and the backpatches.
+-- BAKPAT: the index of a segment, the part that each location is, and the backpatches.
 pub record Backpatches : Type 0 where
   pub segment : At ℕ
-  pub location : ℕ
+  pub part : Part
   pub items : List (At Backpatch)
 
 abbrev pub bakpat : Bool → Layout Backpatches
 bakpat wide = do
   segment ← with_place index
-  location ← checked byte (wrong_type wide)
-  called (many (backpatch wide)) (λ items. record { segment = segment; location = location; items = items })
+  part ← called (checked byte (wrong_type wide)) part_of
+  called (many (backpatch wide)) (λ items. record { segment = segment; part = part; items = items })

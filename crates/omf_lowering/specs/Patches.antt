@@ -53,10 +53,6 @@ has_byte_of segment offset size p = (p.segment == segment) && (nat_lt offset (p.
 abbrev pub holder : List Piece → ℕ → ℕ → ℕ → Option Piece
 holder pieces segment offset size = last (filter (has_byte_of segment offset size) pieces)
 
--- The location type 0 is a byte, 1 a word, 2 a doubleword.
-abbrev pub part_of : ℕ → Part
-part_of location = if location == 0 then part.Byte else if location == 1 then part.Word else part.Dword
-
 -- The number of bytes of a location.
 abbrev pub size_of : Part → ℕ
 size_of part.Byte = 1
@@ -82,7 +78,7 @@ abbrev pub patch_at : List Piece → ℕ → Part → At Backpatch → Result Pa
 patch_at pieces segment size b = patch_by size b (holder pieces segment b.item.offset (size_of size))
 
 abbrev pub placed : List Piece → Backpatches → Result (List Patch) Fault
-placed pieces b = all_of (patch_at pieces b.segment.item (part_of b.location)) b.items
+placed pieces b = all_of (patch_at pieces b.segment.item b.part) b.items
 
 -- The values that a BAKPAT with these contents adds, or its first fault: of layout, or else of a location.
 abbrev pub patches_by : List Piece → ℕ → List ℕ → Result (List Patch) Fault

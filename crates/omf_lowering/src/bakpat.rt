@@ -1,14 +1,13 @@
 //! The values that a BAKPAT adds (TIS OMF 1.1, "BAKPAT").
 
-ghost use Rattle.std.specs.Prelude.{◌≡◌, ◌+◌, ◌<◌, ◌≤◌, ◌++◌, ◌∷◌, [], ℕ, List, drop, length, IfOk, IfErr, OnOk, Ok, None};
-ghost use Rattle.omf_records.specs.Inner.Reads.{each, or_none};
-ghost use Rattle.omf_records.specs.Values.{is_wide};
-ghost use Rattle.omf_lowering.specs.Externals.{all_of};
-ghost use Rattle.omf_lowering.specs.Inner.Readers.{backpatch_reader, bakpat_whole, read_to, type_reader};
+ghost use Rattle.std.specs.Prelude.{◌≡◌, ◌+◌, ◌<◌, ◌≤◌, ◌++◌, drop, length, IfOk, IfErr, OnOk, Ok, None};
+ghost use Rattle.omf_records.specs.Inner.Reads.{or_none};
+ghost use Rattle.omf_lowering.specs.Inner.Readers.{bakpat_whole, read_to, type_reader};
 ghost use Rattle.omf_lowering.specs.Inner.State.{GivesAll, IsStop};
 ghost use Rattle.omf_lowering.specs.Lowering.{fault_of};
-ghost use Rattle.omf_lowering.specs.Patches.{has_all, has_byte_of, holder, part_of, patch_at, patch_by, patches_by, placed, size_of};
+ghost use Rattle.omf_lowering.specs.Patches.{has_all, has_byte_of, holder, patch_at, patches_by, placed, size_of};
 
+use crate::entries::{Entry, entries};
 use crate::fault::Stop;
 use crate::fields::{byte_at, fault_at, number_at, placed_index_at};
 use crate::values::{Backpatch, Patch, Piece};
@@ -21,78 +20,56 @@ use std::alloc::Global;
 #[derive(Drop)]
 struct Backpatches {
     segment: At<Index>,
-    location: u8,
+    part: Part,
     items: Vec<At<Backpatch>>,
 }
 
-/// The location type at a position, and the position after it.
-fn type_at(body: &[u8], wide: bool, pos: usize) -> Result<(u8, usize), LayoutFault>
+/// The part that the location type at a position tells, and the position after it.
+fn type_at(body: &[u8], wide: bool, pos: usize) -> Result<(Part, usize), LayoutFault>
     requires { (pos ≤ length body.now) × (length body.now ≤ 65534) }
     ensures read { read_to body.now result ≡ (type_reader wide).read (3 + pos) (drop pos body.now) }
     ensures bound { IfOk result (λ r. (pos < r.1) × (r.1 ≤ length body.now)) }
 {
     let (location, end) = byte_at(body, pos)?;
-    let types = if wide { 3 } else { 2 };
-    if location < types {
-        Ok((location, end))
-    } else {
-        Err(fault_at(pos, Reason::LocationType))
+    match location {
+        0 => Ok((Part::Byte, end)),
+        1 => Ok((Part::Word, end)),
+        2 if wide => Ok((Part::Dword, end)),
+        _ => Err(fault_at(pos, Reason::LocationType)),
     }
 }
 
-/// The backpatch at a position, and the position after it.
-fn backpatch_at(body: &[u8], wide: bool, pos: usize) -> Result<(Backpatch, usize), LayoutFault>
-    requires { (pos ≤ length body.now) × (length body.now ≤ 65534) }
-    ensures read { read_to body.now result ≡ (backpatch_reader wide).read (3 + pos) (drop pos body.now) }
-    ensures bound { IfOk result (λ r. (pos < r.1) × (r.1 ≤ length body.now)) }
-{
-    let (offset, pos) = number_at(body, wide, pos)?;
-    let (value, pos) = number_at(body, wide, pos)?;
-    Ok((Backpatch { offset, value }, pos))
-}
+impl Entry for Backpatch {
+    ghost use Rattle.omf_lowering.specs.Inner.Readers.{backpatch_reader, backpatch_shrinks};
 
-/// The backpatches from a position on.
-fn items_from(
-    alloc: Global,
-    body: &[u8],
-    wide: bool,
-    start: usize,
-) -> Result<Vec<At<Backpatch>>, Stop>
-    requires { (start ≤ length body.now) × (length body.now ≤ 65534) }
-    ensures { GivesAll (λ v. v.items) result (each (backpatch_reader wide).read (3 + start) (drop start body.now)) }
-{
-    let mut items = Vec::new(alloc);
-    let mut pos = start;
-    while pos < body.len() {
-        match backpatch_at(body, wide, pos) {
-            Ok((item, end)) => {
-                let within = 3 + pos as u32;
-                items.push(At { within, item })?;
-                pos = end;
-            }
-            Err(fault) => return Err(Stop::At(fault)),
-        }
+    ghost reading = { λ wide. (backpatch_reader wide).read };
+
+    ghost shrinks = { backpatch_shrinks };
+
+    fn read_at(body: &[u8], wide: bool, pos: usize) -> Result<(Backpatch, usize), LayoutFault> {
+        let (offset, pos) = number_at(body, wide, pos)?;
+        let (value, pos) = number_at(body, wide, pos)?;
+        Ok((Backpatch { offset, value }, pos))
     }
-    Ok(items)
 }
 
 /// The contents of a BAKPAT.
 fn backpatches_in(alloc: Global, wide: bool, body: &[u8]) -> Result<Backpatches, Stop>
     requires { length body.now ≤ 65534 }
-    ensures { GivesAll (λ b. record { segment = b.segment; location = b.location; items = b.items.items }) result ((bakpat_whole wide).read 3 body.now) }
+    ensures { GivesAll (λ b. record { segment = b.segment; part = b.part; items = b.items.items }) result ((bakpat_whole wide).read 3 body.now) }
 {
     let (segment, pos) = match placed_index_at(body, 0) {
         Ok(found) => found,
         Err(fault) => return Err(Stop::At(fault)),
     };
-    let (location, pos) = match type_at(body, wide, pos) {
+    let (part, pos) = match type_at(body, wide, pos) {
         Ok(found) => found,
         Err(fault) => return Err(Stop::At(fault)),
     };
-    let items = items_from(alloc, body, wide, pos)?;
+    let items = entries(alloc, body, wide, pos)?;
     Ok(Backpatches {
         segment,
-        location,
+        part,
         items,
     })
 }
@@ -106,19 +83,6 @@ fn size_of(part: Part) -> usize
         Part::Byte => 1,
         Part::Word => 2,
         Part::Dword => 4,
-    }
-}
-
-/// The part of a location type.
-fn part_of(location: u8) -> Part
-    ensures { result ≡ part_of location }
-{
-    if location == 0 {
-        Part::Byte
-    } else if location == 1 {
-        Part::Word
-    } else {
-        Part::Dword
     }
 }
 
@@ -199,12 +163,12 @@ fn patch_at(
 
 /// Appends the values of backpatches.
 fn push_patches(patches: &mut Vec<Patch>, pieces: &[Piece], given: &Backpatches) -> Result<(), Stop>
-    ensures ok { OnOk result (patches.new.items ≡ patches.old.items ++ or_none (placed pieces.now (record { segment = given.now.segment; location = given.now.location; items = given.now.items.items }))) }
-    ensures sound { OnOk result (fault_of (placed pieces.now (record { segment = given.now.segment; location = given.now.location; items = given.now.items.items })) ≡ None) }
-    ensures err { IfErr result (λ stop. IsStop stop (fault_of (placed pieces.now (record { segment = given.now.segment; location = given.now.location; items = given.now.items.items })))) }
+    ensures ok { OnOk result (patches.new.items ≡ patches.old.items ++ or_none (placed pieces.now (record { segment = given.now.segment; part = given.now.part; items = given.now.items.items }))) }
+    ensures sound { OnOk result (fault_of (placed pieces.now (record { segment = given.now.segment; part = given.now.part; items = given.now.items.items })) ≡ None) }
+    ensures err { IfErr result (λ stop. IsStop stop (fault_of (placed pieces.now (record { segment = given.now.segment; part = given.now.part; items = given.now.items.items })))) }
 {
     let segment = given.segment.item.0;
-    let part = part_of(given.location);
+    let part = given.part;
     for item in &given.items {
         match patch_at(pieces, segment, part, item) {
             Ok(patch) => patches.push(patch)?,

@@ -1,14 +1,13 @@
 //! A CEXTDEF as EXTDEFs (TIS OMF 1.1, "CEXTDEF" and "EXTDEF").
 
-ghost use Rattle.std.specs.Prelude.{◌≡◌, ◌+◌, ◌<◌, ◌≤◌, ◌++◌, ◌∷◌, [], ℕ, List, drop, length, map, IfOk, IfErr, OnOk, None};
-ghost use Rattle.omf_check.specs.Tables.{entry};
+ghost use Rattle.std.specs.Prelude.{◌≡◌, ◌+◌, ◌<◌, ◌≤◌, ◌++◌, ◌∷◌, [], length, map, IfOk, IfErr, OnOk, None};
 ghost use Rattle.omf_records.specs.Inner.Reads.{or_none};
 ghost use Rattle.omf_records.specs.Values.{ExternalItem};
 ghost use Rattle.omf_lowering.specs.Externals.{all_of, extdef, externals_by, named};
-ghost use Rattle.omf_lowering.specs.Inner.Readers.{cextdef_whole, external_reader, read_to};
-ghost use Rattle.omf_lowering.specs.Inner.State.{GivesAll, IsStop};
+ghost use Rattle.omf_lowering.specs.Inner.State.{IsStop};
 ghost use Rattle.omf_lowering.specs.Lowering.{fault_of};
 
+use crate::entries::{Entry, entries};
 use crate::fault::Stop;
 use crate::fields::{index_at, placed_index_at};
 use crate::record::Record;
@@ -17,35 +16,22 @@ use omf_frame::{Field, Index, Name, Reason};
 use omf_records::{At, LayoutFault};
 use std::alloc::{AllocError, Global};
 
-/// The external at a position, and the position after it.
-fn external_at(body: &[u8], pos: usize) -> Result<(NamedExternal, usize), LayoutFault>
-    requires { (pos ≤ length body.now) × (length body.now ≤ 65534) }
-    ensures read { read_to body.now result ≡ external_reader.read (3 + pos) (drop pos body.now) }
-    ensures bound { IfOk result (λ r. (pos < r.1) × (r.1 ≤ length body.now)) }
-{
-    let (name, pos) = placed_index_at(body, pos)?;
-    let (type_index, pos) = index_at(body, pos)?;
-    Ok((NamedExternal { name, type_index }, pos))
-}
+impl Entry for NamedExternal {
+    ghost use Rattle.omf_lowering.specs.Inner.Readers.{external_reader, external_shrinks};
 
-/// The externals of a CEXTDEF with these contents.
-fn externals_in(alloc: Global, body: &[u8]) -> Result<Vec<At<NamedExternal>>, Stop>
-    requires { length body.now ≤ 65534 }
-    ensures { GivesAll (λ v. v.items) result (cextdef_whole.read 3 body.now) }
-{
-    let mut externals = Vec::new(alloc);
-    let mut pos = 0;
-    while pos < body.len() {
-        match external_at(body, pos) {
-            Ok((item, end)) => {
-                let within = 3 + pos as u32;
-                externals.push(At { within, item })?;
-                pos = end;
-            }
-            Err(fault) => return Err(Stop::At(fault)),
-        }
+    ghost reading = { λ wide. external_reader.read };
+
+    ghost shrinks = { λ wide. external_shrinks };
+
+    fn read_at(
+        body: &[u8],
+        _wide: bool,
+        pos: usize,
+    ) -> Result<(NamedExternal, usize), LayoutFault> {
+        let (name, pos) = placed_index_at(body, pos)?;
+        let (type_index, pos) = index_at(body, pos)?;
+        Ok((NamedExternal { name, type_index }, pos))
     }
-    Ok(externals)
 }
 
 /// The EXTDEF with one external.
@@ -109,6 +95,6 @@ pub(crate) fn lower_externals(
     ensures sound { OnOk result (fault_of (externals_by names.now body.now) ≡ None) }
     ensures err { IfErr result (λ stop. IsStop stop (fault_of (externals_by names.now body.now))) }
 {
-    let externals = externals_in(alloc, body)?;
+    let externals = entries::<NamedExternal>(alloc, body, false, 0)?;
     push_extdefs(alloc, records, names, &externals)
 }

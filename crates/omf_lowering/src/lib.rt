@@ -3,6 +3,7 @@
 
 mod bakpat;
 mod cextdef;
+mod entries;
 mod fault;
 mod fields;
 pub mod laws;

@@ -1,7 +1,7 @@
 //! Records of the input, and of the lowered module.
 
 ghost use Rattle.std.specs.Prelude.{◌≡◌, ◌≤◌, ◌++◌, length, IfOk, IfErr, OnOk, Some, None};
-ghost use Rattle.omf_frame.specs.Framing.{Raw, raw_bytes, raw_of, front_record, after_front, checksum_of};
+ghost use Rattle.omf_frame.specs.Framing.{Raw, raw_bytes, raw_of, front_record, after_front};
 ghost use Rattle.omf_lowering.specs.Patches.{with_value};
 ghost use Rattle.omf_lowering.specs.Wide.{framing_fault, is_known, is_right, length_fault};
 

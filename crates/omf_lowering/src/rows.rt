@@ -2,7 +2,7 @@
 
 ghost use Rattle.std.specs.Prelude.{◌≡◌, ◌++◌, [], None, codes};
 ghost use Rattle.omf_check.specs.Module.{records_in};
-ghost use Rattle.omf_check.specs.Rows.{H, N, S, L, F, M};
+ghost use Rattle.omf_check.specs.Rows.{H, N, S, F, M};
 ghost use Rattle.omf_frame.specs.Rows.{hex};
 ghost use Rattle.omf_frame.specs.declared.fault.Reason.TheVariants as reason;
 ghost use Rattle.omf_lowering.specs.Lowering.{fault_at};

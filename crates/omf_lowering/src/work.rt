@@ -1,6 +1,6 @@
 //! The records so far, and what later records need of them.
 
-ghost use Rattle.std.specs.Prelude.{◌≡◌, ◌≤◌, ◌++◌, [], None, Some, ◌∷◌, IfErr, IfNone, IfSome, IfOk, OnOk, false, true, length, map, flat_map, IsTrue, if◌then◌else◌};
+ghost use Rattle.std.specs.Prelude.{◌≡◌, ◌≤◌, ◌++◌, [], None, Some, ◌∷◌, IfErr, IfNone, IfSome, IfOk, OnOk, false, true, length, map, flat_map, IsTrue};
 ghost use Rattle.omf_check.specs.Inner.Judging.{IsShort};
 ghost use Rattle.omf_check.specs.Tables.{defined_names};
 ghost use Rattle.omf_frame.specs.Framing.{is_taken, raw_bytes};

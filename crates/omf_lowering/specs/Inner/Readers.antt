@@ -3,13 +3,13 @@ use Rattle.std.proofs.Common.{ℕ, ◌+◌, Bool, List, drop, Result, Ok, Err}
 use Rattle.std.specs.Prelude.{nat_lt, if◌then◌else◌}
 use Rattle.omf_frame.specs.Fault.{Fault}
 use Rattle.omf_frame.specs.declared.fault.Reason.TheVariants as reason
-use Rattle.omf_records.specs.Layout.{checked, byte, index, many}
+use Rattle.omf_records.specs.Layout.{checked, byte, called, index, many}
 use Rattle.omf_records.specs.Inner.Reads.{After, after, Reader, Whole, Shrinks}
 use Rattle.omf_records.specs.Inner.FieldReaders.{index_reader, index_shrinks, byte_reader, number_reader, number_shrinks}
-use Rattle.omf_records.specs.Inner.Readers.{◌>=>◌, ◌>=>|◌, then_shrinks, checked_reader, placed_shrinks, index_at, give_reader, called_whole}
+use Rattle.omf_records.specs.Inner.Readers.{◌>=>◌, ◌>=>|◌, then_shrinks, called_reader, checked_reader, placed_shrinks, index_at, give_reader, called_whole}
 use Rattle.omf_records.specs.Inner.Many.{each_whole}
 use Rattle.omf_records.specs.Inner.EntryReaders.{one_reason}
-use Rattle.omf_lowering.specs.Layouts.{named_external, cextdef, wrong_type, backpatch, bakpat}
+use Rattle.omf_lowering.specs.Layouts.{named_external, cextdef, wrong_type, part_of, backpatch, bakpat}
 
 abbrev pub external_reader : Reader named_external
 external_reader = index_at >=> λ n. index_reader >=> λ t. give_reader _
@@ -20,8 +20,9 @@ external_shrinks = then_shrinks _ _ index_at (λ n. index_reader >=> λ t. give_
 abbrev pub cextdef_whole : Whole cextdef
 cextdef_whole = each_whole named_external external_reader external_shrinks
 
-abbrev pub type_reader : (wide : Bool) → Reader (checked byte (wrong_type wide))
-type_reader wide = checked_reader byte (wrong_type wide) byte_reader (λ t. one_reason (nat_lt t (if wide then 3 else 2)) reason.LocationType)
+abbrev pub type_reader : (wide : Bool) → Reader (called (checked byte (wrong_type wide)) part_of)
+type_reader wide =
+    called_reader (checked byte (wrong_type wide)) part_of (checked_reader byte (wrong_type wide) byte_reader (λ t. one_reason (nat_lt t (if wide then 3 else 2)) reason.LocationType))
 
 abbrev pub backpatch_reader : (wide : Bool) → Reader (backpatch wide)
 backpatch_reader wide = number_reader wide >=> λ o. number_reader wide >=> λ v. give_reader _
