@@ -1,8 +1,9 @@
 #!/usr/bin/env python3
 """Lowers generated modules, and compares with a reader of its own, by the standard's text: lowered.py [--first SEED] [--count N]
 
-Each module has LNAMES and LLNAMES, CEXTDEFs with names of these, LEDATAs of both widths, and BAKPATs that add values to their data. What `omf-link lower`
-writes must be the bytes that this reader gives; where a record is at fault, it must name that record and write nothing.
+Each module has LNAMES and LLNAMES, CEXTDEFs with names of these, LEDATAs of both widths, and BAKPATs that add values to their data; some files have several
+modules, with padding after them. What `omf-link lower` writes must be the bytes that this reader gives; where a record is at fault, it must name the file,
+the module and the record, and write nothing.
 OMF_LINK names the program (omf-link, if not set). The status is 1 where a module differs."""
 import argparse
 import os
@@ -35,8 +36,8 @@ def little(number, width):
 class Made:
     """The records of a module that is made at random."""
 
-    def __init__(self, seed):
-        self.random = random.Random(seed)
+    def __init__(self, source):
+        self.random = source
         self.lengths = [self.random.randint(20, 60) for _ in range(self.random.randint(1, 3))]
         names = [b""] + [bytes(self.random.choices(b"abcXYZ_", k=self.random.randint(1, 6))) for _ in range(self.random.randint(2, 9))]
         first = self.random.randint(1, len(names))
@@ -67,7 +68,8 @@ class Made:
 
     def add_externals(self):
         most = self.count + (self.random.random() < 0.05)
-        self.records.append(record(COMDAT_EXTERNALS, b"".join(self.index(self.random.randint(1, most)) + self.index(0) for _ in range(self.random.randint(1, 4)))))
+        entries = [self.index(self.random.randint(1, most)) + self.index(0) for _ in range(self.random.randint(1, 4))]
+        self.records.append(record(COMDAT_EXTERNALS, b"".join(entries)))
 
     def add_patches(self):
         (segment, length), is_wide = self.segment(), self.random.random() < 0.5
@@ -144,26 +146,37 @@ class Lowered:
         raise Fault(number)
 
 
-def lowered(records):
-    """The bytes of the lowered module, or the number of the first record at fault."""
-    try:
-        return b"".join(Lowered(records).records)
-    except Fault as fault:
-        return fault.args[0]
+def made(seed):
+    """The modules of a file, each as its records, and the padding after each."""
+    source = random.Random(seed)
+    count = source.choices([1, 2, 3], [6, 2, 1])[0]
+    return [(Made(source).records, bytes([source.choice([0, 0x1A])]) * source.choice([0, 0, 1, 40])) for _ in range(count)]
 
 
-def differs(folder, seed):
-    """What `omf-link lower` answers to a module, if that is not what it must."""
-    records = Made(seed).records
-    (folder / "wide.obj").write_bytes(b"".join(records))
+def lowered(modules):
+    """The bytes of the lowered modules; or the numbers of the first module with a fault, from 1, and of its record."""
+    out = b""
+    for number, (records, _) in enumerate(modules, 1):
+        try:
+            out += b"".join(Lowered(records).records)
+        except Fault as fault:
+            return number, fault.args[0]
+    return out
+
+
+def differs(folder, modules):
+    """What `omf-link lower` answers to a file of these modules, if that is not what it must."""
+    (folder / "wide.obj").write_bytes(b"".join(b"".join(records) + padding for records, padding in modules))
     (folder / "out.obj").unlink(missing_ok=True)
     done = subprocess.run([LINK, "lower", "-o", "out.obj", "wide.obj"], cwd=folder, stdin=subprocess.DEVNULL, capture_output=True, timeout=60, check=False)
-    made = (folder / "out.obj").read_bytes() if (folder / "out.obj").exists() else None
-    wanted = lowered(records)
+    written = (folder / "out.obj").read_bytes() if (folder / "out.obj").exists() else None
+    wanted = lowered(modules)
     if isinstance(wanted, bytes):
-        is_right = done.returncode == 0 and made == wanted
+        is_right = done.returncode == 0 and written == wanted
     else:
-        is_right = done.returncode == 1 and made is None and f" record {wanted} at ".encode() in done.stderr
+        words = done.stderr.decode().split()
+        is_named = words[1:6] == ["file", '"wide.obj"', "module", str(wanted[0]), "refused"] and words[8:10] == ["record", str(wanted[1])]
+        is_right = done.returncode == 1 and written is None and is_named
     return None if is_right else (done.returncode, done.stderr)
 
 
@@ -172,16 +185,18 @@ def main():
     parser.add_argument("--first", type=int, default=1)
     parser.add_argument("--count", type=int, default=2000)
     asked = parser.parse_args()
-    failed = 0
+    failed = count = 0
     with tempfile.TemporaryDirectory() as folder:
         for seed in range(asked.first, asked.first + asked.count):
-            answer = differs(pathlib.Path(folder), seed)
+            modules = made(seed)
+            count += len(modules)
+            answer = differs(pathlib.Path(folder), modules)
             if answer:
                 failed += 1
                 print(f"seed {seed}: {answer}")
             if failed >= MOST_FAILED:
                 break
-    print(f"{seed - asked.first + 1} modules lowered, {failed} otherwise")
+    print(f"{count} modules lowered, {failed} files otherwise")
     return 1 if failed else 0
 
 

@@ -1,15 +1,16 @@
-//! The task `omf-link lower`: a module with CEXTDEFs and BAKPATs as a module of this profile (`omf_lowering`).
+//! The task `omf-link lower`: modules with CEXTDEFs and BAKPATs as modules of this profile (`omf_lowering`).
 
 ghost use Rattle.std.specs.Prelude.{◌≡◌};
 
 use crate::about::ABOUT;
-use omf_cmd::RunFault;
 use omf_frame::Sink;
 use omf_host::{OutputFile, RunFiles, Status, Streams, misused_by, refuse_clash};
 use omf_linker::asked::{Asked, sorted};
 use omf_linker::host::{read_or_tell, tell_fault, write_or_tell};
-use omf_lowering::{LoweringFault, lowered};
-use std::alloc::AllocError;
+use omf_linker::link::{FilesFault, file_front};
+use omf_linking::LinkFault;
+use omf_lowering::{FileFault, lowered_file};
+use std::alloc::{AllocError, Global};
 
 /// Whether arguments ask for this task.
 pub(crate) fn is_asked(words: &[String]) -> bool {
@@ -38,28 +39,54 @@ fn names_of(asked: &Asked) -> Option<Names<'_>> {
     }
 }
 
-/// The lowered module as an output under a name.
-fn lowered_file<'a>(out: &'a [u8], name: &'a str) -> OutputFile<'a>
+/// The lowered modules as an output under a name.
+fn lowered_bytes<'a>(out: &'a [u8], name: &'a str) -> OutputFile<'a>
     ensures name { result.name.now ≡ name.now }
     ensures bytes { result.bytes.now ≡ out.now }
 {
     OutputFile { name, bytes: out }
 }
 
-/// Writes the lowered module, or the line of its first fault. Returns the status.
+/// A file's fault as the programs that read modules have it.
+fn link_fault(fault: FileFault) -> LinkFault {
+    match fault {
+        FileFault::Memory => LinkFault::Memory,
+        FileFault::Refused {
+            module,
+            reason,
+            place,
+        } => LinkFault::Refused {
+            module,
+            reason,
+            place,
+        },
+        FileFault::NoModule(at) => LinkFault::NoText(at),
+    }
+}
+
+/// Writes the line of a file's fault, with the file's name. Returns the status.
+fn tell<K: Sink, E: Sink>(
+    alloc: Global,
+    fault: LinkFault,
+    name: &str,
+    streams: &mut Streams<K, E>,
+) -> Result<Status, AllocError> {
+    let front = file_front(alloc, name.as_bytes())?;
+    tell_fault(alloc, streams, &FilesFault::File { fault, front })?;
+    Ok(Status::Refused)
+}
+
+/// Writes the lowered modules of a file, or the line of its first fault. Returns the status.
 fn write_lowered<K: Sink, E: Sink>(
     rt: &HostRuntime,
     bytes: &[u8],
-    output: &str,
+    names: Names<'_>,
     streams: &mut Streams<K, E>,
 ) -> Result<Status, AllocError> {
-    match lowered(rt.alloc(), bytes) {
-        Ok(out) => write_or_tell(rt, lowered_file(&out, output), None, streams),
-        Err(LoweringFault::Memory) => Err(AllocError),
-        Err(LoweringFault::Refused { reason, place }) => {
-            tell_fault(rt.alloc(), streams, &RunFault::Refused { reason, place })?;
-            Ok(Status::Refused)
-        }
+    match lowered_file(rt.alloc(), bytes) {
+        Ok(out) => write_or_tell(rt, lowered_bytes(&out, names.output), None, streams),
+        Err(FileFault::Memory) => Err(AllocError),
+        Err(fault) => tell(rt.alloc(), link_fault(fault), names.input, streams),
     }
 }
 
@@ -87,5 +114,5 @@ pub(crate) fn on_words<K: Sink, E: Sink>(
     let Some(bytes) = read_or_tell(rt, names.input, streams)? else {
         return Ok(Status::Failed);
     };
-    write_lowered(rt, &bytes, names.output, streams)
+    write_lowered(rt, &bytes, names, streams)
 }

@@ -146,7 +146,7 @@ has_room before (Fixups []) more h = room_first before 0 [] more h
 has_room before (Fixups (s ∷ subs)) more h = room_first before s.within _ more h
 has_room before _ more h = room_first before 0 [] more h
 
-pub accepted : (profile : Profile) (limits : Limits) (input : List ℕ) (records : List Raw) (a : IsAccepted profile limits input records) → IsLowered input a.bytes
+pub accepted : (profile : Profile) (limits : Limits) (input : List ℕ) (records : List Raw) (a : IsAccepted profile limits input records) → IsLowered input a.bytes a.rest
 accepted profile limits input records a =
     let w = well-read profile limits a.bytes records a.well_formed in
     let l = w.framed.last in
@@ -164,7 +164,6 @@ accepted profile limits input records a =
     record {
       before = front;
       end = end;
-      rest = a.rest;
       begins = record {
         spelled = a.spelled ∙ ap (λ b. b ++ a.rest) (bytes ∙ parts) ∙ append_assoc (flat_map raw_bytes front) (raw_bytes end) a.rest;
         count = omega arith;

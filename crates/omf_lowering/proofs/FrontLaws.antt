@@ -112,11 +112,10 @@ open_more input rest after number s t o few parts wide sound open_still is = rec
 }
 
 pub read_end : (input rest after : List ℕ) (number : ℕ) (s t : State) → IsOpen input rest number s → number < item_limit → rest ≡ raw_bytes (front_record rest) ++ after → IsWideRecord (front_record rest)
-    → fault_by s.names s.data_before (front_record rest) ≡ None → is_end (front_record rest).kind ≡ true → t ≡ added s (front_record rest) → IsRead input t
+    → fault_by s.names s.data_before (front_record rest) ≡ None → is_end (front_record rest).kind ≡ true → t ≡ added s (front_record rest) → IsRead input after t
 read_end input rest after number s t o few parts wide sound ended is = record {
   before = o.before;
   end = front_record rest;
-  rest = after;
   begins = subst (BeginsWith input o.before) parts o.begins;
   few = subst (λ n. n < item_limit) o.count few;
   last = wide;

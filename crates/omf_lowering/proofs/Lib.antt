@@ -1,6 +1,7 @@
 pub mod AcceptedLaws
 pub mod DataLaws
 pub mod FieldSteps
+pub mod FileLaws
 pub mod FitLaws
 pub mod FrontLaws
 pub mod LastLaws

@@ -3,7 +3,8 @@ use Rattle.std.proofs.Common.{◌≡◌, ℕ, suc, ◌+◌, ◌*◌, ◌-◌, �
 use Rattle.std.specs.Prelude.{slice_index, IsTrue, not, All, flat_map}
 use Rattle.std.specs.Option.{option_or}
 use Rattle.std.proofs.lemmas.Bool.{le-ltb, lt-ltb, ne_eqb}
-use Rattle.std.proofs.lemmas.List.{take_at}
+use Rattle.std.proofs.lemmas.Grind.{flat_map-append}
+use Rattle.std.proofs.lemmas.List.{append_cancel_left, take_at}
 use Rattle.std.proofs.lemmas.List.Elements.{All-head, All-tail}
 use Rattle.std.proofs.Math.Seq.{get_or-append_seam}
 use Rattle.omf_frame.specs.Bytes.{with_before}
@@ -112,13 +113,13 @@ walk (x ∷ xs) n before rest each sound none few =
 walk_begun : (input rest : List ℕ) (before : List Raw) (n : ℕ) → BeginsWith input before rest → walked (length before + n) [] input ≡ walked n before rest
 walk_begun input rest before n b = ap (walked (length before + n) []) b.spelled ∙ walk before n [] rest b.each b.sound b.no_end (subst (λ k. k ≤ item_limit) (sym (zero_more (length before))) b.count)
 
-module _ (input out : List ℕ) (l : IsLowered input out) where
+module _ (input out rest : List ℕ) (l : IsLowered input out rest) where
   pub walk_lowered : (n : ℕ) → walked (length l.before + suc n) [] input ≡ Done (l.before ++ l.end ∷ [])
   walk_lowered n =
-      let bytes : List ℕ = raw_bytes l.end ++ l.rest in
-      let front : front_record bytes ≡ l.end = front_is l.end l.last l.rest in
+      let bytes : List ℕ = raw_bytes l.end ++ rest in
+      let front : front_record bytes ≡ l.end = front_is l.end l.last rest in
       walk_begun input bytes l.before (suc n) l.begins
-      ∙ step (fault_at l.before bytes) (is_end (front_record bytes).kind) l.before _ _ (sound_at l.end l.last l.rest l.before l.few l.sound) (ap (λ (r : Raw). is_end r.kind) front ∙ l.ends)
+      ∙ step (fault_at l.before bytes) (is_end (front_record bytes).kind) l.before _ _ (sound_at l.end l.last rest l.before l.few l.sound) (ap (λ (r : Raw). is_end r.kind) front ∙ l.ends)
       ∙ ap (λ r. Done (l.before ++ r ∷ [])) front
     where
       step : (o : Option Fault) (b : Bool) (before all : List Raw) (others : Walked) → o ≡ None → b ≡ true → decided o b before all others ≡ Done all
@@ -135,17 +136,32 @@ module _ (input : List ℕ) (why : Reason) (at : Place) (l : IsRefused input why
 same_sum : (a b : ℕ) → a + suc b ≡ b + suc a
 same_sum a b = omega arith
 
-pub lowered_once : (input a b : List ℕ) → IsLowered input a → IsLowered input b → a ≡ b
-lowered_once input a b k l =
-    let same : Done (k.before ++ k.end ∷ []) ≡ Done (l.before ++ l.end ∷ []) =
-    sym (walk_lowered input a k (length l.before)) ∙ ap (λ n. walked n [] input) (same_sum (length k.before) (length l.before)) ∙ walk_lowered input b l (length k.before) in
-    let records : k.before ++ k.end ∷ [] ≡ l.before ++ l.end ∷ [] = cc in
-    k.lowered ∙ ap (λ rs. flat_map raw_bytes (lowered_records rs)) records ∙ sym l.lowered
+-- all bytes of an input, with those of the MODEND beside those of the records before it
+all_bytes : (input out rest : List ℕ) (l : IsLowered input out rest) → flat_map raw_bytes (l.before ++ l.end ∷ []) ++ rest ≡ input
+all_bytes input out rest l =
+    ap (λ b. b ++ rest) (flat_map-append raw_bytes l.before (l.end ∷ []) ∙ ap (λ e. flat_map raw_bytes l.before ++ e) (append-nil (raw_bytes l.end)))
+    ∙ append_assoc (flat_map raw_bytes l.before) (raw_bytes l.end) rest ∙ sym l.begins.spelled
 
-pub never_both : (input out : List ℕ) (why : Reason) (at : Place) → IsLowered input out → IsRefused input why at → ⊥
-never_both input out why at k l =
+pub lowered_once : (input a b rest other : List ℕ) → IsLowered input a rest → IsLowered input b other → (a ≡ b) × (rest ≡ other)
+lowered_once input a b rest other k l =
+    let same : Done (k.before ++ k.end ∷ []) ≡ Done (l.before ++ l.end ∷ []) =
+    sym (walk_lowered input a rest k (length l.before)) ∙ ap (λ n. walked n [] input) (same_sum (length k.before) (length l.before)) ∙ walk_lowered input b other l (length k.before) in
+    let records : k.before ++ k.end ∷ [] ≡ l.before ++ l.end ∷ [] = cc in (
+      k.lowered ∙ ap (λ rs. flat_map raw_bytes (lowered_records rs)) records ∙ sym l.lowered,
+      append_cancel_left (flat_map raw_bytes (k.before ++ k.end ∷ [])) rest other
+          (all_bytes input a rest k ∙ sym (all_bytes input b other l) ∙ ap (λ rs. flat_map raw_bytes rs ++ other) (sym records)),
+    )
+
+-- a module has at least one byte
+pub rest_is_shorter : (input out rest : List ℕ) → IsLowered input out rest → length rest < length input
+rest_is_shorter input out rest l =
+    let size = ap length l.begins.spelled in
+    omega (arith, size, length-append (flat_map raw_bytes l.before) (raw_bytes l.end ++ rest), length-append (raw_bytes l.end) rest)
+
+pub never_both : (input out rest : List ℕ) (why : Reason) (at : Place) → IsLowered input out rest → IsRefused input why at → ⊥
+never_both input out rest why at k l =
     let same : Done (k.before ++ k.end ∷ []) ≡ Stopped l.before (record { within = at.within; reason = why }) =
-    sym (walk_lowered input out k (length l.before)) ∙ ap (λ n. walked n [] input) (same_sum (length k.before) (length l.before)) ∙ walk_refused input why at l (length k.before) in
+    sym (walk_lowered input out rest k (length l.before)) ∙ ap (λ n. walked n [] input) (same_sum (length k.before) (length l.before)) ∙ walk_refused input why at l (length k.before) in
     absurd cc
 
 same_place : (p q : Place) → p.number ≡ q.number → p.start ≡ q.start → p.within ≡ q.within → p ≡ q

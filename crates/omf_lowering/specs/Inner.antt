@@ -1,3 +1,4 @@
+pub mod FileState
 pub mod Readers
 pub mod Run
 pub mod State

@@ -26,15 +26,15 @@ pub record ReadingsMeetLayouts : Type 0 where
   pub cextdef : (body : List ℕ) → AreBytes body → Meets cextdef 3 body (cextdef_whole.read 3 body)
   pub bakpat : (wide : Bool) (body : List ℕ) → AreBytes body → Meets (bakpat wide) 3 body ((bakpat_whole wide).read 3 body)
 
--- An input has at most one lowering; it is refused for at most one reason, at one place; and it is not both lowered and refused.
+-- An input has at most one lowering, with one rest after the module; it is refused for at most one reason, at one place; and it is not both lowered and refused.
 pub record AnswersAreUnique : Type 0 where
-  pub lowered : (input a b : List ℕ) → IsLowered input a → IsLowered input b → a ≡ b
+  pub lowered : (input a b rest other : List ℕ) → IsLowered input a rest → IsLowered input b other → (a ≡ b) × (rest ≡ other)
   pub refused : (input : List ℕ) (why other : Reason) (at there : Place) → IsRefused input why at → IsRefused input other there → (why ≡ other) × (at ≡ there)
-  pub both : (input out : List ℕ) (why : Reason) (at : Place) → IsLowered input out → IsRefused input why at → ⊥
+  pub both : (input out rest : List ℕ) (why : Reason) (at : Place) → IsLowered input out rest → IsRefused input why at → ⊥
 
 -- A module that is accepted is its own lowering.
 abbrev pub AcceptedStay : Type 0
-AcceptedStay = (profile : Profile) (limits : Limits) (input : List ℕ) (records : List Raw) (a : IsAccepted profile limits input records) → IsLowered input a.bytes
+AcceptedStay = (profile : Profile) (limits : Limits) (input : List ℕ) (records : List Raw) (a : IsAccepted profile limits input records) → IsLowered input a.bytes a.rest
 
 -- A value is for an LEDATA among these records, and its location is in the data of it.
 pub record Fits (rs : List Raw) (p : Patch) : Type 0 where

@@ -24,7 +24,7 @@ cextdef = many named_external
 abbrev pub wrong_type : Bool → ℕ → List Reason
 wrong_type wide t = unless (nat_lt t (if wide then 3 else 2)) reason.LocationType
 
--- The part that a location type tells; the layout refuses every other type.
+-- The part of a location type; the layout refuses every other type.
 abbrev pub part_of : ℕ → Part
 part_of location = if location == 0 then parts.Byte else if location == 1 then parts.Word else parts.Dword
 

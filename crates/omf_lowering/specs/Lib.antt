@@ -3,6 +3,7 @@ pub mod Wide
 pub mod Externals
 pub mod Patches
 pub mod Lowering
+pub mod Files
 pub mod Laws
 pub mod Rows
 pub mod Inner

@@ -93,11 +93,10 @@ pub record BeginsWith (input : List ℕ) (rs : List Raw) (rest : List ℕ) : Typ
   pub sound : faults rs ≡ []
   pub no_end : All (λ r. IsTrue (not (is_end r.kind))) rs
 
--- An input begins with records up to a MODEND, none of which has a fault, and these are the bytes of the lowered ones.
-pub record IsLowered (input out : List ℕ) : Type 0 where
+-- An input begins with records up to a MODEND, none of which has a fault, these are the bytes of the lowered ones, and the rest follows.
+pub record IsLowered (input out rest : List ℕ) : Type 0 where
   pub before : List Raw
   pub end : Raw
-  pub rest : List ℕ
   pub begins : BeginsWith input before (raw_bytes end ++ rest)
   pub few : length before < item_limit
   pub last : IsWideRecord end

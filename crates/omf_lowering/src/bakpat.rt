@@ -24,7 +24,7 @@ struct Backpatches {
     items: Vec<At<Backpatch>>,
 }
 
-/// The part that the location type at a position tells, and the position after it.
+/// The part of the location type at a position, and the position after it.
 fn type_at(body: &[u8], wide: bool, pos: usize) -> Result<(Part, usize), LayoutFault>
     requires { (pos ≤ length body.now) × (length body.now ≤ 65534) }
     ensures read { read_to body.now result ≡ (type_reader wide).read (3 + pos) (drop pos body.now) }

@@ -6,6 +6,7 @@ mod cextdef;
 mod entries;
 mod fault;
 mod fields;
+mod file;
 pub mod laws;
 mod lowering;
 mod record;
@@ -13,6 +14,7 @@ pub mod rows;
 mod values;
 mod work;
 
-pub use fault::LoweringFault;
-pub use lowering::lowered;
+pub use fault::{FileFault, LoweringFault};
+pub use file::lowered_file;
+pub use lowering::{LoweredModule, lowered};
 pub use values::{Backpatch, NamedExternal, Patch, Piece};

@@ -63,16 +63,16 @@ fn refused(stop: Stop, number: u32, start: usize) -> LoweringFault
     }
 }
 
-/// The records of a module, up to its MODEND.
-fn read_all<'a>(alloc: Global, bytes: &'a [u8]) -> Result<Work<'a>, LoweringFault>
-    ensures ok { IfOk result (IsRead bytes.entry.now) }
+/// The records of a module, up to its MODEND, and the bytes after it.
+fn read_all<'a>(alloc: Global, bytes: &'a [u8]) -> Result<(Work<'a>, &'a [u8]), LoweringFault>
+    ensures ok { IfOk result (λ r. IsRead bytes.entry.now r.1.now r.0) }
     ensures err { IfErr result (IsLoweringFault bytes.entry.now) }
 {
     let mut work = Work::new(alloc);
     let mut rest = bytes;
     for number in 0..RECORD_LIMIT {
         match take_front(alloc, &mut work, rest) {
-            Ok((true, _after)) => return Ok(work),
+            Ok((true, after)) => return Ok((work, after)),
             Ok((false, after)) => rest = after,
             Err(stop) => return Err(refused(stop, number, bytes.len().saturating_sub(rest.len()))),
         }
@@ -87,24 +87,31 @@ fn read_all<'a>(alloc: Global, bytes: &'a [u8]) -> Result<Work<'a>, LoweringFaul
     })
 }
 
+/// A module of this profile, and the bytes after the lowered module in the input.
+#[derive(Drop)]
+pub struct LoweredModule<'a> {
+    pub bytes: Vec<u8>,
+    pub rest: &'a [u8],
+}
+
 /// The first module of `bytes`, lowered: as a module of this profile that means the same (TIS OMF 1.1). Each CEXTDEF becomes EXTDEFs with the names
 /// that it refers to, so that each external keeps its index. The values of each BAKPAT are added to the data of the LEDATAs before it, and the BAKPAT
 /// is left out. Every other record is kept as it is, also one that `check` refuses: so the result is for `check` to judge. A module that `check` accepts
-/// is its own lowering (law `accepted_stay`). Bytes after the module are not read.
+/// is its own lowering (law `accepted_stay`). The bytes after the module are not read, but returned.
 ///
 /// # Errors
 ///
 /// `Refused` for the first record with a fault; `Memory` if memory runs out.
-pub fn lowered(alloc: Global, bytes: &[u8]) -> Result<Vec<u8>, LoweringFault>
-    ensures ok { IfOk result (λ out. IsLowered bytes.now out.items) }
-    ensures err { IfErr result (IsLoweringFault bytes.now) }
+pub fn lowered<'a>(alloc: Global, bytes: &'a [u8]) -> Result<LoweredModule<'a>, LoweringFault>
+    ensures ok { IfOk result (λ l. IsLowered bytes.entry.now l.bytes.items l.rest.now) }
+    ensures err { IfErr result (IsLoweringFault bytes.entry.now) }
 {
-    let work = match read_all(alloc, bytes) {
-        Ok(work) => work,
+    let (work, rest) = match read_all(alloc, bytes) {
+        Ok(read) => read,
         Err(fault) => return Err(fault),
     };
     match work.finish(alloc) {
-        Ok(out) => Ok(out),
+        Ok(bytes) => Ok(LoweredModule { bytes, rest }),
         Err(_) => Err(LoweringFault::Memory),
     }
 }

@@ -54,11 +54,10 @@ GivesAll view (Ok x) read = read ≡ Ok (view x)
 GivesAll view (Err stop.Memory) read = ⊤
 GivesAll view (Err (stop.At e)) read = read ≡ Err e
 
--- The state after the records of an input up to a MODEND, none of which has a fault.
-pub record IsRead (input : List ℕ) (s : State) : Type 0 where
+-- The state after the records of an input up to a MODEND, none of which has a fault, and the rest of the input.
+pub record IsRead (input rest : List ℕ) (s : State) : Type 0 where
   pub before : List Raw
   pub end : Raw
-  pub rest : List ℕ
   pub begins : BeginsWith input before (raw_bytes end ++ rest)
   pub few : length before < item_limit
   pub last : IsWideRecord end

@@ -3,7 +3,7 @@
 use super::verdicts::ANY;
 use omf_check::check;
 use omf_frame::{Bytes, Place, Reason};
-use omf_lowering::{LoweringFault, lowered};
+use omf_lowering::{FileFault, LoweringFault, lowered, lowered_file};
 use omf_samples::{DATA, END, FIXUP, HEADER, NAMES, SEGMENT, joined};
 use std::alloc::Global;
 
@@ -75,7 +75,7 @@ fn lowers(alloc: Global, rows: Rows, wanted: Rows, may_fail: bool) -> bool {
         return may_fail;
     };
     match lowered(alloc, &bytes) {
-        Ok(out) => out.as_slice() == wanted.as_slice(),
+        Ok(module) => module.bytes.as_slice() == wanted.as_slice(),
         Err(LoweringFault::Memory) => may_fail,
         Err(LoweringFault::Refused { .. }) => false,
     }
@@ -178,10 +178,10 @@ fn is_accepted(alloc: Global, rows: Rows, externals: u16) -> bool {
     let Ok(bytes) = joined(alloc, rows) else {
         return false;
     };
-    let Ok(out) = lowered(alloc, &bytes) else {
+    let Ok(module) = lowered(alloc, &bytes) else {
         return false;
     };
-    match check(alloc, &mut Bytes::new(&out), ANY) {
+    match check(alloc, &mut Bytes::new(&module.bytes), ANY) {
         Ok(module) => module.externals() == externals,
         Err(_) => false,
     }
@@ -239,4 +239,103 @@ fn a_cut_module_is_refused(rt: HostRuntime) {
             ]
         )
     );
+}
+
+/// Records of a file's modules with padding, and the records of the lowered modules.
+static FILES: [(Rows, Rows); 4] = [
+    (&[HEADER, END], &[HEADER, END]),
+    (
+        &[
+            HEADER,
+            NAMES,
+            COMDAT_EXTERNALS,
+            END,
+            "00 00",
+            HEADER,
+            NAMES,
+            SEGMENT,
+            DATA,
+            WORD,
+            END,
+        ],
+        &[
+            HEADER,
+            NAMES,
+            EXTERNAL_T,
+            EXTERNAL_EMPTY,
+            END,
+            HEADER,
+            NAMES,
+            SEGMENT,
+            DATA_WORD,
+            END,
+        ],
+    ),
+    (&[HEADER, END, "1A"], &[HEADER, END]),
+    (
+        &[HEADER, END, HEADER, END, "00", HEADER, END, "1A 1A 1A"],
+        &[HEADER, END, HEADER, END, HEADER, END],
+    ),
+];
+
+/// Whether the modules of a file have these lowered; or a growth is refused, and it `may_fail`.
+fn file_lowers(alloc: Global, rows: Rows, wanted: Rows, may_fail: bool) -> bool {
+    let (Ok(bytes), Ok(wanted)) = (joined(alloc, rows), joined(alloc, wanted)) else {
+        return may_fail;
+    };
+    match lowered_file(alloc, &bytes) {
+        Ok(out) => out.as_slice() == wanted.as_slice(),
+        Err(FileFault::Memory) => may_fail,
+        Err(_) => false,
+    }
+}
+
+#[test]
+fn all_modules_of_a_file_are_lowered(rt: HostRuntime) {
+    for (rows, wanted) in &FILES {
+        assert!(rt; file_lowers(rt.alloc(), *rows, *wanted, false));
+    }
+}
+
+#[test]
+fn a_refused_growth_lowers_a_file_to_nothing_else(rt: HostRuntime) {
+    for (rows, wanted) in &FILES {
+        assert!(rt; file_lowers(rt.alloc(), *rows, *wanted, true));
+    }
+}
+
+/// Records of files, and their faults. Padding has one value; after other bytes no module is looked for.
+static FILE_FAULTS: [(Rows, FileFault); 3] = [
+    (
+        &[HEADER, END, "00", HEADER, COMDAT_EXTERNALS, END],
+        FileFault::Refused {
+            module: 1,
+            reason: Reason::UndefinedName,
+            place: Place {
+                number: 1,
+                start: 6,
+                within: 3,
+            },
+        },
+    ),
+    (&[HEADER, END, "00 1A"], FileFault::NoModule(12)),
+    (&[HEADER, END, "41", HEADER, END], FileFault::NoModule(11)),
+];
+
+/// Whether a file has this fault.
+fn has_fault(alloc: Global, rows: Rows, fault: FileFault) -> bool {
+    let Ok(bytes) = joined(alloc, rows) else {
+        return false;
+    };
+    match lowered_file(alloc, &bytes) {
+        Ok(_) => false,
+        Err(found) => found == fault,
+    }
+}
+
+#[test]
+fn a_fault_of_a_file_has_its_place(rt: HostRuntime) {
+    for (rows, fault) in &FILE_FAULTS {
+        assert!(rt; has_fault(rt.alloc(), *rows, *fault));
+    }
 }

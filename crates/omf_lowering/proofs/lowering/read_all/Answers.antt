@@ -11,7 +11,7 @@ returns-in-Ok-true-default-clause-ok c =
     let few : c.loop-number.number < item_limit = search rules in
     let ended : is_end (front_record rest).kind ≡ true = search rules in
     let e = c.in-Ok-true-default.ensures in
-    read_end c.args.bytes.now rest c.in-Ok-true-default._after.now c.loop-number.number c.loop-number.work c.take_front.new.work c.loop-number.invariant few e.spelled e.wide e.sound ended e.added
+    read_end c.args.bytes.now rest c.in-Ok-true-default.after.now c.loop-number.number c.loop-number.work c.take_front.new.work c.loop-number.invariant few e.spelled e.wide e.sound ended e.added
 
 pub returns-in-Err-clause-err : goal.returns-in-Err-clause-err
 returns-in-Err-clause-err c =

@@ -1,0 +1,108 @@
+//! The modules of a file, lowered.
+
+ghost use Rattle.std.specs.Prelude.{◌≡◌, ◌≤◌, length, IfErr, IfOk};
+ghost use Rattle.omf_lowering.specs.Files.{IsFileFault, IsLoweredFile, begins_module, unpadded, without};
+ghost use Rattle.omf_lowering.specs.Inner.FileState.{IsAppended, in_module};
+ghost use Rattle.omf_lowering.specs.Lowering.{IsLoweringFault};
+
+use crate::fault::{FileFault, LoweringFault};
+use crate::lowering::lowered;
+use std::alloc::Global;
+
+/// Bytes without those of this value at their front.
+fn without(bytes: &[u8], value: u8) -> &[u8]
+    ensures rest { result.now ≡ without value bytes.now }
+    ensures within { length result.now ≤ length bytes.now }
+{
+    let mut left = bytes;
+    while let Some((first, rest)) = left.split_first() {
+        if *first != value {
+            return left;
+        }
+        left = rest;
+    }
+    left
+}
+
+/// Bytes without the padding at their front: bytes of one value, 00H or 1AH.
+fn unpadded(bytes: &[u8]) -> &[u8]
+    ensures rest { result.now ≡ unpadded bytes.now }
+    ensures within { length result.now ≤ length bytes.now }
+{
+    match bytes {
+        [0x00, ..] => without(bytes, 0x00),
+        [0x1A, ..] => without(bytes, 0x1A),
+        _ => bytes,
+    }
+}
+
+/// Whether bytes begin with the type of a THEADR or LHEADR, and so with another module.
+fn begins_module(bytes: &[u8]) -> bool
+    ensures { result ≡ begins_module bytes.now }
+{
+    match bytes {
+        [kind, ..] => *kind == 0x80 || *kind == 0x82,
+        [] => false,
+    }
+}
+
+/// Lowers the first module of `bytes` and appends it. Returns what is left after the module and its padding.
+fn append_module<'a>(
+    alloc: Global,
+    out: &mut Vec<u8>,
+    bytes: &'a [u8],
+) -> Result<&'a [u8], LoweringFault>
+    ensures ok { IfOk result (λ left. IsAppended bytes.entry.now out.old.items out.new.items left.now) }
+    ensures err { IfErr result (IsLoweringFault bytes.entry.now) }
+{
+    let module = match lowered(alloc, bytes) {
+        Ok(module) => module,
+        Err(fault) => return Err(fault),
+    };
+    match out.extend_from_slice(&module.bytes) {
+        Ok(()) => Ok(unpadded(module.rest)),
+        Err(_) => Err(LoweringFault::Memory),
+    }
+}
+
+/// The fault of the module with this number in its file.
+fn in_module(fault: LoweringFault, number: u32) -> FileFault
+    ensures { result ≡ in_module fault number }
+{
+    match fault {
+        LoweringFault::Memory => FileFault::Memory,
+        LoweringFault::Refused { reason, place } => FileFault::Refused {
+            module: number,
+            reason,
+            place,
+        },
+    }
+}
+
+/// The modules of a file, each lowered as by `lowered`, one after another. The padding after a module is left out: bytes of one value, 00H or 1AH.
+///
+/// # Errors
+///
+/// `Refused` for the first module with a fault; `NoModule` if something else follows the modules and their padding; `Memory` if memory runs out, or if
+/// another module follows 4,294,967,295 modules.
+pub fn lowered_file(alloc: Global, bytes: &[u8]) -> Result<Vec<u8>, FileFault>
+    ensures ok { IfOk result (λ out. IsLoweredFile bytes.now out.items) }
+    ensures err { IfErr result (IsFileFault bytes.now) }
+{
+    let mut out = Vec::new(alloc);
+    let mut left = bytes;
+    for number in 0..u32::MAX {
+        match append_module(alloc, &mut out, left) {
+            Ok(rest) => left = rest,
+            Err(fault) => return Err(in_module(fault, number)),
+        }
+        if left.is_empty() {
+            return Ok(out);
+        }
+        if !begins_module(left) {
+            let at = bytes.len().saturating_sub(left.len());
+            return Err(FileFault::NoModule(at as u64));
+        }
+    }
+    Err(FileFault::Memory)
+}
