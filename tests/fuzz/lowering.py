@@ -2,6 +2,7 @@
 import functools
 import re
 
+import libraries
 import wide
 from changes import changed_module
 from libraries import record
@@ -21,13 +22,14 @@ class Lower:
         self.verdict = functools.lru_cache(4096)(lambda bytes_: run([self.omf, "check"], bytes_))
 
     def inputs(self):
-        """A made module, perhaps changed, or with bytes after it; or any file, changed."""
+        """A made module, perhaps changed, or with padding and another or any file after it; or any file, changed."""
         random_, kind = self.random, self.random.randrange(8)
         made = b"".join(wide.Made(random_).records)
         if kind < 3:
             return [changed_module(random_, [made, made, made, *random_.sample(self.seeds, 3)])]
         if kind == 3:
-            return [made + random_.choice(self.seeds)]
+            other = random_.choice((b"".join(wide.Made(random_).records), random_.choice(self.seeds)))
+            return [made + random_.choice((b"", b"\0", b"\x1A" * 40, b"\0\x1A")) + other]
         return [made]
 
     def judge(self, one):
@@ -43,12 +45,13 @@ class Lower:
         (folder / "wide.obj").write_bytes(bytes_)
         path.unlink(missing_ok=True)
         status, line = run([self.link, "lower", "-o", "out.obj", "wide.obj"], folder=folder)
-        wanted, made = wide.lowered(bytes_, self.judge), path.read_bytes() if path.exists() else None
+        wanted, made = wide.lowered(bytes_, "wide.obj", self.judge), path.read_bytes() if path.exists() else None
         if isinstance(wanted, bytes):
             promised((status, line, made) == (0, b"", wanted), f"lower: status {status}, {line[:200]}, not the bytes of the reader")
             self.accepted += 1
         else:
             promised((status, line, made) == (1, wanted.encode(), None), f"lower: status {status}, {line[:200]}, not {wanted}")
-        if run([self.omf, "check"], bytes_)[0] == 0:
-            promised(status == 0 and bytes_.startswith(made), "lower: an accepted module is changed")
+        if status == 0 and run([self.omf, "check"], bytes_)[0] == 0:
+            size = libraries.module_length(bytes_)
+            promised(made[:size] == bytes_[:size], "lower: an accepted module is changed")
         self.compared += 1

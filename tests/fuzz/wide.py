@@ -1,10 +1,13 @@
 """Modules with CEXTDEFs and BAKPATs: made at random, and lowered by the standard's text and this profile's rule, apart from the crates.
 
 tests/lowered.py has a reader too, of made modules alone: this one finds the faults of any bytes."""
+import re
+
 from libraries import record
 
 NAMES, LOCAL_NAMES, EXTERNALS, COMDAT_EXTERNALS, DATA, REPEATED, BACKPATCH = 0x96, 0xCA, 0x8C, 0xBC, 0xA0, 0xA2, 0xB2
-ENDS, FRONT = (0x8A, 0x8B), 3
+HEADERS, ENDS, FRONT = (b"\x80", b"\x82"), (0x8A, 0x8B), 3
+PADDING = re.compile(rb"\0+|\x1A+|")
 # The bytes of a location of a BAKPAT, by its type.
 SIZES = {0: 1, 1: 2, 2: 4}
 # The types of the standard, and B5H (an LEXTDEF of this profile).
@@ -227,8 +230,12 @@ class Lowered:
         raise Fault("28 NoDataRecord", within)
 
 
-def lowered(bytes_, judge=lambda one: None):
-    """The bytes of the lowered module; or the line of the first fault, as text."""
+class Refused(Exception):
+    """A module is refused, with this line."""
+
+
+def lowered_module(bytes_, judge):
+    """The bytes of the first module, lowered, and how many it has in the file."""
     made, at, number = Lowered(judge), 0, 0
     try:
         while not made.records or made.records[-1][0] not in ENDS:
@@ -236,5 +243,19 @@ def lowered(bytes_, judge=lambda one: None):
             made.take(one)
             at, number = at + len(one), number + 1
     except Fault as fault:
-        return f"refused {fault.reason} record {number} at {at} within {fault.within}\n"
-    return b"".join(made.records)
+        raise Refused(f"refused {fault.reason} record {number} at {at} within {fault.within}\n") from fault
+    return b"".join(made.records), at
+
+
+def lowered(bytes_, file, judge=lambda one: None):
+    """The bytes of the lowered modules of a file, without the padding after each; or the line of the first fault, as text."""
+    out, at, number = b"", 0, 0
+    try:
+        while number == 0 or bytes_[at:at + 1] in HEADERS:
+            number += 1
+            own, size = lowered_module(bytes_[at:], judge)
+            out, at = out + own, at + size
+            at += len(PADDING.match(bytes_[at:])[0])
+    except Refused as fault:
+        return f'file "{file}" module {number} {fault}'
+    return f'file "{file}" at {at}: neither a module nor padding\n' if at < len(bytes_) else out
