@@ -19,6 +19,6 @@ pub use group::{lower, lowest_member, real_group};
 pub use placement::Placement;
 pub use several::{
     Base, Definer, DeriveFault, Given, Linkage, Source, WeakPair, derive, derive_linked,
-    weak_pairs, with_weak, with_weak_linked,
+    publics_of, weak_pairs, with_weak, with_weak_linked,
 };
 pub use text::{Draft, parse_placement};

@@ -73,7 +73,7 @@ pub(crate) fn base_of(
 
 /// The publics of a record, with their base: of an LPUBDEF if `local` is set, of a PUBDEF if not. `None` for any other record, which is
 /// not decoded, and if the placement has no entry for the base.
-pub(crate) fn publics_of<'a>(
+pub fn publics_of<'a>(
     local: bool,
     rec: &Undecoded<'a>,
     placement: &Placement,
