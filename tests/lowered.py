@@ -1,8 +1,8 @@
 #!/usr/bin/env python3
 """Lowers generated modules, and compares with a reader of its own, by the standard's text: lowered.py [--first SEED] [--count N]
 
-Each module has LNAMES and LLNAMES, CEXTDEFs with names of these, LEDATAs of both widths, and BAKPATs that add values to their data; some files have several
-modules, with padding after them. What `omf-link lower` writes must be the bytes that this reader gives; where a record is at fault, it must name the file,
+Each module has LNAMES and LLNAMES, CEXTDEFs with names of these, LEDATAs of both widths, BAKPATs that add values to their data, and COMDATs; some files
+have several modules, with padding after them. What `omf-link lower` writes must be the bytes that this reader gives; where a record is at fault, it must name the file,
 the module and the record, and write nothing.
 OMF_LINK names the program (omf-link, if not set). The status is 1 where a module differs."""
 import argparse
@@ -16,6 +16,8 @@ import tempfile
 
 LINK = os.environ.get("OMF_LINK") or "omf-link"
 NAMES, LOCAL_NAMES, EXTERNALS, COMDAT_EXTERNALS, DATA, BACKPATCH = 0x96, 0xCA, 0x8C, 0xBC, 0xA0, 0xB2
+SEGMENT, GROUP, REPEATED, COMDAT, FIXUPS = 0x98, 0x9A, 0xA2, 0xC2, 0x9C
+CONTINUED, ITERATED, LOCAL = 1, 2, 4
 SIZES = {0: 1, 1: 2, 2: 4}
 MOST_FAILED = 10
 
@@ -39,18 +41,29 @@ class Made:
     def __init__(self, source):
         self.random = source
         self.lengths = [self.random.randint(20, 60) for _ in range(self.random.randint(1, 3))]
+        self.groups = 0
         names = [b""] + [bytes(self.random.choices(b"abcXYZ_", k=self.random.randint(1, 6))) for _ in range(self.random.randint(2, 9))]
+        names += self.random.sample([b"CODE", b"FAR_DATA", b"", b"f1", b"f2"], self.random.randint(0, 5))
         first = self.random.randint(1, len(names))
         self.count, self.later = first, names[first:]
         self.records = [record(0x80, named(b"m")), record(NAMES, b"".join(map(named, names[:first])))]
-        self.records += [record(0x98, b"\x28" + little(it, 2) + b"\x01\x01\x01") for it in self.lengths]
+        self.records += [self.segdef(it) for it in self.lengths]
+        while self.random.random() < 0.3:
+            self.groups += 1
+            self.records.append(record(GROUP, b"\x01\xFF\x01"))
         for _ in range(self.random.randint(1, 10)):
             self.add_names()
-            self.random.choices([self.add_data, self.add_externals, self.add_patches, self.add_comment], [7, 5, 7, 1])[0]()
+            self.random.choices([self.add_data, self.add_externals, self.add_patches, self.add_comment, self.add_comdats], [7, 5, 3, 1, 8])[0]()
+            if self.random.random() < 0.01:
+                self.records.append(self.segdef(5))
         self.records.append(record(0x8A, b"\0"))
 
     def index(self, number):
         return bytes([number]) if number < 128 and self.random.random() < 0.8 else bytes([0x80 | number >> 8, number & 255])
+
+    def segdef(self, length):
+        attribute = self.random.choice([0x28, 0x48, 0x69, 0x30, 0xBD]) if self.random.random() < 0.95 else self.random.choice([0x20, 0x54, 0x78])
+        return record(SEGMENT, bytes([attribute]) + little(length, 2) + b"\x01\x01\x01")
 
     def segment(self):
         number = self.random.randint(1, len(self.lengths))
@@ -78,12 +91,70 @@ class Made:
                  for _ in range(self.random.randint(1, 3))]
         self.records.append(record(BACKPATCH + is_wide, self.index(segment) + bytes([kind]) + b"".join(items)))
 
+    def add_comdats(self):
+        """COMDATs of one name: a first one, and perhaps others that continue it, in any order of their offsets."""
+        name = self.random.randint(1, self.count)
+        base = self.index(self.random.randint(0, self.groups)) + self.index(self.random.randint(1, len(self.lengths)))
+        if self.random.random() < 0.02:
+            base = self.random.choice([b"\x00\x00\x34\x12", b"\x09\x01", b"\x00\x09"])
+        allocation = self.random.choice([0, 0, 0, 1, 2, 3, 4])
+        flags = self.random.choice([0, 0, LOCAL, 8]) if self.random.random() < 0.97 else CONTINUED
+        align = self.random.randint(0, 5) if self.random.random() < 0.98 else self.random.choice([6, 7])
+        for _ in range(self.random.choice([1, 1, 1, 2, 3])):
+            wide, iterated = self.random.random() < 0.4, self.random.random() < 0.3
+            width = 4 if wide else 2
+            data = self.blocks(width, 2) if iterated else self.random.randbytes(self.random.randint(0, 12))
+            front = bytes([flags | ITERATED * iterated, self.random.randint(0, 3) << 4 | allocation, align])
+            front += little(self.random.choices([0, self.random.randint(0, 40), 0xFFFFFFFB], [20, 20, 1])[0] if wide else self.random.choice([0, self.random.randint(0, 40)]), width)
+            self.records.append(record(COMDAT + wide, front + self.index(0) + (base if allocation == 0 else b"") + self.index(name) + data))
+            if not iterated and len(data) > 2 and self.random.random() < 0.4:
+                self.records.append(record(FIXUPS, b"\xC4\x00\x04\x01\x01"))
+            flags = flags & LOCAL | CONTINUED
+
+    def blocks(self, width, most):
+        text = b""
+        for _ in range(self.random.randint(1, 2)):
+            if most and self.random.random() < 0.4:
+                inner = [self.blocks(width, 0) for _ in range(self.random.randint(1, 2))]
+                count, content = sum(self.count_of(it, width) for it in inner), b"".join(inner)
+            else:
+                content = self.random.randbytes(self.random.randint(0, 4))
+                count, content = 0, bytes([len(content)]) + content
+            text += little(self.random.randint(0, 5), width) + little(count, 2) + content
+        return text
+
+    @staticmethod
+    def count_of(text, width):
+        """The number of blocks in a text of blocks without others in them."""
+        at = count = 0
+        while at < len(text):
+            at, count = at + width + 3 + text[at + width + 2], count + 1
+        return count
+
     def add_comment(self):
         self.records.append(record(0x88, b"\0\0hi"))
 
 
 class Fault(Exception):
     """The record with this number is at fault."""
+
+
+def shortest(index):
+    return bytes([index]) if index < 128 else bytes([0x80 | index >> 8, index & 255])
+
+
+def expanded(contents, at, count, width):
+    """The size of this many blocks from a position on, or of all to the end, and the position after them."""
+    size = 0
+    while count != 0 and at < len(contents):
+        times, inner = (int.from_bytes(contents[it:it + n], "little") for it, n in ((at, width), (at + width, 2)))
+        at += width + 2
+        if inner:
+            one, at = expanded(contents, at, inner, width)
+        else:
+            one, at = contents[at], at + 1 + contents[at]
+        size, count = size + times * one, count - 1
+    return size, at
 
 
 def index_at(contents, at):
@@ -96,15 +167,22 @@ class Lowered:
 
     def __init__(self, records):
         self.names, self.records, self.data = [], [], []
+        self.segments, self.groups, self.comdats = [], 0, {}
         for number, one in enumerate(records):
             kind, contents = one[0], one[3:-1]
             if kind == COMDAT_EXTERNALS:
                 self.take_externals(number, contents)
             elif kind & 0xFE == BACKPATCH:
                 self.take_patches(number, contents, 4 if kind & 1 else 2)
+            elif kind & 0xFE == COMDAT:
+                self.take_comdat(number, kind & 1, contents)
+            elif kind & 0xFE == SEGMENT and self.comdats:
+                raise Fault(number)
             else:
                 self.take(kind, contents)
                 self.records.append(one)
+        for _, at, attribute, end, indices in self.comdats.values():
+            self.records[at] = record(SEGMENT + 1, bytes([attribute]) + little(end, 4) + indices)
 
     def take(self, kind, contents):
         if kind in (NAMES, LOCAL_NAMES):
@@ -112,10 +190,55 @@ class Lowered:
             while at < len(contents):
                 self.names.append(contents[at + 1:at + 1 + contents[at]])
                 at += 1 + contents[at]
+        elif kind & 0xFE == SEGMENT:
+            self.segments.append((contents[0], contents[3 + 2 * (kind & 1):]))
+        elif kind == GROUP:
+            self.groups += 1
         elif kind & 0xFE == DATA:
             segment, at = index_at(contents, 0)
             end = at + (4 if kind & 1 else 2)
             self.data.append((segment, int.from_bytes(contents[at:end], "little"), len(self.records), contents[:end], bytearray(contents[end:])))
+
+    def take_comdat(self, number, odd, contents):
+        width = 4 if odd else 2
+        flags, attributes, align = contents[:3]
+        offset = int.from_bytes(contents[3:3 + width], "little")
+        kind, at = index_at(contents, 3 + width)
+        group, pattern = 0, None
+        if attributes & 15 == 0:
+            group, at = index_at(contents, at)
+            segment, at = index_at(contents, at)
+            if not 1 <= segment <= len(self.segments) or group > self.groups or self.segments[segment - 1][0] >> 2 & 7 not in (2, 4, 7):
+                raise Fault(number)
+            pattern = self.segments[segment - 1]
+        name, at = index_at(contents, at)
+        data = contents[at:]
+        end = offset + (expanded(data, 0, -1, width)[0] if flags & ITERATED else len(data))
+        if not 1 <= name <= len(self.names) or attributes >> 4 > 3 or attributes & 15 > 4 or align > 5 or end >= 1 << 32:
+            raise Fault(number)
+        text = self.names[name - 1]
+        if bool(flags & CONTINUED) != (text in self.comdats):
+            raise Fault(number)
+        if not flags & CONTINUED:
+            self.add_comdat(text, align, pattern or self.allocated(name, attributes & 15))
+            body = shortest(group) + shortest(self.comdats[text][0]) + named(text) + bytes(4) + shortest(kind)
+            self.records.append(record(0xB7 if flags & LOCAL else 0x91, body))
+        self.comdats[text][3] = max(self.comdats[text][3], end)
+        front = shortest(self.comdats[text][0]) + little(offset, width)
+        if not flags & ITERATED:
+            self.data.append((self.comdats[text][0], offset, len(self.records), front, bytearray(data)))
+        self.records.append(record((REPEATED if flags & ITERATED else DATA) + odd, front + data))
+
+    def allocated(self, name, allocation):
+        """The attributes and the indices of the segment of a COMDAT without a base."""
+        kind = self.names.index(it) + 1 if (it := b"CODE" if allocation & 1 else b"FAR_DATA") in self.names else name
+        overlay = self.names.index(b"") + 1 if b"" in self.names else name
+        return 0x69 if allocation > 2 else 0x68, shortest(name) + shortest(kind) + shortest(overlay)
+
+    def add_comdat(self, text, align, pattern):
+        attribute = (align << 5 | pattern[0] & 0x1D) if align else pattern[0] & 0xFD
+        self.comdats[text] = [len(self.segments) + len(self.comdats) + 1, len(self.records), attribute, 0, pattern[1]]
+        self.records.append(b"")
 
     def take_externals(self, number, contents):
         at = 0

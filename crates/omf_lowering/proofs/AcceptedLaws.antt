@@ -1,19 +1,22 @@
 -- An accepted module is its own lowering.
 use Rattle.std.proofs.Common.{◌≡◌, ℕ, ◌+◌, ◌<◌, inl, inr, Bool, true, false, cond, List, [], ◌∷◌, ◌++◌, refl, sym, ap, subst, ◌∙◌, length, append_assoc, append-nil, arith, None, Result, Ok, Err}
-use Rattle.std.specs.Prelude.{IsTrue, not, All, flat_map, ◌&&◌, ◌==◌}
+use Rattle.std.specs.Prelude.{IsTrue, not, All, flat_map, fold, Option, Some, ◌&&◌, ◌==◌}
 use Rattle.std.specs.List.{list_all, list_any}
 use Rattle.std.proofs.lemmas.Bool.{eqb-true, eq-eqb, or_cases, or_left, or_right, ltb-true}
 use Rattle.std.proofs.lemmas.Grind.{flat_map-append}
-use Rattle.std.proofs.lemmas.List.Elements.{All-head, All-tail, All-cons, All-nil}
+use Rattle.std.proofs.lemmas.List.Elements.{All-append, All-head, All-tail, All-cons, All-nil}
 use Rattle.omf_frame.specs.Bytes.{with_before}
 use Rattle.omf_frame.specs.Fault.{Fault}
 use Rattle.omf_frame.specs.Framing.{Raw, IsRecord, is_taken, raw_bytes}
+use Rattle.omf_frame.proofs.ModuleLaws.{all_one}
 use Rattle.omf_frame.specs.Types.{is_treated, row, types_treated}
 use Rattle.omf_frame.specs.declared.kinds.Treatment.TheVariants.{Read, Carried}
 use Rattle.omf_records.specs.Inner.LawProofs.{are_typed}
 use Rattle.omf_records.specs.Inner.Reading.{fault_list, read_body, typed}
 use Rattle.omf_records.specs.Records.{IsTyped}
 use Rattle.omf_frame.specs.Fault.{Rule}
+use Rattle.omf_frame.specs.declared.fault.Reason.TheVariants as reason
+use Rattle.omf_records.specs.Layout.{fault}
 use Rattle.omf_records.specs.Values.{Contents, Fixups}
 use Rattle.omf_image.specs.declared.limits.Limits.{Limits}
 use Rattle.omf_check.specs.Rules.{item_limit, item_places, room}
@@ -22,8 +25,8 @@ use Rattle.omf_check.specs.WellFormed.{IsAccepted, recs}
 use Rattle.omf_check.specs.declared.profile.Profile.{Profile}
 use Rattle.omf_check.proofs.Moving.{item_more}
 use Rattle.omf_check.proofs.WellLaws.{well-read}
-use Rattle.omf_lowering.specs.Externals.{names_of}
-use Rattle.omf_lowering.specs.Lowering.{IsLowered, IsWideRecord, fault_of, faults_in, is_bakpat, is_cextdef, lowered_records, lowering_fault, patches_in, pieces, replaced, replacement}
+use Rattle.omf_lowering.specs.Comdats.{given_by, made, new_of}
+use Rattle.omf_lowering.specs.Lowering.{Before, IsLowered, IsWideRecord, comdat_of, fault_of, faults_in, growths, growths_in, is_bakpat, is_cextdef, is_comdat, is_late, is_segdef, lowered_records, lowering_fault, patches_in, pieces, replaced, replacement, so_far, start, up_to_next}
 use Rattle.omf_lowering.specs.Patches.{patched}
 use Rattle.omf_lowering.specs.Wide.{is_known, is_right}
 
@@ -41,20 +44,22 @@ by_list test (n ∷ ks) k all one =
     both true b e = (refl, e)
     both false b e = absurd cc
 
--- a type that this profile reads or carries is known, and neither a CEXTDEF nor a BAKPAT
+-- a type that this profile reads or carries is known, and neither a CEXTDEF nor a BAKPAT nor a COMDAT
 abbrev is_plain : ℕ → Bool
-is_plain k = is_known k && (not (is_cextdef k) && not (is_bakpat k))
+is_plain k = is_known k && (not (is_cextdef k) && (not (is_bakpat k) && not (is_comdat k)))
 
 record Plain (k : ℕ) : Type 0 where
   known : is_known k ≡ true
   cextdef : is_cextdef k ≡ false
   bakpat : is_bakpat k ≡ false
+  comdat : is_comdat k ≡ false
 
-plain_by : (a b c : Bool) → (a && (not b && not c)) ≡ true → (a ≡ true) × (b ≡ false) × (c ≡ false)
-plain_by true false false e = (refl, refl, refl)
-plain_by true false true e = absurd cc
-plain_by true true c e = absurd cc
-plain_by false b c e = absurd cc
+plain_by : (a b c d : Bool) → (a && (not b && (not c && not d))) ≡ true → (a ≡ true) × (b ≡ false) × (c ≡ false) × (d ≡ false)
+plain_by true false false false e = (refl, refl, refl, refl)
+plain_by true false false true e = absurd cc
+plain_by true false true d e = absurd cc
+plain_by true true c d e = absurd cc
+plain_by false b c d e = absurd cc
 
 plain_is : (k : ℕ) → is_taken k ≡ true → is_plain k ≡ true
 plain_is k e =
@@ -64,12 +69,17 @@ plain_is k e =
     ]
 
 plain : (k : ℕ) → is_taken k ≡ true → Plain k
-plain k e = let p = plain_by (is_known k) (is_cextdef k) (is_bakpat k) (plain_is k e) in record { known = p.0; cextdef = p.1; bakpat = p.2 }
+plain k e = let p = plain_by (is_known k) (is_cextdef k) (is_bakpat k) (is_comdat k) (plain_is k e) in record { known = p.0; cextdef = p.1; bakpat = p.2; comdat = p.3 }
 
-third : {A : Type 0} (a b : Bool) (x y z : A) → a ≡ false → b ≡ false → cond a x (cond b y z) ≡ z
-third false false x y z e f = refl
-third true b x y z e f = absurd cc
-third false true x y z e f = absurd cc
+fourth : {A : Type 0} (a b c : Bool) (x y z w : A) → a ≡ false → b ≡ false → c ≡ false → cond a x (cond b y (cond c z w)) ≡ w
+fourth false false false x y z w e f g = refl
+fourth true b c x y z w e f g = absurd cc
+fourth false true c x y z w e f g = absurd cc
+fourth false false true x y z w e f g = absurd cc
+
+and_never : (b : Bool) → (b && false) ≡ false
+and_never true = refl
+and_never false = refl
 
 second : {A : Type 0} (a : Bool) (x y : A) → a ≡ false → cond a x y ≡ y
 second false x y e = refl
@@ -85,25 +95,40 @@ IsTaken r = IsTrue (is_taken r.kind)
 abbrev IsSpelled : Raw → Type 0
 IsSpelled r = IsTyped (typed r) r.body
 
-sound_one : (before : List Raw) (r : Raw) → IsTaken r → IsSpelled r → lowering_fault before r ≡ None
-sound_one before r taken spelled =
+kept_one : (b : Before) (r : Raw) → IsTaken r → replacement b r ≡ r ∷ []
+kept_one b r taken =
     let p = plain r.kind taken in
-    third (is_cextdef r.kind) (is_bakpat r.kind) _ _ (cond (is_taken r.kind) (fault_of (read_body r.kind r.body)) None) p.cextdef p.bakpat
-    ∙ ap (λ b. cond b (fault_of (read_body r.kind r.body)) None) taken
+    fourth (is_cextdef r.kind) (is_bakpat r.kind) (is_comdat r.kind) _ [] (given_by (made r.kind) (comdat_of b r)) (r ∷ []) p.cextdef p.bakpat p.comdat
+
+kept_all : (b : Before) (xs : List Raw) → All IsTaken xs → (fold up_to_next b xs).records ≡ b.records ++ xs
+kept_all b [] taken = sym (append-nil b.records)
+kept_all b (x ∷ xs) taken =
+    kept_all (up_to_next b x) xs (All-tail IsTaken x xs taken)
+    ∙ ap (λ l. (b.records ++ l) ++ xs) (kept_one b x (All-head IsTaken x xs taken)) ∙ append_assoc b.records (x ∷ []) xs
+
+no_instances : (b : Before) (xs : List Raw) → All IsTaken xs → (fold up_to_next b xs).instances ≡ b.instances
+no_instances b [] taken = refl
+no_instances b (x ∷ xs) taken =
+    no_instances (up_to_next b x) xs (All-tail IsTaken x xs taken)
+    ∙ ap (λ l. b.instances ++ l) (second (is_comdat x.kind) (given_by new_of (comdat_of b x)) [] (plain x.kind (All-head IsTaken x xs taken)).comdat) ∙ append-nil b.instances
+
+sound_one : (before : List Raw) (r : Raw) → All IsTaken before → IsTaken r → IsSpelled r → lowering_fault before r ≡ None
+sound_one before r earlier taken spelled =
+    let p = plain r.kind taken in
+    let b = so_far before in
+    let own : Option Fault = cond (is_taken r.kind) (fault_of (read_body r.kind r.body)) None in
+    let late : is_late b.instances r.kind ≡ false = ap (λ i. is_late i r.kind) (no_instances start before earlier) ∙ and_never (is_segdef r.kind) in
+    fourth (is_cextdef r.kind) (is_bakpat r.kind) (is_comdat r.kind) _ _ (fault_of (comdat_of b r)) (cond (is_late b.instances r.kind) (Some (fault 0 reason.UnsupportedType)) own) p.cextdef p.bakpat p.comdat
+    ∙ second (is_late b.instances r.kind) (Some (fault 0 reason.UnsupportedType)) own late
+    ∙ ap (λ t. cond t (fault_of (read_body r.kind r.body)) None) taken
     ∙ unfaulty (read_body r.kind r.body) (are_typed r (typed r) refl spelled).1
 
-sound_all : (before xs : List Raw) → All IsTaken xs → All IsSpelled xs → with_before (λ b r. faults_in (lowering_fault b r)) before xs ≡ []
-sound_all before [] taken spelled = refl
-sound_all before (x ∷ xs) taken spelled =
-    ap (λ f. faults_in f ++ with_before (λ b r. faults_in (lowering_fault b r)) (before ++ x ∷ []) xs) (sound_one before x (All-head IsTaken x xs taken) (All-head IsSpelled x xs spelled))
-    ∙ sound_all (before ++ x ∷ []) xs (All-tail IsTaken x xs taken) (All-tail IsSpelled x xs spelled)
-
-kept_all : (before xs : List Raw) → All IsTaken xs → with_before (λ b r. replacement (names_of b) r) before xs ≡ xs
-kept_all before [] taken = refl
-kept_all before (x ∷ xs) taken =
-    let p = plain x.kind (All-head IsTaken x xs taken) in
-    ap (λ l. l ++ with_before (λ b r. replacement (names_of b) r) (before ++ x ∷ []) xs) (third (is_cextdef x.kind) (is_bakpat x.kind) _ _ (x ∷ []) p.cextdef p.bakpat)
-    ∙ ap (λ l. x ∷ l) (kept_all (before ++ x ∷ []) xs (All-tail IsTaken x xs taken))
+sound_all : (before xs : List Raw) → All IsTaken before → All IsTaken xs → All IsSpelled xs → with_before (λ b r. faults_in (lowering_fault b r)) before xs ≡ []
+sound_all before [] earlier taken spelled = refl
+sound_all before (x ∷ xs) earlier taken spelled =
+    let first : IsTaken x = All-head IsTaken x xs taken in
+    ap (λ f. faults_in f ++ with_before (λ b r. faults_in (lowering_fault b r)) (before ++ x ∷ []) xs) (sound_one before x earlier first (All-head IsSpelled x xs spelled))
+    ∙ sound_all (before ++ x ∷ []) xs (All-append IsTaken before (x ∷ []) earlier (all_one IsTaken x first)) (All-tail IsTaken x xs taken) (All-tail IsSpelled x xs spelled)
 
 no_patches : (before xs : List Raw) → All IsTaken xs → with_before (λ b r. patches_in (pieces b) r) before xs ≡ []
 no_patches before [] taken = refl
@@ -112,8 +137,17 @@ no_patches before (x ∷ xs) taken =
     let none : patches_in (pieces before) x ≡ [] = second (is_bakpat x.kind) _ [] p.bakpat in
     ap (λ l. l ++ with_before (λ b r. patches_in (pieces b) r) (before ++ x ∷ []) xs) none ∙ no_patches (before ++ x ∷ []) xs (All-tail IsTaken x xs taken)
 
+no_growths : (before xs : List Raw) → All IsTaken xs → with_before (λ b r. growths_in (so_far b) (pieces b) r) before xs ≡ []
+no_growths before [] taken = refl
+no_growths before (x ∷ xs) taken =
+    let p = plain x.kind (All-head IsTaken x xs taken) in
+    let none : growths_in (so_far before) (pieces before) x ≡ [] = second (is_comdat x.kind) _ [] p.comdat in
+    ap (λ l. l ++ with_before (λ b r. growths_in (so_far b) (pieces b) r) (before ++ x ∷ []) xs) none ∙ no_growths (before ++ x ∷ []) xs (All-tail IsTaken x xs taken)
+
 same_records : (xs : List Raw) → All IsTaken xs → lowered_records xs ≡ xs
-same_records xs taken = ap (λ ps. patched (replaced xs) ps) (no_patches [] xs taken) ∙ kept_all [] xs taken
+same_records xs taken =
+    ap (λ ps. patched (patched (replaced xs) ps) (growths xs)) (no_patches [] xs taken)
+    ∙ ap (λ gs. patched (replaced xs) gs) (no_growths [] xs taken) ∙ kept_all start xs taken
 
 right_one : (r : Raw) → IsRecord r → IsTrue (is_right r)
 right_one r (short, inl zero_sum) = or_left (r.checksum == 0) _ (eq-eqb r.checksum 0 zero_sum)
@@ -168,12 +202,12 @@ accepted profile limits input records a =
         spelled = a.spelled ∙ ap (λ b. b ++ a.rest) (bytes ∙ parts) ∙ append_assoc (flat_map raw_bytes front) (raw_bytes end) a.rest;
         count = omega arith;
         each = wide_all front (All-front IsRecord front (end ∷ []) each) (All-front IsTaken front (end ∷ []) taken);
-        sound = sound_all [] front (All-front IsTaken front (end ∷ []) taken) (All-front IsSpelled front (end ∷ []) spelled);
+        sound = sound_all [] front (All-nil IsTaken) (All-front IsTaken front (end ∷ []) taken) (All-front IsSpelled front (end ∷ []) spelled);
         no_end = l.4;
       };
       few = few;
       last = wide_one end (All-last IsRecord front end each) (All-last IsTaken front end taken);
       ends = l.3;
-      sound = sound_one front end (All-last IsTaken front end taken) (All-last IsSpelled front end spelled);
+      sound = sound_one front end (All-front IsTaken front (end ∷ []) taken) (All-last IsTaken front end taken) (All-last IsSpelled front end spelled);
       lowered = bytes ∙ ap (flat_map raw_bytes) (sym (same_records (front ++ end ∷ []) taken));
     }

@@ -11,15 +11,15 @@ use Rattle.omf_records.specs.Inner.Reading.{typed}
 use Rattle.omf_records.specs.Inner.Reads.{and_then, or_none}
 use Rattle.omf_records.specs.Inner.Steps.{and_then_ok}
 use Rattle.omf_records.specs.Values.{At, Contents, DataItem, Header, Comment, Names, Segment, Group, Externs, Publics, Communals, Plain, Iterated, Fixups, ModEnd, Carried, is_wide}
-use Rattle.omf_lowering.specs.Externals.{all_of, names_of}
+use Rattle.omf_lowering.specs.Externals.{all_of}
 use Rattle.omf_lowering.specs.Inner.Readers.{bakpat_whole}
 use Rattle.omf_lowering.specs.Laws.{Fits, ValuesFit}
-use Rattle.omf_lowering.specs.Lowering.{is_bakpat, patches, patches_in, pieces, replaced, replacement}
+use Rattle.omf_lowering.specs.Lowering.{is_bakpat, patches, patches_in, pieces, replaced, replacement, so_far}
 use Rattle.omf_lowering.specs.Patches.{has_all, has_byte_of, holder, patch_at, patch_by, patches_by, piece_in, piece_of, pieces_from, placed, size_of}
 use Rattle.omf_lowering.specs.declared.values.Backpatch.{Backpatch}
 use Rattle.omf_lowering.specs.declared.values.Patch.{Patch}
 use Rattle.omf_lowering.specs.declared.values.Piece.{Piece}
-use Rattle.omf_lowering.proofs.StateLaws.{with_before-more}
+use Rattle.omf_lowering.proofs.StateLaws.{replaced-more, with_before-more}
 
 -- Data of an LEDATA are those of its record.
 record Holds (rs : List Raw) (first : ℕ) (q : Piece) : Type 0 where
@@ -168,12 +168,12 @@ fits_all_still rs more (p ∷ ps) h = All-cons (Fits (rs ++ more)) p ps (fits_st
 fits_from : (before xs : List Raw) → All (Fits (replaced before)) (patches before) → All (Fits (replaced (before ++ xs))) (patches (before ++ xs))
 fits_from before [] h = subst (λ rs. All (Fits (replaced rs)) (patches rs)) (sym (append-nil before)) h
 fits_from before (x ∷ xs) h =
-    let more : replaced (before ++ x ∷ []) ≡ replaced before ++ replacement (names_of before) x = with_before-more (λ b r. replacement (names_of b) r) [] before x in
+    let more : replaced (before ++ x ∷ []) ≡ replaced before ++ replacement (so_far before) x = replaced-more before x in
     let values : patches (before ++ x ∷ []) ≡ patches before ++ patches_in (pieces before) x = with_before-more (λ b r. patches_in (pieces b) r) [] before x in
     let own : All (Fits (replaced before)) (patches_in (pieces before) x) = if_taken (Fits (replaced before)) (is_bakpat x.kind) _ (fits_record (replaced before) x.kind x.body _ refl) in
     let all : All (Fits (replaced before)) (patches (before ++ x ∷ [])) = subst (All (Fits (replaced before))) (sym values) (All-append (Fits (replaced before)) (patches before) (patches_in (pieces before) x) h own) in
     let now : All (Fits (replaced (before ++ x ∷ []))) (patches (before ++ x ∷ [])) =
-    subst (λ rs. All (Fits rs) (patches (before ++ x ∷ []))) (sym more) (fits_all_still (replaced before) (replacement (names_of before) x) (patches (before ++ x ∷ [])) all) in
+    subst (λ rs. All (Fits rs) (patches (before ++ x ∷ []))) (sym more) (fits_all_still (replaced before) (replacement (so_far before) x) (patches (before ++ x ∷ [])) all) in
     subst (λ rs. All (Fits (replaced rs)) (patches rs)) (append_assoc before (x ∷ []) xs) (fits_from (before ++ x ∷ []) xs now)
 
 pub values_fit : ValuesFit

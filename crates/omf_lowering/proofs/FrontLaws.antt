@@ -99,11 +99,11 @@ open_start input = record {
 }
 
 -- the fault of the record by the state
-pub fault_by_state : (s : State) (before : List Raw) (r : Raw) → s ≡ state_of before → fault_by s.names s.data_before r ≡ lowering_fault before r
-fault_by_state s before r is = ap (λ t. fault_by t.names t.data_before r) is
+pub fault_by_state : (s : State) (before : List Raw) (r : Raw) → s ≡ state_of before → fault_by s.before s.data_before r ≡ lowering_fault before r
+fault_by_state s before r is = ap (λ t. fault_by t.before t.data_before r) is
 
 pub open_more : (input rest after : List ℕ) (number : ℕ) (s t : State) → IsOpen input rest number s → number < item_limit → rest ≡ raw_bytes (front_record rest) ++ after → IsWideRecord (front_record rest)
-    → fault_by s.names s.data_before (front_record rest) ≡ None → is_end (front_record rest).kind ≡ false → t ≡ added s (front_record rest) → IsOpen input after (number + 1) t
+    → fault_by s.before s.data_before (front_record rest) ≡ None → is_end (front_record rest).kind ≡ false → t ≡ added s (front_record rest) → IsOpen input after (number + 1) t
 open_more input rest after number s t o few parts wide sound open_still is = record {
   before = o.before ++ front_record rest ∷ [];
   begins = begins_more input rest after o.before (front_record rest) o.begins (subst (λ n. n < item_limit) o.count few) parts wide (sym (fault_by_state s o.before (front_record rest) o.state) ∙ sound) open_still;
@@ -112,7 +112,7 @@ open_more input rest after number s t o few parts wide sound open_still is = rec
 }
 
 pub read_end : (input rest after : List ℕ) (number : ℕ) (s t : State) → IsOpen input rest number s → number < item_limit → rest ≡ raw_bytes (front_record rest) ++ after → IsWideRecord (front_record rest)
-    → fault_by s.names s.data_before (front_record rest) ≡ None → is_end (front_record rest).kind ≡ true → t ≡ added s (front_record rest) → IsRead input after t
+    → fault_by s.before s.data_before (front_record rest) ≡ None → is_end (front_record rest).kind ≡ true → t ≡ added s (front_record rest) → IsRead input after t
 read_end input rest after number s t o few parts wide sound ended is = record {
   before = o.before;
   end = front_record rest;
@@ -131,7 +131,7 @@ offset_of input rest before b =
     omega (arith, size, length-append (flat_map raw_bytes before) rest)
 
 pub stopped_at : (input rest : List ℕ) (number start : ℕ) (s : State) (why : Stop) → IsOpen input rest number s → number < item_limit → start ≡ length input - length rest
-    → IsStop why (option_or (framing_fault rest) (fault_by s.names s.data_before (front_record rest))) → IsLoweringFault input (refusal why number start)
+    → IsStop why (option_or (framing_fault rest) (fault_by s.before s.data_before (front_record rest))) → IsLoweringFault input (refusal why number start)
 stopped_at input rest number start s stop.Memory o few at is = tt
 stopped_at input rest number start s (stop.At e) o few at is =
     let below : ltb (length o.before) item_limit ≡ true = lt-ltb (length o.before) item_limit (subst (λ n. n < item_limit) o.count few) in

@@ -1,7 +1,8 @@
--- The data of an LIDATA, and the state after a CEXTDEF.
-use Rattle.std.proofs.Common.{◌≡◌, ℕ, ◌-◌, List, [], ◌∷◌, ◌++◌, length, map, Result, Ok, Err, refl, sym, ap, ◌∙◌, append-nil}
-use Rattle.std.specs.Prelude.{OnOk, false}
-use Rattle.omf_frame.specs.Framing.{Raw}
+-- The data of an LIDATA, and the state after a CEXTDEF and after a COMDAT.
+use Rattle.std.proofs.Common.{◌≡◌, inl, inr, ℕ, ◌-◌, Bool, true, false, cond, List, [], ◌∷◌, ◌++◌, length, map, Result, Ok, Err, refl, sym, ap, subst, ◌∙◌, append-nil}
+use Rattle.std.specs.Prelude.{OnOk, ◌||◌, ◌==◌}
+use Rattle.std.proofs.lemmas.Bool.{eqb-true, or_cases}
+use Rattle.omf_frame.specs.Framing.{Raw, is_taken}
 use Rattle.omf_image.specs.Inner.Expanding.{expanded_length}
 use Rattle.omf_image.specs.Limits.{profile_limits}
 use Rattle.omf_records.specs.Inner.Reads.{or_none}
@@ -10,10 +11,14 @@ use Rattle.omf_records.specs.Values.{At, width}
 use Rattle.omf_records.specs.declared.record.Rec.{Rec as CodeRec}
 use Rattle.omf_records.specs.declared.record.Rec.TheVariants as code
 use Rattle.omf_records.specs.declared.record.Blocks.{Blocks}
+use Rattle.omf_lowering.specs.Comdats.{data_record, defined_by, given_by, growth, made, new_of, pubdef, segdef}
 use Rattle.omf_lowering.specs.Externals.{extdef, externals_by}
-use Rattle.omf_lowering.specs.Inner.State.{State, added}
-use Rattle.omf_lowering.specs.Patches.{piece_of, size_or_none}
+use Rattle.omf_lowering.specs.Inner.State.{AreAppended, State, added}
+use Rattle.omf_lowering.specs.Lowering.{comdat_of, growths_in, instances_in, is_bakpat, is_cextdef, is_comdat, patches_in, replacement}
+use Rattle.omf_lowering.specs.Patches.{piece_of, pieces_from, size_or_none}
+use Rattle.omf_lowering.specs.Values.{Instance, Resolved, Tables, is_continued}
 use Rattle.omf_lowering.specs.declared.values.Piece.{Piece}
+use Rattle.omf_lowering.specs.declared.values.Patch.{Patch}
 use Rattle.omf_lowering.proofs.StateLaws.{extdefs_without}
 
 iterated : ℕ → ℕ → ℕ → ℕ → ℕ → List Piece
@@ -34,7 +39,83 @@ pub on_ok : {A E P Q : Type 0} (r : Result A E) → (P → Q) → OnOk r P → O
 on_ok (Ok x) f h = f h
 on_ok (Err e) f h = h
 
-pub added_cextdef : (s : State) (body : List ℕ) (sum : ℕ) (rs : List Raw) → rs ≡ s.records ++ map extdef (or_none (externals_by s.names body))
-    → record s { records = rs } ≡ added s (record { kind = 0xBC; body = body; checksum = sum })
+pub added_cextdef : (s : State) (body : List ℕ) (sum : ℕ) (rs : List Raw) → rs ≡ s.before.records ++ map extdef (or_none (externals_by s.before.tables.names body))
+    → record s { before = record { tables = s.before.tables; instances = s.before.instances; records = rs } } ≡ added s (record { kind = 0xBC; body = body; checksum = sum })
 added_cextdef s body sum rs is =
-    rw (extdefs_without (length s.records) (or_none (externals_by s.names body)), append-nil s.names, append-nil s.data_before, append-nil s.patches, is) refl
+    rw (extdefs_without (length s.before.records) (or_none (externals_by s.before.tables.names body)), append-nil s.before.instances, append-nil s.data_before, append-nil s.patches, append-nil s.growths, is) refl
+
+-- A COMDAT is of one of two types.
+of_comdat : (P : ℕ → Type 0) → P 0xC2 → P 0xC3 → (k : ℕ) → is_comdat k ≡ true → P k
+of_comdat P even odd k e =
+    elim (or_cases (0xC2 == k) ((0xC3 == k) || false) e) [
+      | inl p ↦ subst P (eqb-true 0xC2 k p) even
+      | inr q ↦ elim (or_cases (0xC3 == k) false q) [
+        | inl p ↦ subst P (eqb-true 0xC3 k p) odd
+        | inr p ↦ absurd cc
+      ]
+    ]
+
+first_of : {A : Type 0} (a : Bool) (x y : A) → a ≡ true → cond a x y ≡ x
+first_of true x y e = refl
+first_of false x y e = absurd cc
+
+second_of : {A : Type 0} (a : Bool) (x y : A) → a ≡ false → cond a x y ≡ y
+second_of false x y e = refl
+second_of true x y e = absurd cc
+
+state : Tables → List Instance → List Raw → List Piece → List Patch → List Patch → State
+state t i r d p g = record { before = record { tables = t; instances = i; records = r }; data_before = d; patches = p; growths = g }
+
+same_state : {t1 t2 : Tables} {i1 i2 : List Instance} {r1 r2 : List Raw} {d1 d2 : List Piece} {p1 p2 g1 g2 : List Patch} → t1 ≡ t2 → i1 ≡ i2 → r1 ≡ r2 → d1 ≡ d2 → p1 ≡ p2 → g1 ≡ g2
+    → state t1 i1 r1 d1 p1 g1 ≡ state t2 i2 r2 d2 p2 g2
+same_state t i r d p g n = state (t n) (i n) (r n) (d n) (p n) (g n)
+
+module _ (s : State) (r : Raw) (x : Resolved) (comdat : is_comdat r.kind ≡ true) (is : comdat_of s.before r ≡ Ok x) where
+  cextdef : is_cextdef r.kind ≡ false
+  cextdef = of_comdat (λ k. is_cextdef k ≡ false) refl refl r.kind comdat
+
+  bakpat : is_bakpat r.kind ≡ false
+  bakpat = of_comdat (λ k. is_bakpat k ≡ false) refl refl r.kind comdat
+
+  taken : is_taken r.kind ≡ false
+  taken = of_comdat (λ k. is_taken k ≡ false) refl refl r.kind comdat
+
+  replaced_by : replacement s.before r ≡ made r.kind x
+  replaced_by =
+      second_of (is_cextdef r.kind) _ (cond (is_bakpat r.kind) [] (cond (is_comdat r.kind) (given_by (made r.kind) (comdat_of s.before r)) (r ∷ []))) cextdef
+      ∙ second_of (is_bakpat r.kind) [] (cond (is_comdat r.kind) (given_by (made r.kind) (comdat_of s.before r)) (r ∷ [])) bakpat
+      ∙ first_of (is_comdat r.kind) (given_by (made r.kind) (comdat_of s.before r)) (r ∷ []) comdat
+      ∙ ap (given_by (made r.kind)) is
+
+  pub added_comdat : (is_after : List Instance) (rs : List Raw) (ps : List Piece) (gs : List Patch)
+      → is_after ≡ s.before.instances ++ new_of x → AreAppended (made r.kind x) s.before.records rs s.data_before ps → gs ≡ s.growths ++ growth s.data_before x
+      → record { before = record { tables = s.before.tables; instances = is_after; records = rs }; data_before = ps; patches = s.patches; growths = gs } ≡ added s r
+  unfolding state
+  added_comdat is_after rs ps gs i1 more g1 =
+      let same_tables : s.before.tables ≡ defined_by s.before.tables r = sym (second_of (is_taken r.kind) _ s.before.tables taken) in
+      let instances : is_after ≡ s.before.instances ++ instances_in s.before r =
+      i1 ∙ ap (λ l. s.before.instances ++ l) (sym (first_of (is_comdat r.kind) (given_by new_of (comdat_of s.before r)) [] comdat ∙ ap (given_by new_of) is)) in
+      let items : more.items ≡ replacement s.before r = more.is ∙ sym replaced_by in
+      let records : rs ≡ s.before.records ++ replacement s.before r = more.records ∙ ap (λ l. s.before.records ++ l) items in
+      let pieces : ps ≡ s.data_before ++ pieces_from (length s.before.records) (replacement s.before r) =
+      more.pieces ∙ ap (λ l. s.data_before ++ pieces_from (length s.before.records) l) items in
+      let patches : s.patches ≡ s.patches ++ patches_in s.data_before r =
+      sym (ap (λ l. s.patches ++ l) (second_of (is_bakpat r.kind) _ [] bakpat) ∙ append-nil s.patches) in
+      let growths : gs ≡ s.growths ++ growths_in s.before s.data_before r =
+      g1 ∙ ap (λ l. s.growths ++ l) (sym (first_of (is_comdat r.kind) (given_by (growth s.data_before) (comdat_of s.before r)) [] comdat ∙ ap (given_by (growth s.data_before)) is)) in
+      same_state same_tables instances records pieces patches growths
+
+-- a new COMDAT's records are appended
+pub appended_new : (kind : ℕ) (x : Resolved) (a b c : Raw) (old new : List Raw) (p q : List Piece) → is_continued x.item.flags ≡ false → a ≡ segdef x → b ≡ pubdef x → c ≡ data_record kind x
+    → new ≡ old ++ a ∷ b ∷ c ∷ [] → q ≡ p ++ pieces_from (length old) (a ∷ b ∷ c ∷ []) → AreAppended (made kind x) old new p q
+appended_new kind x a b c old new p q fresh ea eb ec records pieces = record {
+  items = a ∷ b ∷ c ∷ [];
+  is = ap (λ y. y ∷ b ∷ c ∷ []) ea ∙ ap (λ y. segdef x ∷ y ∷ c ∷ []) eb ∙ ap (λ y. segdef x ∷ pubdef x ∷ y ∷ []) ec
+      ∙ sym (second_of (is_continued x.item.flags) (data_record kind x ∷ []) (segdef x ∷ pubdef x ∷ data_record kind x ∷ []) fresh);
+  records = records;
+  pieces = pieces;
+}
+
+pub on_both : {A E P R Q : Type 0} (r : Result A E) → (P → R → Q) → OnOk r P → OnOk r R → OnOk r Q
+on_both (Ok x) f h k = f h k
+on_both (Err e) f h k = h

@@ -1,16 +1,17 @@
 -- The state after one more record.
-use Rattle.std.proofs.Common.{◌≡◌, ℕ, suc, ◌+◌, List, [], ◌∷◌, ◌++◌, length, map, Result, Ok, Err, refl, sym, ap, ◌∙◌, append_assoc, append-nil, arith}
-use Rattle.std.proofs.lemmas.Grind.{flat_map-append}
+use Rattle.std.proofs.Common.{◌≡◌, ℕ, suc, ◌+◌, List, [], ◌∷◌, ◌++◌, length, map, Result, Ok, Err, refl, sym, ap, ◌∙◌, append_assoc, append-nil, length-append, arith}
+use Rattle.std.proofs.lemmas.List.Sums.{fold-append}
 use Rattle.omf_frame.specs.Bytes.{with_before}
 use Rattle.omf_frame.specs.Fault.{Fault}
 use Rattle.omf_frame.specs.Framing.{Raw}
 use Rattle.omf_records.specs.Inner.Reads.{and_then}
 use Rattle.omf_records.specs.Inner.Reading.{contents_or}
 use Rattle.omf_records.specs.Values.{At, ExternalItem, Externs}
-use Rattle.omf_lowering.specs.Externals.{extdef, names_in, names_of}
+use Rattle.omf_lowering.specs.Externals.{extdef}
 use Rattle.omf_lowering.specs.Inner.State.{state_of, added}
-use Rattle.omf_lowering.specs.Lowering.{replacement, replaced, pieces, patches_in, patches, faults, faults_in, lowering_fault}
+use Rattle.omf_lowering.specs.Lowering.{Before, so_far, start, up_to_next, replacement, replaced, pieces, patches_in, patches, growths_in, growths, faults, faults_in, lowering_fault}
 use Rattle.omf_lowering.specs.Patches.{piece_of, piece_in, pieces_from}
+use Rattle.omf_lowering.specs.declared.values.Piece.{Piece}
 
 pub with_before-more : {A B : Type 0} (f : List A → A → List B) (before xs : List A) (x : A) → with_before f before (xs ++ x ∷ []) ≡ with_before f before xs ++ f (before ++ xs) x
 with_before-more f before [] x = append-nil (f before x) ∙ ap (λ b. f b x) (sym (append-nil before))
@@ -34,14 +35,44 @@ pub extdefs_without : (first : ℕ) (es : List ExternalItem) → pieces_from fir
 extdefs_without first [] = refl
 extdefs_without first (e ∷ es) = ap (λ l. l ++ pieces_from (first + 1) (map extdef es)) (no_piece first _ _ _) ∙ extdefs_without (first + 1) es
 
+pub so_far-more : (before : List Raw) (r : Raw) → so_far (before ++ r ∷ []) ≡ up_to_next (so_far before) r
+so_far-more before r = fold-append up_to_next start before (r ∷ [])
+
+pub replaced-more : (before : List Raw) (r : Raw) → replaced (before ++ r ∷ []) ≡ replaced before ++ replacement (so_far before) r
+replaced-more before r = ap (λ (b : Before). b.records) (so_far-more before r)
+
 pub state-more : (before : List Raw) (r : Raw) → state_of (before ++ r ∷ []) ≡ added (state_of before) r
 state-more before r =
-    let more : replaced (before ++ r ∷ []) ≡ replaced before ++ replacement (names_of before) r = with_before-more (λ b x. replacement (names_of b) x) [] before r in
-    let named : names_of (before ++ r ∷ []) ≡ names_of before ++ names_in r = flat_map-append names_in before (r ∷ []) ∙ ap (λ l. names_of before ++ l) (append-nil (names_in r)) in
     let zero_too : 0 + length (replaced before) ≡ length (replaced before) = omega arith in
-    let data_too : pieces (before ++ r ∷ []) ≡ pieces before ++ pieces_from (length (replaced before)) (replacement (names_of before) r) = ap (pieces_from 0) more ∙ pieces-append 0 (replaced before) (replacement (names_of before) r) ∙ ap (λ n. pieces before ++ pieces_from n (replacement (names_of before) r)) zero_too in
+    let data_too : pieces (before ++ r ∷ []) ≡ pieces before ++ pieces_from (length (replaced before)) (replacement (so_far before) r) =
+    ap (pieces_from 0) (replaced-more before r) ∙ pieces-append 0 (replaced before) (replacement (so_far before) r)
+    ∙ ap (λ n. pieces before ++ pieces_from n (replacement (so_far before) r)) zero_too in
     let values : patches (before ++ r ∷ []) ≡ patches before ++ patches_in (pieces before) r = with_before-more (λ b x. patches_in (pieces b) x) [] before r in
-    rw (named, data_too, values, more) refl
+    let grown : growths (before ++ r ∷ []) ≡ growths before ++ growths_in (so_far before) (pieces before) r =
+    with_before-more (λ b x. growths_in (so_far b) (pieces b) x) [] before r in
+    ap (λ b. record { before = b; data_before = pieces (before ++ r ∷ []); patches = patches (before ++ r ∷ []); growths = growths (before ++ r ∷ []) }) (so_far-more before r)
+    ∙ ap (λ d. record { before = up_to_next (so_far before) r; data_before = d; patches = patches (before ++ r ∷ []); growths = growths (before ++ r ∷ []) }) data_too
+    ∙ ap (λ p. record { before = up_to_next (so_far before) r; data_before = pieces before ++ pieces_from (length (replaced before)) (replacement (so_far before) r); patches = p; growths = growths (before ++ r ∷ []) }) values
+    ∙ ap (λ g. record { before = up_to_next (so_far before) r; data_before = pieces before ++ pieces_from (length (replaced before)) (replacement (so_far before) r); patches = patches before ++ patches_in (pieces before) r; growths = g }) grown
+
+-- three records, appended one after another with their data
+pub three_more : (rs : List Raw) (ps : List Piece) (a b c : Raw) (r1 r2 r3 : List Raw) (p1 p2 p3 : List Piece)
+    → r1 ≡ rs ++ a ∷ [] → r2 ≡ r1 ++ b ∷ [] → r3 ≡ r2 ++ c ∷ []
+    → p1 ≡ ps ++ pieces_from (length rs) (a ∷ []) → p2 ≡ p1 ++ pieces_from (length r1) (b ∷ []) → p3 ≡ p2 ++ pieces_from (length r2) (c ∷ [])
+    → (r3 ≡ rs ++ a ∷ b ∷ c ∷ []) × (p3 ≡ ps ++ pieces_from (length rs) (a ∷ b ∷ c ∷ []))
+three_more rs ps a b c r1 r2 r3 p1 p2 p3 ra rb rc pa pb pc =
+    let two : r2 ≡ rs ++ a ∷ b ∷ [] = rb ∙ ap (λ l. l ++ b ∷ []) ra ∙ append_assoc rs (a ∷ []) (b ∷ []) in
+    let first : length r1 ≡ length rs + 1 = ap length ra ∙ length-append rs (a ∷ []) in
+    let second : length r2 ≡ length rs + 2 = ap length two ∙ length-append rs (a ∷ b ∷ []) in
+    let ab : p2 ≡ ps ++ pieces_from (length rs) (a ∷ b ∷ []) =
+    pb ∙ ap (λ n. p1 ++ pieces_from n (b ∷ [])) first ∙ ap (λ l. l ++ pieces_from (length rs + 1) (b ∷ [])) pa
+    ∙ append_assoc ps (pieces_from (length rs) (a ∷ [])) (pieces_from (length rs + 1) (b ∷ []))
+    ∙ ap (λ l. ps ++ l) (sym (pieces-append (length rs) (a ∷ []) (b ∷ []))) in (
+      rc ∙ ap (λ l. l ++ c ∷ []) two ∙ append_assoc rs (a ∷ b ∷ []) (c ∷ []),
+      pc ∙ ap (λ n. p2 ++ pieces_from n (c ∷ [])) second ∙ ap (λ l. l ++ pieces_from (length rs + 2) (c ∷ [])) ab
+          ∙ append_assoc ps (pieces_from (length rs) (a ∷ b ∷ [])) (pieces_from (length rs + 2) (c ∷ []))
+          ∙ ap (λ l. ps ++ l) (sym (pieces-append (length rs) (a ∷ b ∷ []) (c ∷ []))),
+    )
 
 pub faults-more : (before : List Raw) (r : Raw) → faults (before ++ r ∷ []) ≡ faults before ++ faults_in (lowering_fault before r)
 faults-more before r = with_before-more (λ b x. faults_in (lowering_fault b x)) [] before r

@@ -1,26 +1,17 @@
 -- A CEXTDEF as EXTDEFs (TIS OMF 1.1, "CEXTDEF": its names are entries of the table of LNAMES and LLNAMES; "EXTDEF").
-use Rattle.std.specs.Prelude.{ℕ, List, [], ◌∷◌, flat_map, Option, Some, None, Result, Ok, Err, if◌then◌else◌}
+use Rattle.std.specs.Prelude.{ℕ, List, [], ◌∷◌, Option, Some, None, Result, Ok, Err}
 use Rattle.omf_frame.specs.Fault.{Fault}
-use Rattle.omf_frame.specs.Framing.{Raw, raw_of, is_taken}
+use Rattle.omf_frame.specs.Framing.{Raw, raw_of}
 use Rattle.omf_frame.specs.declared.fault.Reason.TheVariants as reason
 use Rattle.omf_records.specs.Layout.{fault}
 use Rattle.omf_records.specs.Shortest.{external_bytes}
 use Rattle.omf_records.specs.Values.{At, ExternalItem}
--- computed: readings_meet_layouts and contents_are_typed_once of omf_records.
-use Rattle.omf_records.specs.Inner.Reading.{typed}
+-- computed: readings_meet_layouts of omf_records.
 use Rattle.omf_records.specs.Inner.Reads.{and_then}
-use Rattle.omf_check.specs.Tables.{defined_names, entry}
+use Rattle.omf_check.specs.Tables.{entry}
 -- computed: readings_meet_layouts of omf_lowering.
 use Rattle.omf_lowering.specs.Inner.Readers.{cextdef_whole}
 use Rattle.omf_lowering.specs.declared.values.NamedExternal.{NamedExternal}
-
--- The names that a record defines. A record of a type that this profile does not read defines none.
-abbrev pub names_in : Raw → List (List ℕ)
-names_in r = if is_taken r.kind then defined_names (typed r).contents else []
-
--- The table of names after these records.
-abbrev pub names_of : List Raw → List (List ℕ)
-names_of rs = flat_map names_in rs
 
 -- f of each, or the first fault.
 abbrev pub all_of : {A B : Type 0} → (A → Result B Fault) → List A → Result (List B) Fault

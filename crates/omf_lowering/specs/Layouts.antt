@@ -1,12 +1,13 @@
 -- The layouts of the records that a lowering replaces (TIS OMF 1.1, the page of each record). `wide` is true in a record of odd type.
-use Rattle.std.specs.Prelude.{ℕ, nat_lt, ◌==◌, Bool, if◌then◌else◌, List}
+use Rattle.std.specs.Prelude.{ℕ, nat_lt, ◌==◌, ◌&&◌, Bool, false, if◌then◌else◌, List}
 use Rattle.omf_frame.specs.declared.fault.Reason.{Reason}
 use Rattle.omf_frame.specs.declared.fault.Reason.TheVariants as reason
 use Rattle.omf_image.specs.declared.part.Part.{Part}
 use Rattle.omf_image.specs.declared.part.Part.TheVariants as parts
 use Rattle.omf_records.specs.Values.{At}
-use Rattle.omf_records.specs.Layout.{Layout, ◌>>=◌, give, many, index, byte, number_of, checked, with_place, called}
+use Rattle.omf_records.specs.Layout.{Layout, ◌>>=◌, give, rest, many, index, byte, number_of, checked, with_place, called, when}
 use Rattle.omf_records.specs.Entries.{unless}
+use Rattle.omf_lowering.specs.Values.{BaseItem, ComdatItem, allocation, selection}
 use Rattle.omf_lowering.specs.declared.values.NamedExternal.{NamedExternal}
 use Rattle.omf_lowering.specs.declared.values.Backpatch.{Backpatch}
 
@@ -46,3 +47,31 @@ bakpat wide = do
   segment ← with_place index
   part ← called (checked byte (wrong_type wide)) part_of
   called (many (backpatch wide)) (λ items. record { segment = segment; part = part; items = items })
+
+-- COMDAT: selections are 0 to 3, allocations 0 to 4, and alignments 0, as the segment's, to 5.
+abbrev pub wrong_attributes : ℕ → List Reason
+wrong_attributes attributes = unless (nat_lt (selection attributes) 4 && nat_lt (allocation attributes) 5) reason.UnsupportedType
+
+abbrev pub wrong_align : ℕ → List Reason
+wrong_align align = unless (nat_lt align 6) reason.Alignment
+
+-- COMDAT: the base of an explicit segment.
+abbrev pub base : Layout BaseItem
+base = do
+  group ← with_place index
+  segment ← with_place index
+  frame ← when (segment.item == 0) (number_of false)
+  give (record { group = group; segment = segment; frame = frame })
+
+-- COMDAT: flags, attributes, alignment, offset of the data, type index; a base if the allocation is 0, explicit; index of the public name; data or blocks to
+-- the end.
+abbrev pub comdat : Bool → Layout ComdatItem
+comdat wide = do
+  flags ← byte
+  attributes ← checked byte wrong_attributes
+  align ← checked byte wrong_align
+  offset ← with_place (number_of wide)
+  type_index ← index
+  base ← when (allocation attributes == 0) base
+  name ← with_place index
+  called rest (λ bytes. record { flags = flags; attributes = attributes; align = align; offset = offset; type_index = type_index; base = base; name = name; bytes = bytes })

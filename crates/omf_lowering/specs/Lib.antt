@@ -1,7 +1,9 @@
+pub mod Values
 pub mod Layouts
 pub mod Wide
 pub mod Externals
 pub mod Patches
+pub mod Comdats
 pub mod Lowering
 pub mod Files
 pub mod Laws

@@ -1,11 +1,11 @@
 -- The lowering of a module: which records replace which.
-use Rattle.std.specs.Prelude.{◌≡◌, ℕ, ◌<◌, ◌≤◌, List, [], ◌∷◌, ◌++◌, length, map, flat_map, All, Bool, not, nat_lt, Option, Some, None, Result, Ok, Err, IsTrue, if◌then◌else◌, ⊤}
+use Rattle.std.specs.Prelude.{◌≡◌, ℕ, ◌<◌, ◌≤◌, List, [], ◌∷◌, ◌++◌, length, map, flat_map, All, Bool, not, ◌==◌, ◌&&◌, nat_lt, fold, Option, Some, None, Result, Ok, Err, IsTrue, if◌then◌else◌, ⊤}
 use Rattle.std.specs.Option.{option_or}
 use Rattle.omf_frame.specs.Bytes.{is_one_of, with_before}
 use Rattle.omf_frame.specs.Fault.{Fault}
 use Rattle.omf_frame.specs.Framing.{Raw, raw_bytes, is_taken, is_end, front_record}
 use Rattle.omf_frame.specs.Types.{row}
-use Rattle.omf_frame.specs.declared.kinds.RecordType.TheVariants.{Cextdef, Bakpat}
+use Rattle.omf_frame.specs.declared.kinds.RecordType.TheVariants.{Cextdef, Bakpat, Comdat, Segdef}
 use Rattle.omf_frame.specs.declared.fault.Place.{Place}
 use Rattle.omf_frame.specs.declared.fault.Reason.{Reason}
 use Rattle.omf_frame.specs.declared.fault.Reason.TheVariants as reason
@@ -13,9 +13,14 @@ use Rattle.omf_check.specs.Rules.{item_limit}
 use Rattle.omf_records.specs.Layout.{fault}
 -- computed: readings_meet_layouts of omf_records.
 use Rattle.omf_records.specs.Inner.Reading.{read_body}
-use Rattle.omf_records.specs.Inner.Reads.{or_none}
-use Rattle.omf_lowering.specs.Externals.{names_of, externals_by, extdef}
+use Rattle.omf_records.specs.Inner.Reads.{and_then, or_none}
+use Rattle.omf_records.specs.Values.{is_wide}
+use Rattle.omf_lowering.specs.Comdats.{defined_by, given_by, growth, made, new_of, resolved}
+use Rattle.omf_lowering.specs.Externals.{externals_by, extdef}
+-- computed: readings_meet_layouts of omf_lowering.
+use Rattle.omf_lowering.specs.Inner.Readers.{comdat_whole}
 use Rattle.omf_lowering.specs.Patches.{pieces_from, patches_by, patched}
+use Rattle.omf_lowering.specs.Values.{Instance, Resolved, Tables}
 use Rattle.omf_lowering.specs.Wide.{framing_fault, is_known, is_right}
 use Rattle.omf_lowering.specs.declared.fault.LoweringFault.{LoweringFault}
 use Rattle.omf_lowering.specs.declared.fault.LoweringFault.TheVariants as lowering
@@ -28,16 +33,57 @@ is_cextdef kind = is_one_of (row Cextdef).bytes kind
 abbrev pub is_bakpat : ℕ → Bool
 is_bakpat kind = is_one_of (row Bakpat).bytes kind
 
--- What replaces a record, by the table of names before it: an EXTDEF for each external of a CEXTDEF, nothing for a BAKPAT, every other record itself.
-abbrev pub replacement : List (List ℕ) → Raw → List Raw
-replacement names r =
-    if is_cextdef r.kind then map extdef (or_none (externals_by names r.body))
+abbrev pub is_comdat : ℕ → Bool
+is_comdat kind = is_one_of (row Comdat).bytes kind
+
+abbrev pub is_segdef : ℕ → Bool
+is_segdef kind = is_one_of (row Segdef).bytes kind
+
+-- What a module has up to a record: its tables, its COMDATs, and the records that replace those before.
+pub record Before : Type 0 where
+  pub tables : Tables
+  pub instances : List Instance
+  pub records : List Raw
+
+-- A COMDAT record with what it refers to, or its first fault: of layout, or else of a reference.
+abbrev pub comdat_of : Before → Raw → Result Resolved Fault
+comdat_of b r = and_then ((comdat_whole (is_wide r.kind)).read 3 r.body) (resolved b.tables b.instances (length b.records) r.kind)
+
+-- What replaces a record: an EXTDEF for each external of a CEXTDEF, nothing for a BAKPAT, a segment of its own with a public name and data for a COMDAT, or
+-- more data for one that is continued; every other record itself.
+abbrev pub replacement : Before → Raw → List Raw
+replacement b r =
+    if is_cextdef r.kind then map extdef (or_none (externals_by b.tables.names r.body))
     else if is_bakpat r.kind then []
+    else if is_comdat r.kind then given_by (made r.kind) (comdat_of b r)
     else r ∷ []
 
--- The records with each replaced, before any value of a BAKPAT is added.
+-- The COMDATs that a record adds.
+abbrev pub instances_in : Before → Raw → List Instance
+instances_in b r = if is_comdat r.kind then given_by new_of (comdat_of b r) else []
+
+-- What a module has up to the next record.
+abbrev pub up_to_next : Before → Raw → Before
+up_to_next b r = record {
+  tables = defined_by b.tables r;
+  instances = b.instances ++ instances_in b r;
+  records = b.records ++ replacement b r;
+}
+
+-- What a module has before its first record: nothing.
+abbrev pub no_tables : Tables
+no_tables = record { names = []; segments = []; groups = [] }
+
+abbrev pub start : Before
+start = record { tables = no_tables; instances = []; records = [] }
+
+-- What a module has after these records.
+abbrev pub so_far : List Raw → Before
+so_far rs = fold up_to_next start rs
+
+-- The records with each replaced, before any value is added.
 abbrev pub replaced : List Raw → List Raw
-replaced rs = with_before (λ before r. replacement (names_of before) r) [] rs
+replaced rs = (so_far rs).records
 
 -- The data of these records.
 abbrev pub pieces : List Raw → List Piece
@@ -51,25 +97,41 @@ patches_in data_before r = if is_bakpat r.kind then or_none (patches_by data_bef
 abbrev pub patches : List Raw → List Patch
 patches rs = with_before (λ before r. patches_in (pieces before) r) [] rs
 
--- The lowered records: each replaced, and the values of the BAKPATs added to the data of the LEDATAs. A fixup of such data is applied to the sum.
+-- What a record adds to the length of a SEGDEF before it: a COMDAT that is continued.
+abbrev pub growths_in : Before → List Piece → Raw → List Patch
+growths_in b data_before r = if is_comdat r.kind then given_by (growth data_before) (comdat_of b r) else []
+
+-- What all COMDATs that are continued add to lengths, in their order.
+abbrev pub growths : List Raw → List Patch
+growths rs = with_before (λ before r. growths_in (so_far before) (pieces before) r) [] rs
+
+-- The lowered records: each replaced, the values of the BAKPATs added to the data of the LEDATAs, and the lengths of the COMDATs' segments. A fixup of such
+-- data is applied to the sum.
 abbrev pub lowered_records : List Raw → List Raw
-lowered_records rs = patched (replaced rs) (patches rs)
+lowered_records rs = patched (patched (replaced rs) (patches rs)) (growths rs)
 
 -- The fault of a result, if it has one.
 abbrev pub fault_of : {A : Type 0} → Result A Fault → Option Fault
 fault_of (Ok x) = None
 fault_of (Err e) = Some e
 
--- The fault of a record, by the names and the data before it: of a CEXTDEF, of a BAKPAT, or of the layout of a record that this profile reads.
-abbrev pub fault_by : List (List ℕ) → List Piece → Raw → Option Fault
-fault_by names data_before r =
-    if is_cextdef r.kind then fault_of (externals_by names r.body)
+-- A SEGDEF after a COMDAT: the segment of the COMDAT would have its index.
+abbrev pub is_late : List Instance → ℕ → Bool
+is_late instances kind = is_segdef kind && not (length instances == 0)
+
+-- The fault of a record, by what is before it and the data before it: of a CEXTDEF, of a BAKPAT, of a COMDAT, of a SEGDEF after a COMDAT, or of the layout of a
+-- record that this profile reads.
+abbrev pub fault_by : Before → List Piece → Raw → Option Fault
+fault_by b data_before r =
+    if is_cextdef r.kind then fault_of (externals_by b.tables.names r.body)
     else if is_bakpat r.kind then fault_of (patches_by data_before r.kind r.body)
+    else if is_comdat r.kind then fault_of (comdat_of b r)
+    else if is_late b.instances r.kind then Some (fault 0 reason.UnsupportedType)
     else if is_taken r.kind then fault_of (read_body r.kind r.body)
     else None
 
 abbrev pub lowering_fault : List Raw → Raw → Option Fault
-lowering_fault before r = fault_by (names_of before) (pieces before) r
+lowering_fault before r = fault_by (so_far before) (pieces before) r
 
 -- The faults of records, each by the records before it.
 abbrev pub faults_in : Option Fault → List Fault

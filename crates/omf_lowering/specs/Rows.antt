@@ -27,3 +27,31 @@ word = hex (codes "B2 07 00 01 01 01 00 34 12 FE")
 -- two bytes AA at offset 0, repeated
 abbrev pub two_bytes : List ℕ
 two_bytes = hex (codes "A2 0A 00 01 00 00 02 00 00 00 01 AA A6")
+
+-- a header, the names "", T, f and CODE, and a segment T of 4 bytes
+abbrev pub base : List ℕ
+base = H ++ hex (codes "96 0B 00 00 01 54 01 66 04 43 4F 44 45 84") ++ S
+
+-- a COMDAT f with the data B8 00 00 and the base T, at words
+abbrev pub f : List ℕ
+f = hex (codes "C2 0D 00 00 10 02 00 00 00 00 01 03 B8 00 00 63")
+
+-- the SEGDEF of f
+abbrev pub f_segment : List ℕ
+f_segment = hex (codes "99 09 00 48 03 00 00 00 02 01 01 0F")
+
+-- the PUBDEF of f
+abbrev pub f_public : List ℕ
+f_public = hex (codes "91 0A 00 00 02 01 66 00 00 00 00 00 FC")
+
+-- the LEDATA of f
+abbrev pub f_data : List ℕ
+f_data = hex (codes "A0 07 00 02 00 00 B8 00 00 9F")
+
+-- a second COMDAT, with the name CODE
+abbrev pub g : List ℕ
+g = hex (codes "C2 0D 00 00 10 02 00 00 00 00 01 04 B8 00 00 62")
+
+-- what replaces it after f
+abbrev pub g_made : List ℕ
+g_made = hex (codes "99 09 00 48 03 00 00 00 02 01 01 0F") ++ hex (codes "91 0D 00 00 03 04 43 4F 44 45 00 00 00 00 00 40") ++ hex (codes "A0 07 00 03 00 00 B8 00 00 9E")

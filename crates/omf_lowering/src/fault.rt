@@ -16,7 +16,8 @@ pub enum LoweringFault {
     #[error("memory ran out")]
     Memory,
     /// The first record at fault has this fault at this place: of framing (NoEnd, Cut, UnknownType, EmptyRecord, Checksum), of layout (8 to 18),
-    /// UndefinedName in a CEXTDEF; in a BAKPAT NoDataRecord, FixupOnIterated or OutsideRecord.
+    /// UndefinedName in a CEXTDEF; in a BAKPAT NoDataRecord, FixupOnIterated or OutsideRecord; in a COMDAT UnsupportedType, UndefinedName,
+    /// UndefinedSegment, UndefinedGroup, OutsideSegment or TooMany; UnsupportedType of a SEGDEF after a COMDAT.
     #[error("a record cannot be lowered")]
     Refused {
         /// Why the record is refused.

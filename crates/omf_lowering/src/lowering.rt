@@ -33,8 +33,8 @@ fn take_front<'a>(
     ensures wide { OnOk result (IsWideRecord (front_record bytes.entry.now)) }
     ensures end { IfOk result (λ r. r.0 ≡ is_end (front_record bytes.entry.now).kind) }
     ensures added { OnOk result (work.new ≡ added work.old (front_record bytes.entry.now)) }
-    ensures sound { OnOk result (fault_by work.old.names work.old.data_before (front_record bytes.entry.now) ≡ None) }
-    ensures err { IfErr result (λ stop. IsStop stop (option_or (framing_fault bytes.entry.now) (fault_by work.old.names work.old.data_before (front_record bytes.entry.now)))) }
+    ensures sound { OnOk result (fault_by work.old.before work.old.data_before (front_record bytes.entry.now) ≡ None) }
+    ensures err { IfErr result (λ stop. IsStop stop (option_or (framing_fault bytes.entry.now) (fault_by work.old.before work.old.data_before (front_record bytes.entry.now)))) }
 {
     let front = match front_of(bytes) {
         Ok(front) => front,
@@ -96,7 +96,8 @@ pub struct LoweredModule<'a> {
 
 /// The first module of `bytes`, lowered: as a module of this profile that means the same (TIS OMF 1.1). Each CEXTDEF becomes EXTDEFs with the names
 /// that it refers to, so that each external keeps its index. The values of each BAKPAT are added to the data of the LEDATAs before it, and the BAKPAT
-/// is left out. Every other record is kept as it is, also one that `check` refuses: so the result is for `check` to judge. A module that `check` accepts
+/// is left out. Each COMDAT becomes a segment of its own, a piece of its base, with a public name and the data; one that is continued becomes more data of
+/// that segment. Every other record is kept as it is, also one that `check` refuses: so the result is for `check` to judge. A module that `check` accepts
 /// is its own lowering (law `accepted_stay`). The bytes after the module are not read, but returned.
 ///
 /// # Errors

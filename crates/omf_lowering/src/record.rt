@@ -24,8 +24,8 @@ pub(crate) struct Front<'a> {
 /// A record: its type byte, its contents and its checksum byte.
 #[derive(Drop)]
 pub(crate) struct Record {
-    kind: u8,
-    body: Vec<u8>,
+    pub kind: u8,
+    pub body: Vec<u8>,
     checksum: u8,
 }
 

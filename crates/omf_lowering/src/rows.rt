@@ -6,7 +6,7 @@ ghost use Rattle.omf_check.specs.Rows.{H, N, S, F, M};
 ghost use Rattle.omf_frame.specs.Rows.{hex};
 ghost use Rattle.omf_frame.specs.declared.fault.Reason.TheVariants as reason;
 ghost use Rattle.omf_lowering.specs.Lowering.{fault_at};
-ghost use Rattle.omf_lowering.specs.Rows.{Refuses, front, lowers, two_bytes, word};
+ghost use Rattle.omf_lowering.specs.Rows.{Refuses, base, f, f_data, f_public, f_segment, front, g, g_made, lowers, two_bytes, word};
 
 /// An external of a CEXTDEF has the name that its index has in the table of names.
 pub fn externals()
@@ -66,6 +66,83 @@ pub fn framing()
     ensures empty { Refuses H (hex (codes "B2 00 00")) 1 reason.EmptyRecord }
     ensures checksum { Refuses front (hex (codes "B2 07 00 01 01 01 00 34 12 01")) 9 reason.Checksum }
     ensures layout { Refuses H (hex (codes "96 03 00 05 41 21")) 3 reason.Short }
-    ensures comdat { fault_at (records_in H) (hex (codes "C2 03 00 00 00 3B")) ≡ None }
-    ensures kept { lowers (H ++ hex (codes "C2 03 00 00 00 3B") ++ M) ≡ H ++ hex (codes "C2 03 00 00 00 3B") ++ M }
+    ensures vendor { fault_at (records_in H) (hex (codes "CE 05 00 01 00 AA BB C7")) ≡ None }
+    ensures kept { lowers (H ++ hex (codes "CE 05 00 01 00 AA BB C7") ++ M) ≡ H ++ hex (codes "CE 05 00 01 00 AA BB C7") ++ M }
+{}
+
+/// A COMDAT with an explicit base: a piece of the base segment with its own alignment, and a public name at its start.
+pub fn comdats()
+    ensures explicit { lowers (base ++ f ++ M) ≡ base ++ f_segment ++ f_public ++ f_data ++ M }
+    ensures as_the_base { lowers (base ++ hex (codes "C2 0D 00 00 10 00 00 00 05 00 01 03 B8 00 00 60") ++ M)
+        ≡ base ++ hex (codes "99 09 00 28 03 00 00 00 02 01 01 2F") ++ hex (codes "91 0A 00 00 02 01 66 00 00 00 00 05 F7") ++ f_data ++ M }
+    ensures offset { lowers (base ++ hex (codes "C2 0D 00 00 10 02 04 00 00 00 01 03 B8 00 00 5F") ++ M)
+        ≡ base ++ hex (codes "99 09 00 48 07 00 00 00 02 01 01 0B") ++ f_public ++ hex (codes "A0 07 00 02 04 00 B8 00 00 9B") ++ M }
+    ensures grouped { lowers (base ++ hex (codes "9A 04 00 02 FF 01 60") ++ hex (codes "C2 0D 00 00 10 02 00 00 00 01 01 03 B8 00 00 62") ++ M)
+        ≡ base ++ hex (codes "9A 04 00 02 FF 01 60") ++ f_segment ++ hex (codes "91 0A 00 01 02 01 66 00 00 00 00 00 FB") ++ f_data ++ M }
+    ensures wide { lowers (base ++ hex (codes "C3 0F 00 00 10 05 00 00 00 00 00 00 01 03 B8 00 00 5D") ++ M)
+        ≡ base ++ hex (codes "99 09 00 A8 03 00 00 00 02 01 01 AF") ++ f_public ++ hex (codes "A1 09 00 02 00 00 00 00 B8 00 00 9C") ++ M }
+    ensures local { lowers (base ++ hex (codes "C2 0D 00 04 10 02 00 00 00 00 01 03 B8 00 00 5F") ++ M)
+        ≡ base ++ f_segment ++ hex (codes "B7 0A 00 00 02 01 66 00 00 00 00 00 D6") ++ f_data ++ M }
+    ensures second { lowers (base ++ f ++ g ++ M) ≡ base ++ f_segment ++ f_public ++ f_data ++ g_made ++ M }
+{}
+
+/// A COMDAT that the linker allocates: a segment of its name, of the class CODE if a name has that text.
+pub fn allocated_comdats()
+    ensures far_code { lowers (base ++ hex (codes "C2 0B 00 00 11 00 00 00 00 03 B8 00 00 67") ++ M)
+        ≡ base ++ hex (codes "99 09 00 68 03 00 00 00 03 04 01 EB") ++ f_public ++ f_data ++ M }
+    ensures far_data { lowers (base ++ hex (codes "C2 0B 00 00 02 02 00 00 00 03 B8 00 00 74") ++ M)
+        ≡ base ++ hex (codes "99 09 00 48 03 00 00 00 03 03 01 0C") ++ f_public ++ f_data ++ M }
+    ensures code32 { lowers (base ++ hex (codes "C2 0B 00 00 33 05 00 00 00 03 B8 00 00 40") ++ M)
+        ≡ base ++ hex (codes "99 09 00 A9 03 00 00 00 03 04 01 AA") ++ f_public ++ f_data ++ M }
+    ensures data32 { lowers (base ++ hex (codes "C2 0B 00 00 24 00 00 00 00 03 B8 00 00 54") ++ M)
+        ≡ base ++ hex (codes "99 09 00 69 03 00 00 00 03 03 01 EB") ++ f_public ++ f_data ++ M }
+{}
+
+/// A COMDAT with blocks: its length is that of the expanded data.
+pub fn repeated_comdats()
+    ensures blocks { lowers (base ++ hex (codes "C2 10 00 02 10 02 00 00 00 00 01 03 03 00 00 00 01 90 82") ++ M)
+        ≡ base ++ f_segment ++ f_public ++ hex (codes "A2 0A 00 02 00 00 03 00 00 00 01 90 BE") ++ M }
+    ensures wide_blocks { lowers (base ++ hex (codes "C3 14 00 02 10 02 02 00 00 00 00 00 01 03 03 00 00 00 00 00 01 90 7B") ++ M)
+        ≡ base ++ hex (codes "99 09 00 48 05 00 00 00 02 01 01 0D") ++ f_public ++ hex (codes "A3 0E 00 02 02 00 00 00 03 00 00 00 00 00 01 90 B7") ++ M }
+{}
+
+/// The data of a continued COMDAT follow in the segment of its name, whose length is the largest end.
+pub fn continued_comdats()
+    ensures longer { lowers (base ++ f ++ hex (codes "C2 0C 00 01 10 02 03 00 00 00 01 03 90 90 F8") ++ M)
+        ≡ base ++ hex (codes "99 09 00 48 05 00 00 00 02 01 01 0D") ++ f_public ++ f_data ++ hex (codes "A0 06 00 02 03 00 90 90 35") ++ M }
+    ensures inside { lowers (base ++ f ++ hex (codes "C2 0B 00 01 10 02 01 00 00 00 01 03 90 8B") ++ M)
+        ≡ base ++ f_segment ++ f_public ++ f_data ++ hex (codes "A0 05 00 02 01 00 90 C8") ++ M }
+    ensures far_apart { lowers (base ++ f ++ g ++ hex (codes "C2 0B 00 01 10 02 03 00 00 00 01 03 90 89") ++ hex (codes "C2 0B 00 01 10 02 09 00 00 00 01 03 91 82") ++ M)
+        ≡ base ++ hex (codes "99 09 00 48 0A 00 00 00 02 01 01 08") ++ f_public ++ f_data ++ g_made ++ hex (codes "A0 05 00 02 03 00 90 C6") ++ hex (codes "A0 05 00 02 09 00 91 BF") ++ M }
+{}
+
+/// A fixup of the data follows as it was.
+pub fn comdat_fixups()
+    ensures fixed { lowers (base ++ f ++ hex (codes "9C 06 00 C4 01 04 01 01 93") ++ M)
+        ≡ base ++ f_segment ++ f_public ++ f_data ++ hex (codes "9C 06 00 C4 01 04 01 01 93") ++ M }
+{}
+
+/// A COMDAT cut short, with an undefined selection, allocation or alignment. A fault of layout comes first.
+pub fn comdat_layouts()
+    ensures cut { Refuses base (hex (codes "C2 03 00 00 00 3B")) 5 reason.Short }
+    ensures selection { Refuses base (hex (codes "C2 0D 00 00 40 02 00 00 00 00 01 03 B8 00 00 33")) 4 reason.UnsupportedType }
+    ensures allocation { Refuses base (hex (codes "C2 0B 00 00 15 02 00 00 00 03 B8 00 00 61")) 4 reason.UnsupportedType }
+    ensures align { Refuses base (hex (codes "C2 0D 00 00 10 06 00 00 00 00 01 03 B8 00 00 5F")) 5 reason.Alignment }
+    ensures layout_first { Refuses base (hex (codes "C2 09 00 00 10 02 00 00 00 09 09 11")) 11 reason.Short }
+{}
+
+/// A base or a name that is not defined, a base that no linker joins, data past the longest segment; two COMDATs of one name, a continued one without its first, and a segment after a COMDAT.
+pub fn comdat_references()
+    ensures group { Refuses base (hex (codes "C2 0D 00 00 10 02 00 00 00 01 01 03 B8 00 00 62")) 9 reason.UndefinedGroup }
+    ensures segment { Refuses base (hex (codes "C2 0D 00 00 10 02 00 00 00 00 02 03 B8 00 00 62")) 10 reason.UndefinedSegment }
+    ensures absolute { Refuses base (hex (codes "C2 0F 00 00 10 02 00 00 00 00 00 00 F0 03 B8 00 00 72")) 10 reason.UnsupportedType }
+    ensures name { Refuses base (hex (codes "C2 0D 00 00 10 02 00 00 00 00 01 05 B8 00 00 61")) 11 reason.UndefinedName }
+    ensures no_name { Refuses base (hex (codes "C2 0D 00 00 10 02 00 00 00 00 01 00 B8 00 00 66")) 11 reason.UndefinedName }
+    ensures end { Refuses base (hex (codes "C3 0F 00 00 10 02 FD FF FF FF 00 00 01 03 B8 00 00 66")) 6 reason.OutsideSegment }
+    ensures own { Refuses (base ++ f) (hex (codes "C2 0D 00 00 10 02 00 00 00 00 02 04 B8 00 00 61")) 10 reason.UndefinedSegment }
+    ensures private { Refuses (base ++ hex (codes "98 07 00 20 04 00 02 01 01 39")) (hex (codes "C2 0D 00 00 10 02 00 00 00 00 02 03 B8 00 00 62")) 10 reason.UnsupportedType }
+    ensures stack { Refuses (base ++ hex (codes "98 07 00 74 04 00 02 01 01 E5")) (hex (codes "C2 0D 00 00 10 02 00 00 00 00 02 03 B8 00 00 62")) 10 reason.UnsupportedType }
+    ensures twice { Refuses (base ++ f) f 11 reason.UnsupportedType }
+    ensures unbegun { Refuses base (hex (codes "C2 0D 00 01 10 02 00 00 00 00 01 03 B8 00 00 62")) 11 reason.UnsupportedType }
+    ensures late { Refuses (base ++ f) (hex (codes "98 07 00 28 04 00 02 01 01 31")) 0 reason.UnsupportedType }
 {}

@@ -18,6 +18,15 @@ pub struct Backpatch {
     pub value: u32,
 }
 
+/// What a SEGDEF is a pattern of: its attribute byte, and the indices of its name, class and overlay (TIS OMF 1.1, "SEGDEF").
+#[derive(Clone, Copy, Drop)]
+pub struct Pattern {
+    pub attribute: u8,
+    pub name: Index,
+    pub class: Index,
+    pub overlay: Index,
+}
+
 /// The data of an LEDATA or an LIDATA among the records of a lowered module.
 #[derive(Clone, Copy, Drop)]
 pub struct Piece {

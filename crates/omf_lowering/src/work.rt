@@ -1,36 +1,41 @@
 //! The records so far, and what later records need of them.
 
-ghost use Rattle.std.specs.Prelude.{◌≡◌, ◌≤◌, ◌++◌, [], None, Some, ◌∷◌, IfErr, IfNone, IfSome, IfOk, OnOk, false, true, length, map, flat_map, IsTrue};
-ghost use Rattle.omf_check.specs.Inner.Judging.{IsShort};
-ghost use Rattle.omf_check.specs.Tables.{defined_names};
+ghost use Rattle.std.specs.Prelude.{◌≡◌, ◌≤◌, ◌++◌, [], None, ◌∷◌, IfErr, IfOk, OnOk, false, true, length, flat_map, IsTrue, map};
 ghost use Rattle.omf_frame.specs.Framing.{is_taken, raw_bytes};
-ghost use Rattle.omf_image.specs.Inner.Expanding.{expanded_length};
-ghost use Rattle.omf_image.specs.Limits.{profile_limits};
 ghost use Rattle.omf_records.specs.Inner.Reading.{read_body};
-ghost use Rattle.omf_records.specs.Inner.Seen.{contents_seen, kind_seen, odd_if};
-ghost use Rattle.omf_records.specs.Values.{width};
-ghost use Rattle.omf_lowering.specs.Externals.{names_in};
-ghost use Rattle.omf_lowering.specs.Inner.State.{State, IsStop, added, seen, state_of};
-ghost use Rattle.omf_lowering.specs.Lowering.{fault_by, fault_of, is_bakpat, is_cextdef};
-ghost use Rattle.omf_lowering.specs.Patches.{patched, piece_in, piece_of, size_or_none, with_patch};
+ghost use Rattle.omf_records.specs.Inner.Reads.{and_then, or_none};
+ghost use Rattle.omf_records.specs.Values.{is_wide};
+ghost use Rattle.omf_lowering.specs.Comdats.{defined_by, growth, made, new_of, resolved};
+ghost use Rattle.omf_lowering.specs.Externals.{extdef, externals_by};
+ghost use Rattle.omf_lowering.specs.Inner.Readers.{comdat_whole};
+ghost use Rattle.omf_lowering.specs.Inner.State.{AreAppended, State, IsStop, added, seen, state_of};
+ghost use Rattle.omf_lowering.specs.Lowering.{fault_by, fault_of, is_bakpat, is_cextdef, is_comdat, is_late};
+ghost use Rattle.omf_lowering.specs.Patches.{patched, piece_in, pieces_from, with_patch};
 
 use crate::bakpat::lower_patches;
 use crate::cextdef::lower_externals;
+use crate::comdat::{comdat_in, is_continued};
 use crate::fault::Stop;
+use crate::instance::{Instance, Resolved, resolve};
+use crate::made::{data_record, pubdef, segdef};
+use crate::pieces::{is_taken, past, piece_of, push_piece};
 use crate::record::{Front, Record};
+use crate::tables::Tables;
 use crate::values::{Patch, Piece};
-use omf_frame::{Index, Name, RawRecord};
-use omf_image::{Limits, expanded_len};
-use omf_records::{At, Blocks, Items, Rec, view};
+use omf_frame::{RawRecord, Reason};
+use omf_image::Part;
+use omf_records::{LayoutFault, view};
 use std::alloc::{AllocError, Global};
 use std::marker::Model;
 
-/// The records so far: what replaces them, their names and data, and the values to add.
+/// The records so far: their tables and COMDATs, their data, the values to add to these, the growths of lengths, and what replaces the records.
 #[derive(Drop)]
 pub(crate) struct Work<'a> {
-    names: Vec<Name<'a>>,
+    tables: Tables<'a>,
+    instances: Vec<Instance<'a>>,
     pieces: Vec<Piece>,
     patches: Vec<Patch>,
+    growths: Vec<Patch>,
     records: Vec<Record>,
 }
 
@@ -39,127 +44,19 @@ impl<'a> Model for Work<'a> {
 
     ghost Value = { State };
 
-    ghost view = { λ w. record { names = w.names.items; data_before = w.pieces.items; patches = w.patches.items; records = w.records.items } };
+    ghost view = { λ w. record { before = record { tables = w.tables; instances = w.instances.items; records = w.records.items }; data_before = w.pieces.items; patches = w.patches.items; growths = w.growths.items } };
 }
 
-/// Whether a module of this profile may have records of this type.
-fn is_taken(kind: u8) -> bool
-    ensures { result ≡ is_taken kind }
-{
-    matches!(
-        kind,
-        0x80 | 0x82
-            | 0x88
-            | 0x8A
-            | 0x8B
-            | 0x8C
-            | 0x8E
-            | 0x90
-            | 0x91
-            | 0x94
-            | 0x95
-            | 0x96
-            | 0x98
-            | 0x99
-            | 0x9A
-            | 0x9C
-            | 0x9D
-            | 0xA0
-            | 0xA1
-            | 0xA2
-            | 0xA3
-            | 0xB0
-            | 0xB4
-            | 0xB5
-            | 0xB6
-            | 0xB7
-            | 0xB8
-            | 0xC4
-            | 0xC5
-            | 0xC6
-            | 0xCA
-            | 0xCC
-    )
-}
-
-/// Appends the names of an LNAMES.
-fn push_names<'a>(names: &mut Vec<Name<'a>>, items: Items<Name<'a>>) -> Result<(), AllocError>
-    ensures { OnOk result (names.new.items ≡ names.old.items ++ map (λ n. n.item) items.entry) }
-{
-    for item in items {
-        names.push(item.item)?;
-    }
-    Ok(())
-}
-
-/// The number of bytes of an LIDATA's blocks; 0 if they have a fault.
-fn blocks_size(blocks: Blocks<'_>) -> usize
-    requires { length blocks.bytes.now ≤ 65534 }
-    ensures { result ≡ size_or_none (expanded_length (width (odd_if blocks.entry.width 0xA2)) profile_limits blocks.entry.bytes.now) }
-{
-    match expanded_len(blocks, Limits::profile()) {
-        Ok(size) => size as usize,
-        Err(_) => 0,
-    }
-}
-
-/// The data of the record with a number, by its contents, which have `len` bytes.
-fn piece_of(number: usize, len: u32, rec: &Rec<'_>) -> Option<Piece>
-    requires short { IsShort (contents_seen rec.now) }
-    ensures some { IfSome result (λ p. piece_of number (kind_seen rec.now) len (contents_seen rec.now) ≡ p ∷ []) }
-    ensures none { IfNone result (piece_of number (kind_seen rec.now) len (contents_seen rec.now) ≡ []) }
-{
-    match rec {
-        Rec::Plain {
-            segment,
-            offset,
-            data,
-            ..
-        } => Some(Piece {
-            number,
-            is_plain: true,
-            segment: segment.item.0,
-            offset: offset.item,
-            size: data.len(),
-            at: (len as usize).saturating_sub(data.len()) as u32,
-        }),
-        Rec::Iterated {
-            segment,
-            offset,
-            blocks,
-        } => Some(Piece {
-            number,
-            is_plain: false,
-            segment: segment.item.0,
-            offset: offset.item,
-            size: blocks_size(*blocks),
-            at: (len as usize).saturating_sub(blocks.bytes.len()) as u32,
-        }),
-        _ => None,
-    }
-}
-
-/// Appends the names that a record defines.
-fn define<'a>(names: &mut Vec<Name<'a>>, rec: &Rec<'a>) -> Result<(), AllocError>
-    ensures { OnOk result (names.new.items ≡ names.old.items ++ defined_names (contents_seen rec.now)) }
-{
-    match rec {
-        Rec::Names(items) => push_names(names, items.iter()),
-        Rec::LocalNames(items) => push_names(names, items.iter()),
-        _ => Ok(()),
-    }
-}
-
-/// Reads the contents of a record of this profile, which will have a number: appends its names and its data.
+/// Reads the contents of a record of this profile, which will have a number: appends what it defines, and its data.
 fn read<'a>(
-    names: &mut Vec<Name<'a>>,
+    tables: &mut Tables<'a>,
     pieces: &mut Vec<Piece>,
     number: usize,
     front: &Front<'a>,
 ) -> Result<(), Stop>
     requires taken { IsTrue (is_taken front.now.kind) }
     requires short { length front.now.body.now ≤ 65534 }
-    ensures names { OnOk result (names.new.items ≡ names.old.items ++ names_in (seen front.now)) }
+    ensures tables { OnOk result (tables.new ≡ defined_by tables.old (seen front.now)) }
     ensures pieces { OnOk result (pieces.new.items ≡ pieces.old.items ++ piece_in number (seen front.now)) }
     ensures sound { OnOk result (fault_of (read_body front.now.kind front.now.body.now) ≡ None) }
     ensures err { IfErr result (λ stop. IsStop stop (fault_of (read_body front.now.kind front.now.body.now))) }
@@ -177,7 +74,125 @@ fn read<'a>(
     if let Some(piece) = piece_of(number, front.body.len() as u32, &rec) {
         pieces.push(piece)?;
     }
-    Ok(define(names, &rec)?)
+    Ok(tables.define(&rec)?)
+}
+
+/// Appends a record and its data.
+fn append(
+    records: &mut Vec<Record>,
+    pieces: &mut Vec<Piece>,
+    next: Record,
+) -> Result<(), AllocError>
+    ensures records { OnOk result (records.new.items ≡ records.old.items ++ next ∷ []) }
+    ensures pieces { OnOk result (pieces.new.items ≡ pieces.old.items ++ pieces_from (length records.old.items) (next ∷ [])) }
+{
+    push_piece(pieces, records.len(), &next)?;
+    Ok(records.push(next)?)
+}
+
+/// Appends three records and their data.
+fn append_three(
+    records: &mut Vec<Record>,
+    pieces: &mut Vec<Piece>,
+    first: Record,
+    second: Record,
+    third: Record,
+) -> Result<(), AllocError>
+    ensures records { OnOk result (records.new.items ≡ records.old.items ++ first ∷ second ∷ third ∷ []) }
+    ensures pieces { OnOk result (pieces.new.items ≡ pieces.old.items ++ pieces_from (length records.old.items) (first ∷ second ∷ third ∷ [])) }
+{
+    append(records, pieces, first)?;
+    append(records, pieces, second)?;
+    append(records, pieces, third)?;
+    Ok(())
+}
+
+/// Appends the records that replace a COMDAT with this type byte, and their data.
+fn append_made(
+    alloc: Global,
+    records: &mut Vec<Record>,
+    pieces: &mut Vec<Piece>,
+    kind: u8,
+    of: &Resolved<'_>,
+) -> Result<(), AllocError>
+    ensures { OnOk result (AreAppended (made kind of.now) records.old.items records.new.items pieces.old.items pieces.new.items) }
+{
+    if is_continued(of.item.flags) {
+        append(records, pieces, data_record(alloc, kind, of)?)
+    } else {
+        append_three(
+            records,
+            pieces,
+            segdef(alloc, of)?,
+            pubdef(alloc, of)?,
+            data_record(alloc, kind, of)?,
+        )
+    }
+}
+
+/// Appends what a continued COMDAT adds to the length of its segment.
+fn push_growth(
+    growths: &mut Vec<Patch>,
+    pieces: &[Piece],
+    of: &Resolved<'_>,
+) -> Result<(), AllocError>
+    ensures { OnOk result (growths.new.items ≡ growths.old.items ++ growth pieces.now of.now) }
+{
+    if !is_continued(of.item.flags) {
+        return Ok(());
+    }
+    Ok(growths.push(Patch {
+        number: of.own.number,
+        at: 1,
+        part: Part::Dword,
+        value: past(of.own.segment.0, of.end, pieces),
+    })?)
+}
+
+/// Appends the instance of a COMDAT, if it is new.
+fn push_instance<'a>(instances: &mut Vec<Instance<'a>>, of: Resolved<'a>) -> Result<(), AllocError>
+    ensures { OnOk result (instances.new.items ≡ instances.old.items ++ new_of of.entry) }
+{
+    if is_continued(of.item.flags) {
+        return Ok(());
+    }
+    Ok(instances.push(of.own)?)
+}
+
+/// A COMDAT with what it refers to; the records that replace those before are this many.
+fn comdat_at<'a>(
+    tables: &Tables<'a>,
+    instances: &[Instance<'a>],
+    number: usize,
+    front: &Front<'a>,
+) -> Result<Resolved<'a>, LayoutFault>
+    requires { length front.now.body.now ≤ 65534 }
+    ensures { result ≡ and_then ((comdat_whole (is_wide front.now.kind)).read 3 front.now.body.now) (resolved tables.now instances.now number front.now.kind) }
+{
+    let item = comdat_in(front.body, front.kind % 2 == 1)?;
+    resolve(tables, instances, number, front.kind, item)
+}
+
+/// Appends the EXTDEFs of a CEXTDEF with these contents.
+fn append_externals(
+    alloc: Global,
+    records: &mut Vec<Record>,
+    tables: &Tables<'_>,
+    body: &[u8],
+) -> Result<(), Stop>
+    requires { length body.now ≤ 65534 }
+    ensures ok { OnOk result (records.new.items ≡ records.old.items ++ map extdef (or_none (externals_by tables.now.names body.now))) }
+    ensures sound { OnOk result (fault_of (externals_by tables.now.names body.now) ≡ None) }
+    ensures err { IfErr result (λ stop. IsStop stop (fault_of (externals_by tables.now.names body.now))) }
+{
+    lower_externals(alloc, records, &tables.names, body)
+}
+
+/// Whether a record is a SEGDEF after a COMDAT.
+fn is_late(instances: &[Instance<'_>], kind: u8) -> bool
+    ensures { result ≡ is_late instances.now kind }
+{
+    (kind == 0x98 || kind == 0x99) && !instances.is_empty()
 }
 
 impl<'a> Work<'a> {
@@ -186,9 +201,11 @@ impl<'a> Work<'a> {
         ensures { result ≡ state_of [] }
     {
         Work {
-            names: Vec::new(alloc),
+            tables: Tables::new(alloc),
+            instances: Vec::new(alloc),
             pieces: Vec::new(alloc),
             patches: Vec::new(alloc),
+            growths: Vec::new(alloc),
             records: Vec::new(alloc),
         }
     }
@@ -197,28 +214,53 @@ impl<'a> Work<'a> {
     fn keep(&mut self, alloc: Global, front: &Front<'a>) -> Result<(), Stop>
         requires cextdef { is_cextdef front.now.kind ≡ false }
         requires bakpat { is_bakpat front.now.kind ≡ false }
+        requires comdat { is_comdat front.now.kind ≡ false }
         requires short { length front.now.body.now ≤ 65534 }
         ensures ok { OnOk result (self.new ≡ added self.old (seen front.now)) }
-        ensures sound { OnOk result (fault_by self.old.names self.old.data_before (seen front.now) ≡ None) }
-        ensures err { IfErr result (λ stop. IsStop stop (fault_by self.old.names self.old.data_before (seen front.now))) }
+        ensures sound { OnOk result (fault_by self.old.before self.old.data_before (seen front.now) ≡ None) }
+        ensures err { IfErr result (λ stop. IsStop stop (fault_by self.old.before self.old.data_before (seen front.now))) }
     {
+        if is_late(&self.instances, front.kind) {
+            return Err(Stop::At(LayoutFault {
+                reason: Reason::UnsupportedType,
+                within: 0,
+            }));
+        }
         if is_taken(front.kind) {
             let number = self.records.len();
-            read(&mut self.names, &mut self.pieces, number, front)?;
+            read(&mut self.tables, &mut self.pieces, number, front)?;
         }
         let record = Record::copied(alloc, front.kind, front.body, front.checksum)?;
         Ok(self.records.push(record)?)
+    }
+
+    /// Takes a COMDAT.
+    fn take_comdat(&mut self, alloc: Global, front: &Front<'a>) -> Result<(), Stop>
+        requires comdat { is_comdat front.now.kind ≡ true }
+        requires short { length front.now.body.now ≤ 65534 }
+        ensures ok { OnOk result (self.new ≡ added self.old (seen front.now)) }
+        ensures sound { OnOk result (fault_by self.old.before self.old.data_before (seen front.now) ≡ None) }
+        ensures err { IfErr result (λ stop. IsStop stop (fault_by self.old.before self.old.data_before (seen front.now))) }
+    {
+        let number = self.records.len();
+        let of = match comdat_at(&self.tables, &self.instances, number, front) {
+            Ok(of) => of,
+            Err(fault) => return Err(Stop::At(fault)),
+        };
+        push_growth(&mut self.growths, &self.pieces, &of)?;
+        append_made(alloc, &mut self.records, &mut self.pieces, front.kind, &of)?;
+        Ok(push_instance(&mut self.instances, of)?)
     }
 
     /// Takes the next record.
     pub(crate) fn take(&mut self, alloc: Global, front: &Front<'a>) -> Result<(), Stop>
         requires { length front.now.body.now ≤ 65534 }
         ensures ok { OnOk result (self.new ≡ added self.old (seen front.now)) }
-        ensures sound { OnOk result (fault_by self.old.names self.old.data_before (seen front.now) ≡ None) }
-        ensures err { IfErr result (λ stop. IsStop stop (fault_by self.old.names self.old.data_before (seen front.now))) }
+        ensures sound { OnOk result (fault_by self.old.before self.old.data_before (seen front.now) ≡ None) }
+        ensures err { IfErr result (λ stop. IsStop stop (fault_by self.old.before self.old.data_before (seen front.now))) }
     {
         match front.kind {
-            0xBC => lower_externals(alloc, &mut self.records, &self.names, front.body),
+            0xBC => append_externals(alloc, &mut self.records, &self.tables, front.body),
             0xB2 | 0xB3 => lower_patches(
                 alloc,
                 &mut self.patches,
@@ -226,20 +268,23 @@ impl<'a> Work<'a> {
                 front.kind,
                 front.body,
             ),
+            0xC2 | 0xC3 => self.take_comdat(alloc, front),
             _ => self.keep(alloc, front),
         }
     }
 
     /// The bytes of the records, with all values added.
     pub(crate) fn finish(self, alloc: Global) -> Result<Vec<u8>, AllocError>
-        ensures { IfOk result (λ out. out.items ≡ flat_map raw_bytes (patched self.entry.records self.entry.patches)) }
+        ensures { IfOk result (λ out. out.items ≡ flat_map raw_bytes (patched (patched self.entry.before.records self.entry.patches) self.entry.growths)) }
     {
         let Work {
             patches,
+            growths,
             mut records,
             ..
         } = self;
         add_all(&mut records, &patches);
+        add_all(&mut records, &growths);
         let mut out = Vec::new(alloc);
         put_all(&mut out, &records)?;
         Ok(out)

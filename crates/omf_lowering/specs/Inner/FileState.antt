@@ -1,5 +1,5 @@
 -- What is done of a file, and a module more.
-use Rattle.std.specs.Prelude.{◌≡◌, ◌⊎◌, ◌≤◌, ℕ, List, [], ◌++◌, length, flat_map, true}
+use Rattle.std.specs.Prelude.{◌≡◌, ◌⊎◌, ◌≤◌, ℕ, List, ◌++◌, length, flat_map, true}
 use Rattle.omf_lowering.specs.Files.{IsFront, begins_module, unpadded}
 use Rattle.omf_lowering.specs.Lowering.{IsLowered}
 use Rattle.omf_lowering.specs.declared.fault.FileFault.{FileFault}

@@ -3,9 +3,8 @@ use Rattle.std.specs.Prelude.{◌≡◌, ◌<◌, IsTrue, ⊤, ℕ, List, [], �
 use Rattle.omf_frame.specs.Fault.{Fault}
 use Rattle.omf_check.specs.Rules.{item_limit}
 use Rattle.omf_frame.specs.Framing.{Raw, is_end, raw_bytes}
-use Rattle.omf_lowering.specs.Externals.{names_in, names_of}
 use Rattle.omf_lowering.specs.Patches.{pieces_from}
-use Rattle.omf_lowering.specs.Lowering.{replacement, replaced, pieces, patches_in, patches, lowering_fault, BeginsWith, IsWideRecord}
+use Rattle.omf_lowering.specs.Lowering.{Before, so_far, up_to_next, replacement, pieces, patches_in, patches, growths_in, growths, lowering_fault, BeginsWith, IsWideRecord}
 use Rattle.omf_lowering.specs.declared.record.Front.{Front}
 use Rattle.omf_lowering.specs.declared.fault.LoweringFault.{LoweringFault}
 use Rattle.omf_lowering.specs.declared.fault.LoweringFault.TheVariants as lowering
@@ -14,12 +13,12 @@ use Rattle.omf_lowering.specs.declared.fault.Stop.TheVariants as stop
 use Rattle.omf_lowering.specs.declared.values.Piece.{Piece}
 use Rattle.omf_lowering.specs.declared.values.Patch.{Patch}
 
--- The table of names, the data, the values to add, and the replaced records.
+-- What the module has so far, the data, the values to add to them, and the growths of lengths.
 pub record State : Type 0 where
-  pub names : List (List ℕ)
+  pub before : Before
   pub data_before : List Piece
   pub patches : List Patch
-  pub records : List Raw
+  pub growths : List Patch
 
 -- The record at the front of some bytes.
 abbrev pub seen : Front → Raw
@@ -27,16 +26,23 @@ seen f = record { kind = f.kind; body = f.body.now; checksum = f.checksum }
 
 -- The state after these records.
 abbrev pub state_of : List Raw → State
-state_of rs = record { names = names_of rs; data_before = pieces rs; patches = patches rs; records = replaced rs }
+state_of rs = record { before = so_far rs; data_before = pieces rs; patches = patches rs; growths = growths rs }
 
 -- The state after one more record.
 abbrev pub added : State → Raw → State
 added s r = record {
-  names = s.names ++ names_in r;
-  data_before = s.data_before ++ pieces_from (length s.records) (replacement s.names r);
+  before = up_to_next s.before r;
+  data_before = s.data_before ++ pieces_from (length s.before.records) (replacement s.before r);
   patches = s.patches ++ patches_in s.data_before r;
-  records = s.records ++ replacement s.names r;
+  growths = s.growths ++ growths_in s.before s.data_before r;
 }
+
+-- These records are appended, and their data.
+pub record AreAppended (rs old new : List Raw) (data_old data_new : List Piece) : Type 0 where
+  pub items : List Raw
+  pub is : items ≡ rs
+  pub records : new ≡ old ++ items
+  pub pieces : data_new ≡ data_old ++ pieces_from (length old) items
 
 -- A function stopped for this fault, or memory ran out.
 abbrev pub IsStop : Stop → Option Fault → Type 0
