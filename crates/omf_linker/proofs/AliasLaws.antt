@@ -1,14 +1,17 @@
 -- The tables by which aliases are followed, and the modules that are made.
-use Rattle.std.proofs.Common.{◌≡◌, ℕ, zero, suc, ◌+◌, ◌-◌, ◌<◌, ◌≤◌, Bool, true, false, List, [], ◌∷◌, ◌++◌, length, take, drop, get_or, refl, sym, ap, ap₂, ◌∙◌, subst, inl, inr, arith, append_assoc, append-nil, length-append}
-use Rattle.std.specs.Prelude.{◌↔◌, ◌==◌, All, Contains, IsTrue, Ok, Option, Some, None, is_some, flat_map, bytes_eq, cond}
-use Rattle.std.specs.BTreeMap.{btree_map_len, is_at}
+use Rattle.std.proofs.Common.{◌≡◌, ℕ, zero, suc, ◌+◌, ◌-◌, ◌<◌, ◌≤◌, Bool, Bor, true, false, List, [], ◌∷◌, ◌++◌, length, take, drop, get_or, refl, sym, ap, ap₂, ◌∙◌, subst, inl, inr, arith, nat_cmp, Ordering, Less, Equal, Greater, append_assoc, append-nil, length-append}
+use Rattle.std.specs.Prelude.{◌↔◌, ◌==◌, All, Contains, IsTrue, Ok, Err, Result, OnOk, Option, Some, None, find, is_some, nat_lt, option_and_then, option_map, unwrap_or, flat_map, bytes_eq, cond}
+use Rattle.std.specs.BTreeMap.{BTreeMap, Updates, btree_map_len, get, is_at}
 use Rattle.std.specs.List.{AllZip, enumerate_from}
 use Rattle.std.specs.Map.{lookup}
+use Rattle.std.specs.Option.{option_copied, option_or}
+use Rattle.std.specs.Ordering.{is_eq}
 use Rattle.std.proofs.Math.Seq.{drop-append_seam, take-append_seam}
-use Rattle.std.proofs.lemmas.Bool.{cases_Bool, cond-true, cond-false, eqb-true}
+use Rattle.std.proofs.lemmas.Bool.{cases_Bool, cond-true, cond-false, eq-eqb, eqb-true, le-ltb}
 use Rattle.std.proofs.lemmas.Grind.{flat_map-append}
-use Rattle.std.proofs.lemmas.List.{drop_more}
+use Rattle.std.proofs.lemmas.List.{drop_more, take_all}
 use Rattle.std.proofs.lemmas.List.Elements.{Contains-get_or}
+use Rattle.std.proofs.lemmas.List.Folds.{find-append}
 use Rattle.std.proofs.lemmas.Slice.Eq.{bytes_eq-Decides}
 use Rattle.omf_names.specs.Names.{name_cmp}
 use Rattle.omf_names.proofs.NameTables.{IsUpdated}
@@ -26,13 +29,17 @@ use Rattle.omf_placement.specs.Derive.{named_externals}
 use Rattle.omf_placement.proofs.LinkageLaws.{drop-some, drop-past}
 use Rattle.omf_placement.proofs.NamedLaws.{entry-suc, named-count}
 use Rattle.omf_placement.proofs.WeakLaws.{no_items}
+use Rattle.omf_placement.specs.Weak.{weak_pairs}
+use Rattle.omf_placement.specs.declared.several.pairs.WeakPair.{WeakPair}
 use Rattle.omf_linking.proofs.FoldLaws.{AreReadable, readable-less, readable-starts}
 use Rattle.omf_library.specs.Aliases.{AliasPair}
-use Rattle.omf_linker.specs.Aliases.{Default, HasFault, IsFollowed, IsFollowingFault, IsWith, default_of, defaults, end_after, end_among, end_or, most, next_name, substitute}
-use Rattle.omf_linker.specs.Inner.Aliases.{HasPairs, IsMadeWith, IsReplacement, IsSplit, IsSubstituteTable, found_at, replaced}
+use Rattle.omf_linker.specs.Aliases.{Default, HasFault, IsFollowed, IsFollowingFault, IsWith, default_by, default_in, default_named, default_of, defaults, end_after, end_among, end_or, followed_entry, is_pair_of, most, next_name, own_default, own_entry, substitute}
+use Rattle.omf_linker.specs.Inner.Aliases.{HasOwn, HasPairs, IsMadeWith, IsOwnTable, IsReplacement, IsSplit, IsSubstituteTable, found_at, replaced}
+use Rattle.omf_linker.specs.Exe.Sharing.{with_added}
 use Rattle.omf_linker.specs.declared.aliases.fault.FollowingFault.{FollowingFault}
 use Rattle.omf_linker.specs.declared.aliases.fault.FollowingFault.TheVariants as fault
 use Rattle.omf_linker.specs.declared.aliases.substitutes.SubstituteTable.{SubstituteTable}
+use Rattle.omf_linker.proofs.SettledLaws.{no_entry}
 
 -- ---- The substitute among pairs, and one pair more
 
@@ -130,21 +137,127 @@ pub both-none : (b : Bool) (o : Option (List ℕ)) → o ≡ None → o ≡ cond
 both-none true o e = e
 both-none false o e = refl
 
+-- ---- The own defaults of externals
+
+equal : (a : ℕ) → is_eq (nat_cmp a a) ≡ true
+equal a = ap (λ b. is_eq (cond b Less (cond (a == a) Equal Greater))) (le-ltb a a (omega arith)) ∙ ap (λ b. is_eq (cond b Equal Greater)) (eq-eqb a a refl)
+
+other-way : (t : Bool) → is_eq (cond t Less Greater) ≡ false
+other-way true = refl
+other-way false = refl
+
+unequal : (a b : ℕ) → (a == b) ≡ false → is_eq (nat_cmp a b) ≡ false
+unequal a b e = ap (λ x. is_eq (cond (nat_lt a b) Less (cond x Equal Greater))) e ∙ other-way (nat_lt a b)
+
+or-none : {A : Type 0} (o : Option A) → option_or o None ≡ o
+or-none None = refl
+or-none (Some x) = refl
+
+map-or : {A B : Type 0} (f : A → B) (o p : Option A) → option_map f (option_or o p) ≡ option_or (option_map f o) (option_map f p)
+map-or f None p = refl
+map-or f (Some x) p = refl
+
+-- The result of a look-up.
+pub looked-none : (o : Option (Bor ℕ)) → is_some o ≡ false → option_copied o ≡ None
+looked-none None e = refl
+looked-none (Some x) e = absurd cc
+
+pub looked-some : (o : Option (Bor ℕ)) → is_some o ≡ true → (d : ℕ) × (option_copied o ≡ Some d)
+looked-some None e = absurd cc
+looked-some (Some x) e = (x.now, refl)
+
+abbrev OwnMap : Type 0
+OwnMap = BTreeMap ℕ ℕ
+
+-- One pair more at the end.
+module _ (ps : List WeakPair) (p : WeakPair) (i : ℕ) where
+  own-more : own_default (ps ++ p ∷ []) i ≡ option_or (own_default ps i) (own_default (p ∷ []) i)
+  own-more = ap (option_map default_in) (find-append (is_pair_of i) ps (p ∷ [])) ∙ map-or default_in (find (is_pair_of i) ps) (find (is_pair_of i) (p ∷ []))
+
+  own-first : own_default ps i ≡ None → (p.weak == i) ≡ true → own_default (ps ++ p ∷ []) i ≡ Some p.substitute
+  own-first e b = own-more ∙ ap₂ (λ o t. option_or o (option_map default_in (cond t (Some p) None))) e b
+
+  own-same : (p.weak == i) ≡ false → own_default (ps ++ p ∷ []) i ≡ own_default ps i
+  own-same b = own-more ∙ ap (λ t. option_or (own_default ps i) (option_map default_in (cond t (Some p) None))) b ∙ or-none (own_default ps i)
+
+  own-there : (d : ℕ) → own_default ps i ≡ Some d → own_default (ps ++ p ∷ []) i ≡ Some d
+  own-there d e = own-more ∙ ap (λ o. option_or o (own_default (p ∷ []) i)) e
+
+module _ (p : WeakPair) where
+  pub own-again : (t : OwnMap) (d : ℕ) → get nat_cmp t p.weak ≡ Some d → HasOwn t t p
+  own-again t d g ps h i = elim (cases_Bool (p.weak == i)) [
+    | inl b ↦
+        let there : get nat_cmp t i ≡ Some d = ap (get nat_cmp t) (sym (eqb-true p.weak i b)) ∙ g in
+        there ∙ sym (own-there ps p i d (sym (h i) ∙ there))
+    | inr b ↦ h i ∙ sym (own-same ps p i b)
+  ]
+
+  pub own-new : (t u : OwnMap) → get nat_cmp t p.weak ≡ None → Updates nat_cmp t u p.weak (Some p.substitute) → HasOwn t u p
+  own-new t u g n ps h i = elim (cases_Bool (p.weak == i)) [
+    | inl b ↦
+        let this : p.weak ≡ i = eqb-true p.weak i b in
+        let none : own_default ps i ≡ None = sym (h i) ∙ ap (get nat_cmp t) (sym this) ∙ g in
+        n.0 i ∙ cond-true (is_eq (nat_cmp p.weak i)) (Some p.substitute) (get nat_cmp t i) (ap (λ k. is_eq (nat_cmp p.weak k)) (sym this) ∙ equal p.weak)
+        ∙ sym (own-first ps p i none b)
+    | inr b ↦
+        n.0 i ∙ cond-false (is_eq (nat_cmp p.weak i)) (Some p.substitute) (get nat_cmp t i) (unequal p.weak i b)
+        ∙ h i ∙ sym (own-same ps p i b)
+  ]
+
+-- The external that is the own default of one.
+module _ (m : List Rec) (i : ℕ) (o : Option ℕ) where
+  pub own-none : o ≡ own_default (weak_pairs m) i → o ≡ None → None ≡ own_entry m i
+  own-none e n = ap (option_and_then (entry (named_externals m))) (sym n ∙ e)
+
+  pub own-at : (d : ℕ) → o ≡ own_default (weak_pairs m) i → o ≡ Some d → entry (named_externals m) d ≡ own_entry m i
+  own-at d e s = ap (option_and_then (entry (named_externals m))) (sym s ∙ e)
+
+  pub own-zero : (d : ℕ) → o ≡ own_default (weak_pairs m) i → o ≡ Some d → d ≡ 0 → None ≡ own_entry m i
+  own-zero d e s z = ap (entry (named_externals m)) (sym z) ∙ own-at d e s
+
+  pub own-past : (d : ℕ) → o ≡ own_default (weak_pairs m) i → o ≡ Some d → length (externals m) < d → None ≡ own_entry m i
+  own-past d e s h = sym (no_entry (named_externals m) d (omega (arith, h, named-count m))) ∙ own-at d e s
+
+pub followed-own : (m : List Rec) (i : ℕ) (x y : List ℕ × Bool) → Some x ≡ own_entry m i → x ≡ followed_entry m (i, y)
+followed-own m i x y e = ap (λ o. unwrap_or o y) e
+
+pub on-ok : {A E P Q : Type 0} (r : Result A E) → (P → Q) → OnOk r P → OnOk r Q
+on-ok (Ok x) f h = f h
+on-ok (Err e) f h = tt
+
+pub followed-self : (m : List Rec) (i : ℕ) (y : List ℕ × Bool) → None ≡ own_entry m i → y ≡ followed_entry m (i, y)
+followed-self m i y e = ap (λ o. unwrap_or o y) e
+
 -- ---- The defaults of a module
 
 module _ (ms : List (List Rec)) (m : List Rec) where
   abbrev pub defaults_from : ℕ → List Default
-  defaults_from i = flat_map (default_of ms) (enumerate_from i (drop (i - 1) (named_externals m)))
+  defaults_from i = flat_map (default_of ms m) (enumerate_from i (drop (i - 1) (named_externals m)))
 
-  pub next_default : (i : ℕ) (x : List ℕ × Bool) → 1 ≤ i → entry (named_externals m) i ≡ Some x → defaults_from i ≡ default_of ms (i, x) ++ defaults_from (i + 1)
+  pub next_default : (i : ℕ) (x : List ℕ × Bool) → 1 ≤ i → entry (named_externals m) i ≡ Some x → defaults_from i ≡ default_of ms m (i, x) ++ defaults_from (i + 1)
   next_default i x low e =
       let back : suc (i - 1) ≡ i = omega (arith, low) in
       let next : i - 1 + 1 ≡ i + 1 - 1 = omega (arith, low) in
       let s = drop-some (named_externals m) (i - 1) x (sym (entry-suc (named_externals m) (i - 1)) ∙ ap (entry (named_externals m)) back ∙ e) in
-      ap (λ xs. flat_map (default_of ms) (enumerate_from i xs)) (s ∙ ap (λ n. x ∷ drop n (named_externals m)) next)
+      ap (λ xs. flat_map (default_of ms m) (enumerate_from i xs)) (s ∙ ap (λ n. x ∷ drop n (named_externals m)) next)
 
   pub no_defaults : (i : ℕ) → length (externals m) + 1 ≤ i → defaults_from i ≡ []
-  no_defaults i l = ap (λ xs. flat_map (default_of ms) (enumerate_from i xs)) (drop-past (named_externals m) (i - 1) (omega (arith, l, named-count m)))
+  no_defaults i l = ap (λ xs. flat_map (default_of ms m) (enumerate_from i xs)) (drop-past (named_externals m) (i - 1) (omega (arith, l, named-count m)))
+
+  -- Without an alias no external has a default.
+  module _ (none : (name : List ℕ) → next_name ms name ≡ None) where
+    default-none : (i : ℕ) (x : List ℕ × Bool) → default_by ms i x ≡ []
+    default-none i x = elim (cases_Bool x.1) [
+      | inl b ↦ cond-true x.1 [] (default_named i (end_after ms (next_name ms x.0))) b
+      | inr b ↦ cond-false x.1 [] (default_named i (end_after ms (next_name ms x.0))) b ∙ ap (λ o. default_named i (end_after ms o)) (none x.0)
+    ]
+
+    all-none : (es : List (ℕ × (List ℕ × Bool))) → flat_map (default_of ms m) es ≡ []
+    all-none [] = refl
+    all-none (e ∷ es) = ap₂ (λ xs ys. xs ++ ys) (default-none e.0 (followed_entry m e)) (all-none es)
+
+    pub without_aliases : [] ≡ defaults ms m
+    without_aliases = sym (all-none (enumerate_from 1 (named_externals m)))
 
 -- ---- The last record of a module
 
@@ -284,3 +397,9 @@ all-followed ms [] (r ∷ rs) h = absurd h
 all-followed ms (n ∷ ns) [] h = absurd h
 all-followed ms (n ∷ ns) (Some k ∷ rs) (r, h) = (r, all-followed ms ns rs h)
 all-followed ms (n ∷ ns) (None ∷ rs) (r, h) = (without-is n (defaults ms (recs_of n.bytes)) r, all-followed ms ns rs h)
+
+-- ---- The module that asks for the names of the linker
+
+pub without-added : (ms : List Module) (a : Option Module) (all left : List Module) → all ≡ with_added ms a → left ≡ take (length ms) all → left ≡ ms
+without-added ms None all left e f = f ∙ ap (take (length ms)) e ∙ take_all (length ms) ms (omega arith)
+without-added ms (Some m) all left e f = f ∙ ap (take (length ms)) e ∙ take-append_seam ms (m ∷ [])

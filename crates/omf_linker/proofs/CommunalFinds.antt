@@ -5,6 +5,7 @@ use Rattle.std.specs.List.{filter, list_any, cons_option}
 use Rattle.std.proofs.lemmas.Bool.{cond-true, cond-false, cases_Bool, false_from_ne_true, true≢false, or_parts}
 use Rattle.std.proofs.lemmas.Grind.{flat_map-append}
 use Rattle.std.proofs.lemmas.List.Elements.{filter_map-append}
+use Rattle.std.proofs.lemmas.List.Folds.{list_any-append}
 use Rattle.std.proofs.lemmas.Option.{none-some, same_Some}
 use Rattle.omf_frame.specs.Types.{is_local}
 use Rattle.omf_records.specs.Values.{At, Rec, Contents, Header, Comment, Names, Segment, Group, Externs, Publics, Communals, Plain, Iterated, Fixups, ModEnd, Carried, PublicItem, CommunalItem, nowhere}
@@ -462,8 +463,14 @@ module _ (ms : List (List Rec)) (name : Name) (claimed : has_claim (all_claims m
       let c = seen-both (order_group grouped (length all)) (ends ++ (bss ++ end_record ∷ [])) (group-seen grouped (length all)) b in
       seen-both (slots_records 0 all) (order_group grouped (length all) ++ (ends ++ (bss ++ end_record ∷ []))) (each-quiet slots_records slot_records (λ j. refl) (λ j s ss. refl) (λ j s. refl) 0 all) c
 
+still-claimed : (ms more : List (List Rec)) (name : Name) → has_claim (all_claims ms) name ≡ true → has_claim (all_claims (ms ++ more)) name ≡ true
+still-claimed ms more name e =
+    ap (λ cs. has_claim cs name) (flat_map-append module_claims ms more) ∙ list_any-append (λ c. bytes_eq c.0 name) (all_claims ms) (all_claims more) ∙ ap (λ b. b || has_claim (all_claims more) name) e
+
 pub added-define-new-names : AddedDefineNewNames
 added-define-new-names ms name claimed = record {
-  order = λ pl. named-first name (order_records ms, pl) [] ∙ append-nil (filter_map (of_name name) (publics false (order_records ms, pl))) ∙ order-seen ms name claimed pl;
+  order = λ more pl.
+      let all = ms ++ more in
+      named-first name (order_records all, pl) [] ∙ append-nil (filter_map (of_name name) (publics false (order_records all, pl))) ∙ order-seen all name (still-claimed ms more name claimed) pl;
   stack = λ size pl. refl;
 }

@@ -1,16 +1,19 @@
 -- How a linker follows ALIAS records (TIS OMF 1.1, "ALIAS"; this profile's rule): an external that no public has, and whose name is an alias, is a weak external
--- (COMENT, class A8H). Its default is the name at the end of the aliases.
-use Rattle.std.specs.Prelude.{◌≡◌, ⊤, ℕ, zero, suc, ◌+◌, ◌<◌, List, [], ◌∷◌, ◌++◌, length, map, flat_map, bytes_eq, Option, Some, None, option_to_list, Contains, if◌then◌else◌, Bool, Ok, Err}
-use Rattle.std.specs.List.{AllZip, enumerate_from}
+-- (COMENT, class A8H). Its default is the name at the end of the aliases. A default of its own counts before, and is followed in its place.
+use Rattle.std.specs.Prelude.{◌≡◌, ⊤, ℕ, zero, suc, ◌+◌, ◌==◌, ◌<◌, List, [], ◌∷◌, ◌++◌, length, find, map, flat_map, codes, bytes_eq, Option, Some, None, option_and_then, option_map, unwrap_or, Contains, if◌then◌else◌, Bool, Ok, Err}
+use Rattle.std.specs.List.{AllZip, enumerate_from, filter, list_any}
 use Rattle.omf_frame.specs.Fields.{index_bytes}
 use Rattle.omf_frame.specs.Framing.{Raw, raw_bytes}
 use Rattle.omf_records.specs.Values.{Comment, Externs, Rec, nowhere}
 use Rattle.omf_check.specs.Checking.{Decides}
 use Rattle.omf_check.specs.Module.{Module, records_in, recs_of, typed_modules}
-use Rattle.omf_check.specs.Tables.{externals}
+use Rattle.omf_check.specs.Tables.{entry, externals}
 use Rattle.omf_check.specs.declared.fault.CheckFault.TheVariants.{Refused}
 use Rattle.omf_placement.specs.Derive.{named_externals}
-use Rattle.omf_layout.specs.Own.Written.{typed, written}
+use Rattle.omf_placement.specs.Weak.{weak_pairs}
+use Rattle.omf_placement.specs.declared.several.pairs.WeakPair.{WeakPair}
+use Rattle.omf_layout.specs.Own.Order.{bss_names, data_names}
+use Rattle.omf_layout.specs.Own.Written.{end_record, header, typed, written}
 use Rattle.omf_library.specs.Aliases.{AliasPair, alias_pairs}
 use Rattle.omf_linker.specs.Drafting.Names.{all_names, has_name}
 use Rattle.omf_linker.specs.Exe.Sharing.{any_profile}
@@ -63,12 +66,33 @@ abbrev pub default_named : ℕ → Option (List ℕ) → List Default
 default_named i None = []
 default_named i (Some name) = record { external = i; name = name } ∷ []
 
--- The defaults of a module, one of modules, in the order of its externals. A local external (LEXTDEF, LCOMDEF) has none.
-abbrev pub default_of : List (List Rec) → ℕ × (List ℕ × Bool) → List Default
-default_of ms e = if e.1.1 then [] else default_named e.0 (end_of ms e.1.0)
+-- The default that a comment of its module gives to an external (class A8H or A9H; of several pairs the first): its index, and its name with whether it is local.
+abbrev pub is_pair_of : ℕ → WeakPair → Bool
+is_pair_of i p = p.weak == i
 
+abbrev pub default_in : WeakPair → ℕ
+default_in p = p.substitute
+
+abbrev pub own_default : List WeakPair → ℕ → Option ℕ
+own_default ps i = option_map default_in (find (is_pair_of i) ps)
+
+abbrev pub own_entry : List Rec → ℕ → Option (List ℕ × Bool)
+own_entry m i = option_and_then (entry (named_externals m)) (own_default (weak_pairs m) i)
+
+-- The name by which an external is followed: that of its own default, if it has one, else its own.
+abbrev pub followed_entry : List Rec → ℕ × (List ℕ × Bool) → List ℕ × Bool
+followed_entry m e = unwrap_or (own_entry m e.0) e.1
+
+-- The name at the end of the aliases of that name is its default. A local name (LEXTDEF, LCOMDEF) is not followed.
+abbrev pub default_by : List (List Rec) → ℕ → List ℕ × Bool → List Default
+default_by ms i x = if x.1 then [] else default_named i (end_of ms x.0)
+
+abbrev pub default_of : List (List Rec) → List Rec → ℕ × (List ℕ × Bool) → List Default
+default_of ms m e = default_by ms e.0 (followed_entry m e)
+
+-- The defaults of a module, one of modules, in the order of its externals.
 abbrev pub defaults : List (List Rec) → List Rec → List Default
-defaults ms m = flat_map (default_of ms) (enumerate_from 1 (named_externals m))
+defaults ms m = flat_map (default_of ms m) (enumerate_from 1 (named_externals m))
 
 -- The records for defaults, in a module with `count` externals before: an EXTDEF of the default's name, and a COMENT of class A8H that pairs the two.
 abbrev pub external_record : List ℕ → Rec
@@ -80,6 +104,30 @@ weak_record weak default = typed 0x88 (Comment 0x80 0xA8 (index_bytes weak ++ in
 abbrev pub default_records : ℕ → List Default → List Rec
 default_records count [] = []
 default_records count (d ∷ ds) = external_record d.name ∷ weak_record d.external (count + 1) ∷ default_records (count + 1) ds
+
+-- ---- The names of the linker
+
+-- Of the names that a linker defines where modules ask for them (`_edata` and others), those that are the default of an external by its aliases.
+abbrev pub all_defaults : List (List Rec) → List Default
+all_defaults ms = flat_map (defaults ms) ms
+
+abbrev pub is_default : List Default → List ℕ → Bool
+is_default ds name = list_any (λ d. bytes_eq d.name name) ds
+
+abbrev pub linker_names : List (List ℕ)
+linker_names = data_names ++ bss_names
+
+abbrev pub asked_by_aliases : List (List Rec) → List (List ℕ)
+asked_by_aliases ms = filter (is_default (all_defaults ms)) linker_names
+
+-- A module that asks for names: an EXTDEF for each. It has no segment and no public.
+abbrev pub asking_records : List (List ℕ) → List Rec
+asking_records names = header (codes "aliases") ∷ (map external_record names ++ end_record ∷ [])
+
+-- The module that asks for those names of modules; there is none if there are no such names.
+abbrev pub IsAskerOf : List Module → Option Module → Type 0
+IsAskerOf ms None = asked_by_aliases (typed_modules ms) ≡ []
+IsAskerOf ms (Some m) = Decides any_profile (written (asking_records (asked_by_aliases (typed_modules ms)))) (Ok m)
 
 -- ---- The modules
 

@@ -1,13 +1,16 @@
 //! ALIAS records, followed (TIS OMF 1.1, "ALIAS"): an external that no public has, and whose name is an alias, gets the name at the end of the
-//! aliases as its default, as a weak external has one.
+//! aliases as its default, as a weak external has one. A default of its own counts before.
 
+mod asking;
 mod defaults;
 mod ends;
 mod fault;
 mod following;
+mod own;
 mod records;
 pub mod rows;
 mod substitutes;
 
+pub(crate) use asking::asker_of;
 pub use fault::FollowingFault;
 pub use following::followed;

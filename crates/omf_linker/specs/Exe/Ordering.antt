@@ -1,12 +1,13 @@
 -- The module that a linker puts before the modules of a program for DOS order (this profile's rule).
-use Rattle.std.specs.Prelude.{◌≡◌, List, ◌∷◌, Ok, Err}
+use Rattle.std.specs.Prelude.{◌≡◌, List, ◌∷◌, Option, Ok, Err}
 use Rattle.omf_check.specs.Checking.{Decides}
 use Rattle.omf_check.specs.Module.{Module, typed_modules}
 use Rattle.omf_check.specs.declared.fault.CheckFault.TheVariants.{Refused}
 use Rattle.omf_layout.specs.Own.Order.{order_records}
 use Rattle.omf_layout.specs.Own.OrderFault.{IsOrderFault}
 use Rattle.omf_layout.specs.Own.Written.{written}
-use Rattle.omf_linker.specs.Exe.Sharing.{any_profile}
+use Rattle.omf_linker.specs.Aliases.{IsAskerOf}
+use Rattle.omf_linker.specs.Exe.Sharing.{any_profile, with_added}
 use Rattle.omf_linker.specs.declared.exe.ordering.OrderingFault.{OrderingFault}
 use Rattle.omf_linker.specs.declared.exe.ordering.OrderingFault.TheVariants as ordering
 
@@ -14,10 +15,13 @@ use Rattle.omf_linker.specs.declared.exe.ordering.OrderingFault.TheVariants as o
 abbrev pub IsOrderOf : List Module → Module → Type 0
 IsOrderOf ms m = Decides any_profile (written (order_records (typed_modules ms))) (Ok m)
 
--- Modules, and before them that module.
+-- Modules, and before them the module of their order. That defines also the names for which they ask by aliases alone: it is made of these modules and one more,
+-- which asks for them, and takes no part in the program.
 pub record AreOrdered (ms all : List Module) : Type 0 where
+  pub asker : Option Module
+  pub asks : IsAskerOf ms asker
   pub order : Module
-  pub made : IsOrderOf ms order
+  pub made : IsOrderOf (with_added ms asker) order
   pub first : all ≡ order ∷ ms
 
 -- Why modules are not put in DOS order: there is no module for it; or it is refused.

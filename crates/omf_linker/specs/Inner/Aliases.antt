@@ -1,13 +1,17 @@
 -- The tables by which aliases are followed (the steps of the code).
-use Rattle.std.specs.Prelude.{◌≡◌, ℕ, List, [], ◌∷◌, ◌++◌, flat_map, Option, Some, None, unwrap_or, if◌then◌else◌, Result, Ok, Err}
-use Rattle.std.specs.BTreeMap.{get_by}
+use Rattle.std.specs.Prelude.{◌≡◌, ℕ, Bool, List, [], ◌∷◌, ◌++◌, flat_map, Option, Some, None, unwrap_or, if◌then◌else◌, Result, Ok, Err}
+use Rattle.std.specs.BTreeMap.{BTreeMap, get, get_by}
+use Rattle.std.specs.Ordering.{nat_cmp}
 use Rattle.omf_names.specs.Names.{name_cmp}
 use Rattle.omf_frame.specs.Framing.{Raw, raw_bytes}
 use Rattle.omf_records.specs.Values.{Rec}
 use Rattle.omf_check.specs.Checking.{Decides}
 use Rattle.omf_check.specs.Module.{Module, records_in, recs_of}
+use Rattle.omf_check.specs.Tables.{entry}
+use Rattle.omf_placement.specs.Derive.{named_externals}
+use Rattle.omf_placement.specs.declared.several.pairs.WeakPair.{WeakPair}
 use Rattle.omf_library.specs.Aliases.{AliasPair}
-use Rattle.omf_linker.specs.Aliases.{AreBytesWith, Default, IsDefaultsFault, IsFollowed, defaults, next_name, substitute}
+use Rattle.omf_linker.specs.Aliases.{AreBytesWith, Default, IsDefaultsFault, IsFollowed, default_of, defaults, next_name, own_default, substitute}
 use Rattle.omf_linker.specs.Drafting.Names.{IsNameTable, has_name}
 use Rattle.omf_linker.specs.Exe.Sharing.{any_profile}
 use Rattle.omf_linker.specs.declared.aliases.fault.FollowingFault.{FollowingFault}
@@ -32,6 +36,19 @@ pub record AreAliases (a : Aliases) (ms : List (List Rec)) : Type 0 where
   pub publics : IsNameTable a.publics names
   pub substitutes : IsSubstituteTable a.substitutes pairs
   pub same : (name : List ℕ) → (if has_name names name then None else substitute pairs name) ≡ next_name ms name
+
+-- A table has the own default of each external by these pairs; it has one pair more.
+abbrev pub IsOwnTable : BTreeMap ℕ ℕ → List WeakPair → Type 0
+IsOwnTable t ps = (i : ℕ) → get nat_cmp t i ≡ own_default ps i
+
+abbrev pub HasOwn : BTreeMap ℕ ℕ → BTreeMap ℕ ℕ → WeakPair → Type 0
+HasOwn t u p = (ps : List WeakPair) → IsOwnTable t ps → IsOwnTable u (ps ++ p ∷ [])
+
+-- After other defaults there is that of an external, if it has one.
+pub record IsNextDefault (ms : List (List Rec)) (m : List Rec) (i : ℕ) (old new : List Default) : Type 0 where
+  pub external : List ℕ × Bool
+  pub there : entry (named_externals m) i ≡ Some external
+  pub added : new ≡ old ++ default_of ms m (i, external)
 
 -- A module's bytes are split before its last record.
 pub record IsSplit (bytes front back : List ℕ) : Type 0 where

@@ -1,12 +1,16 @@
 //! The defaults that aliases give to the externals of a module.
 
-ghost use Rattle.std.specs.Prelude.{◌≡◌, ◌++◌, IfOk, List, OnOk};
+ghost use Rattle.std.specs.Prelude.{◌≡◌, ◌≤◌, ◌++◌, IfOk, List, OnOk, length};
 ghost use Rattle.omf_check.specs.Module.{recs_of};
+ghost use Rattle.omf_check.specs.Tables.{externals};
+ghost use Rattle.omf_placement.specs.Weak.{weak_pairs};
 ghost use Rattle.omf_records.specs.Values.{Rec as Typed};
-ghost use Rattle.omf_linker.specs.Aliases.{default_of, defaults};
-ghost use Rattle.omf_linker.specs.Inner.Aliases.{AreAliases};
+ghost use Rattle.omf_linker.specs.Aliases.{default_by, defaults};
+ghost use Rattle.omf_linker.specs.Inner.Aliases.{AreAliases, IsNextDefault, IsOwnTable};
 
 use crate::aliases::ends::Aliases;
+use crate::aliases::own::OwnDefaults;
+use crate::link::{Spot, external_at};
 use omf_check::Checked;
 use omf_frame::{Index, Name};
 use std::alloc::{AllocError, Global};
@@ -27,7 +31,7 @@ impl<'a> Model for ExternalDefault<'a> {
     ghost view = { λ d. record { external = d.external; name = d.name } };
 }
 
-/// Appends the default of an external, if it has one. A local external has none.
+/// Appends the default of an external that is followed by a name, if it has one.
 fn put_default<'a>(
     defaults: &mut Vec<ExternalDefault<'a>>,
     aliases: &Aliases<'a>,
@@ -35,7 +39,7 @@ fn put_default<'a>(
     name: &'a [u8],
     is_local: bool,
 ) -> Result<(), AllocError>
-    ensures { (ms : List (List Typed)) → AreAliases aliases.now ms → OnOk result (defaults.new.items ≡ defaults.old.items ++ default_of ms (external, (name.now, is_local))) }
+    ensures { (ms : List (List Typed)) → AreAliases aliases.now ms → OnOk result (defaults.new.items ≡ defaults.old.items ++ default_by ms external (name.now, is_local)) }
 {
     if is_local {
         return Ok(());
@@ -46,7 +50,28 @@ fn put_default<'a>(
     Ok(())
 }
 
-/// The defaults of a module, in the order of its externals.
+/// Appends the default of the external with an index, from 1, if it has one.
+fn put_external<'a>(
+    defaults: &mut Vec<ExternalDefault<'a>>,
+    aliases: &Aliases<'a>,
+    own: &OwnDefaults,
+    module: &'a Checked,
+    external: u16,
+) -> Result<(), AllocError>
+    requires low { 1 ≤ external }
+    requires within { external ≤ length (externals (recs_of «module».now.bytes)) }
+    requires small { external ≤ 32767 }
+    ensures { (ms : List (List Typed)) → AreAliases aliases.now ms → IsOwnTable own.now.by_external (weak_pairs (recs_of «module».now.bytes)) → OnOk result (IsNextDefault ms (recs_of «module».now.bytes) external defaults.old.items defaults.new.items) }
+{
+    let spot = Spot {
+        module: 0,
+        external,
+    };
+    let named = own.followed(module, external_at(module, spot));
+    put_default(defaults, aliases, Index(external), named.name, named.local)
+}
+
+/// The defaults of a module, in the order of its externals. Without an alias there are none.
 ///
 /// # Errors
 ///
@@ -59,12 +84,12 @@ pub(crate) fn defaults_of<'a>(
     ensures { (ms : List (List Typed)) → AreAliases aliases.now ms → IfOk result (λ v. v.items ≡ defaults ms (recs_of «module».entry.now.bytes)) }
 {
     let mut defaults = Vec::new(alloc);
+    if aliases.is_empty() {
+        return Ok(defaults);
+    }
+    let own = OwnDefaults::of(alloc, module)?;
     for i in 1..module.externals() + 1 {
-        let is_local = module.local(i).unwrap_or(false);
-        match module.external(i) {
-            Some(name) => put_default(&mut defaults, aliases, Index(i), name.0, is_local)?,
-            None => unreachable!(),
-        }
+        put_external(&mut defaults, aliases, &own, module, i)?;
     }
     Ok(defaults)
 }

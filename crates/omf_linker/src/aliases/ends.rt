@@ -1,6 +1,6 @@
 //! The names at the end of aliases.
 
-ghost use Rattle.std.specs.Prelude.{◌≡◌, IfOk, List};
+ghost use Rattle.std.specs.Prelude.{◌≡◌, IfOk, List, None, true, ℕ};
 ghost use Rattle.omf_check.specs.Module.{typed_modules};
 ghost use Rattle.omf_records.specs.Values.{Rec as Typed};
 ghost use Rattle.omf_linker.specs.Aliases.{end_among, end_of, most, next_name};
@@ -44,6 +44,13 @@ impl<'a> Aliases<'a> {
             publics,
             substitutes,
         })
+    }
+
+    /// Whether there are no aliases, so that no name leads on.
+    pub(crate) fn is_empty(&self) -> bool
+        ensures { (ms : List (List Typed)) → AreAliases self.now ms → result ≡ true → (name : List ℕ) → next_name ms name ≡ None }
+    {
+        self.substitutes.is_empty()
     }
 
     /// Where a name leads.

@@ -1,8 +1,8 @@
-//! The records that give defaults to the externals of a module.
+//! The records that give defaults to the externals of a module, and those of a module that asks for names.
 
-ghost use Rattle.std.specs.Prelude.{◌≡◌, ◌+◌, ◌≤◌, ◌++◌, ◌∷◌, [], IfSome, OnOk, drop, length, take};
+ghost use Rattle.std.specs.Prelude.{◌≡◌, ◌+◌, ◌≤◌, ◌++◌, ◌∷◌, [], IfSome, OnOk, drop, length, map, take};
 ghost use Rattle.omf_frame.specs.Framing.{raw_bytes, raw_of};
-ghost use Rattle.omf_layout.specs.Own.Written.{framed, written};
+ghost use Rattle.omf_layout.specs.Own.Written.{end_record, framed, header, written};
 ghost use Rattle.omf_linker.specs.Aliases.{default_records, external_record, weak_record};
 ghost use Rattle.omf_linker.specs.Inner.Aliases.{IsSplit};
 
@@ -38,6 +38,40 @@ fn put_external(alloc: Global, out: &mut Vec<u8>, name: &Name<'_>) -> Result<(),
     name.put(&mut body)?;
     Index(0).put(&mut body)?;
     put_record(out, 0x8C, &body)
+}
+
+/// Appends an EXTDEF for each of these names.
+pub(crate) fn put_externals(
+    alloc: Global,
+    out: &mut Vec<u8>,
+    names: &[Name<'_>],
+) -> Result<(), AllocError>
+    ensures { OnOk result (out.new.items ≡ out.old.items ++ written (map external_record names.now)) }
+{
+    for name in names {
+        put_external(alloc, out, name)?;
+    }
+    Ok(())
+}
+
+/// Appends a THEADR with a module's name (TIS OMF 1.1, "THEADR").
+pub(crate) fn put_header(
+    alloc: Global,
+    out: &mut Vec<u8>,
+    name: &Name<'_>,
+) -> Result<(), AllocError>
+    ensures { OnOk result (out.new.items ≡ out.old.items ++ framed (header name.now)) }
+{
+    let mut body = Vec::new(alloc);
+    name.put(&mut body)?;
+    put_record(out, 0x80, &body)
+}
+
+/// Appends a MODEND of a module that is not a main module (TIS OMF 1.1, "MODEND").
+pub(crate) fn put_end(out: &mut Vec<u8>) -> Result<(), AllocError>
+    ensures { OnOk result (out.new.items ≡ out.old.items ++ framed end_record) }
+{
+    put_record(out, 0x8A, &[0])
 }
 
 /// Appends a COMENT that pairs a weak external with its default (TIS OMF 1.1, "COMENT", class A8H).

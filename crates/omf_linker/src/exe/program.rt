@@ -19,7 +19,7 @@ ghost use Rattle.omf_linker.specs.Exe.Refusing.{AreNoComProgram, AreNoProgram, A
 ghost use Rattle.omf_linker.specs.Exe.Sharing.{AreShared};
 ghost use Rattle.omf_linker.specs.Exe.Taken.{values_at};
 
-use crate::aliases::followed;
+use crate::aliases::{asker_of, followed};
 use crate::exe::added::{is_dos_ordered, stack_of};
 use crate::exe::defaults::sought;
 use crate::exe::fault::{ComProgramFault, PlacingFault, ProgramFault};
@@ -139,7 +139,7 @@ pub fn share_communals(
     }
 }
 
-/// Modules, and before them the module that puts them in DOS order.
+/// Modules, and before them the module that puts them in DOS order. It defines the names of the linker also where modules ask for them by aliases.
 ///
 /// # Errors
 ///
@@ -148,14 +148,22 @@ pub fn order_modules(alloc: Global, modules: Vec<Checked>) -> Result<Vec<Checked
     ensures ordered { IfOk result (λ v. AreOrdered modules.items v.items) }
     ensures refused { IfErr result (IsRefusalFor (AreNotOrdered modules.items)) }
 {
-    if modules.len() > u32::MAX as usize {
+    let count = modules.len();
+    let Ok(asker) = asker_of(alloc, &modules) else {
+        return Err(memory());
+    };
+    let Ok(mut asking) = with_added(modules, asker) else {
+        return Err(memory());
+    };
+    if asking.len() > u32::MAX as usize {
         return Err(memory());
     }
-    let order = match order_of(alloc, &modules) {
+    let order = match order_of(alloc, &asking) {
         Ok(order) => order,
         Err(fault) => return Err(of_ordering(alloc, fault)),
     };
-    match with_front(alloc, order, modules) {
+    asking.truncate(count);
+    match with_front(alloc, order, asking) {
         Ok(all) => Ok(all),
         Err(AllocError) => Err(memory()),
     }
