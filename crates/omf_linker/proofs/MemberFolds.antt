@@ -1,4 +1,4 @@
--- Members with their names in lower case, one after another.
+-- Members of which each is made another, and names in lower case, one after another.
 use Rattle.std.proofs.Common.{◌≡◌, ℕ, suc, ◌+◌, ◌<◌, arith, List, [], ◌∷◌, ◌++◌, length, take, get_or, sym, ap, subst, ◌∙◌, append_assoc, append-nil, Vec}
 use Rattle.std.specs.Prelude.{map}
 use Rattle.std.specs.Char.{to_ascii_lowercase}
@@ -7,18 +7,17 @@ use Rattle.std.specs.List.{AllZip}
 use Rattle.std.proofs.Math.Seq.{take-suc}
 use Rattle.std.proofs.lemmas.List.{map-append}
 use Rattle.omf_library.specs.LibraryMembers.{names_kept}
-use Rattle.omf_library.specs.declared.judged.LibraryMember.{LibraryMember}
-use Rattle.omf_linker.specs.Exe.Input.{IsMemberFolded}
 
-pub folded-more : (ms all new left rest : List LibraryMember) (m n : LibraryMember) → ((later : List LibraryMember) → AllZip IsMemberFolded left later → AllZip IsMemberFolded ms (all ++ later)) → left ≡ m ∷ rest
-    → IsMemberFolded m n → new ≡ all ++ n ∷ [] → (later : List LibraryMember) → AllZip IsMemberFolded rest later → AllZip IsMemberFolded ms (new ++ later)
-folded-more ms all new left rest m n held e f added later h =
-    subst (λ (xs : List LibraryMember). AllZip IsMemberFolded ms xs) (sym (ap (λ (xs : List LibraryMember). xs ++ later) added ∙ append_assoc all (n ∷ []) later))
-    (held (n ∷ later) (subst (λ (xs : List LibraryMember). AllZip IsMemberFolded xs (n ∷ later)) (sym e) (f, h)))
+-- Each of a list has a partner in another, one more.
+pub paired-more : {A B : Type 0} (R : A → B → Type 0) (ms left rest : List A) (all new : List B) (m : A) (n : B) → ((later : List B) → AllZip R left later → AllZip R ms (all ++ later)) → left ≡ m ∷ rest
+    → R m n → new ≡ all ++ n ∷ [] → (later : List B) → AllZip R rest later → AllZip R ms (new ++ later)
+paired-more {A} {B} R ms left rest all new m n held e f added later h =
+    subst (λ (xs : List B). AllZip R ms xs) (sym (ap (λ (xs : List B). xs ++ later) added ∙ append_assoc all (n ∷ []) later))
+    (held (n ∷ later) (subst (λ (xs : List A). AllZip R xs (n ∷ later)) (sym e) (f, h)))
 
-pub folded-end : (ms all left : List LibraryMember) → ((later : List LibraryMember) → AllZip IsMemberFolded left later → AllZip IsMemberFolded ms (all ++ later)) → left ≡ [] → AllZip IsMemberFolded ms all
-folded-end ms all left held e =
-    subst (λ (xs : List LibraryMember). AllZip IsMemberFolded ms xs) (append-nil all) (held [] (subst (λ (xs : List LibraryMember). AllZip IsMemberFolded xs []) (sym e) tt))
+pub paired-end : {A B : Type 0} (R : A → B → Type 0) (ms left : List A) (all : List B) → ((later : List B) → AllZip R left later → AllZip R ms (all ++ later)) → left ≡ [] → AllZip R ms all
+paired-end {A} {B} R ms left all held e =
+    subst (λ (xs : List B). AllZip R ms xs) (append-nil all) (held [] (subst (λ (xs : List A). AllZip R xs []) (sym e) tt))
 
 -- Names in lower case, one more.
 abbrev pub lowered : List (Vec ℕ Global) → List (List ℕ)

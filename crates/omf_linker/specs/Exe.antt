@@ -1,4 +1,5 @@
 pub mod Libraries
+pub mod Lowered
 pub mod Input
 pub mod Program
 pub mod Refusing

@@ -12,6 +12,7 @@ mod joining;
 pub mod laws;
 mod lines;
 mod listing;
+mod lowered;
 mod made;
 mod making;
 mod memory;

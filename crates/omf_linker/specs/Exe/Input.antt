@@ -1,15 +1,15 @@
 -- The modules of a program's files (this profile's rule): those of a file of modules all take part, those of a library are offered.
-use Rattle.std.specs.Prelude.{◌≡◌, ◌⊎◌, ⊤, ℕ, ◌==◌, Bool, true, false, List, [], ◌∷◌, ◌++◌, map, take, slice_get, Some, Ok, Err}
+use Rattle.std.specs.Prelude.{◌≡◌, ◌⊎◌, ⊤, ℕ, ◌==◌, Bool, true, false, List, [], ◌∷◌, ◌++◌, map, take, slice_get, Some}
 use Rattle.std.specs.Char.{to_ascii_lowercase}
 use Rattle.std.specs.List.{AllZip}
 use Rattle.omf_check.specs.Module.{Module}
 use Rattle.omf_library.specs.Library.{library_header}
-use Rattle.omf_library.specs.LibraryMembers.{IsLibraryOf, IsReadingFault, names_kept}
+use Rattle.omf_library.specs.LibraryMembers.{IsReadingFault, names_kept}
 use Rattle.omf_library.specs.declared.judged.LibraryMember.{LibraryMember}
 use Rattle.omf_library.specs.declared.judged.LibraryMember.TheVariants as member
 use Rattle.omf_library.specs.declared.judged.RefusedMember.{RefusedMember}
 use Rattle.omf_linking.specs.File.{InputFile}
-use Rattle.omf_linking.specs.Files.{IsFile}
+use Rattle.omf_linker.specs.Exe.Lowered.{AreTaken, AreTakenMembers, IsUntaken}
 use Rattle.omf_linker.specs.Exe.Sharing.{any_profile}
 use Rattle.omf_linker.specs.Exe.Taken.{AreJoined}
 use Rattle.omf_linking.specs.Folded.{IsFolded}
@@ -21,11 +21,10 @@ abbrev pub is_library : List ℕ → Bool
 is_library [] = false
 is_library (b ∷ bs) = b == library_header
 
--- What a file gives: modules that take part, and members. A library gives its members, any other file its modules.
+-- What a file gives: modules that take part, and members. A library gives its members, any other file its modules, each as a program takes it.
 abbrev pub Gives : List ℕ → List Module → List LibraryMember → Type 0
 Gives bytes given members =
-    ((is_library bytes ≡ true) × (given ≡ []) × IsLibraryOf any_profile bytes members)
-    ⊎ ((is_library bytes ≡ false) × IsFile any_profile bytes (Ok given) × (members ≡ []))
+    ((is_library bytes ≡ true) × (given ≡ []) × AreTakenMembers bytes members) ⊎ ((is_library bytes ≡ false) × AreTaken bytes given × (members ≡ []))
 
 -- What files give, in their order.
 abbrev pub AllGive : List InputFile → List Module → List LibraryMember → Type 0
@@ -70,7 +69,7 @@ pub record AreOfFolded (files : List InputFile) (ms : List Module) : Type 0 wher
 abbrev pub IsFileFault : ℕ → List ℕ → InputFault → Type 0
 IsFileFault k bytes fault.Memory = ⊤
 IsFileFault k bytes (fault.Library j f) = (j ≡ k) × (is_library bytes ≡ true) × IsReadingFault any_profile bytes f
-IsFileFault k bytes (fault.Modules j f) = (j ≡ k) × (is_library bytes ≡ false) × IsFile any_profile bytes (Err f)
+IsFileFault k bytes (fault.Modules j f) = (j ≡ k) × (is_library bytes ≡ false) × IsUntaken bytes f
 
 -- The first file that gives nothing, by its number from 0.
 pub record IsInputFault (files : List InputFile) (f : InputFault) : Type 0 where

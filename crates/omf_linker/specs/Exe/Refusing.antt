@@ -13,7 +13,6 @@ use Rattle.omf_library.specs.declared.judged.LibraryMember.{LibraryMember}
 use Rattle.omf_library.specs.declared.judged.RefusedMember.{RefusedMember}
 use Rattle.omf_linking.specs.File.{InputFile}
 use Rattle.omf_linking.specs.Folded.{IsFolded}
-use Rattle.omf_linking.specs.declared.fault.LinkFault.{LinkFault}
 use Rattle.omf_linking.specs.declared.fault.LinkFault.TheVariants as link
 use Rattle.omf_output.specs.declared.exe.com_fault.ComFault.{ComFault}
 use Rattle.omf_output.specs.declared.exe.com_fault.ComFault.TheVariants as com_fault
@@ -21,11 +20,12 @@ use Rattle.omf_output.specs.declared.exe.fault.ExeFault.{ExeFault}
 use Rattle.omf_output.specs.declared.exe.fault.ExeFault.TheVariants as exe
 use Rattle.omf_placement.specs.declared.several.fault.DeriveFault.{DeriveFault}
 use Rattle.omf_placement.specs.declared.several.fault.DeriveFault.TheVariants as derive
-use Rattle.omf_linker.specs.Aliases.{IsFollowingFault}
+use Rattle.omf_linker.specs.Aliases.{IsAskerOf, IsFollowingFault}
 use Rattle.omf_linker.specs.declared.aliases.fault.FollowingFault.{FollowingFault}
 use Rattle.omf_linker.specs.declared.aliases.fault.FollowingFault.TheVariants as following
 use Rattle.omf_linker.specs.Exe.Adding.{IsStackOf, wants_dos}
 use Rattle.omf_linker.specs.Exe.Input.{AllGive, IsInputFault, IsMemberFolded}
+use Rattle.omf_linker.specs.Exe.Lowered.{is_link_memory}
 use Rattle.omf_linker.specs.Exe.Ordering.{IsOrderingFault}
 use Rattle.omf_linker.specs.Exe.Program.{IsComProgramFault, IsPlacingFault, IsProgramFault}
 use Rattle.omf_linker.specs.Exe.Sharing.{AreShared, IsSharingFault, with_added}
@@ -75,10 +75,6 @@ IsRefusalFor Reason r = is_out_of_memory r ≡ false → Reason
 abbrev pub is_library_memory : LibraryFault → Bool
 is_library_memory library.Memory = true
 is_library_memory _ = false
-
-abbrev pub is_link_memory : LinkFault → Bool
-is_link_memory link.Memory = true
-is_link_memory _ = false
 
 abbrev pub is_input_memory : InputFault → Bool
 is_input_memory input.Memory = true
@@ -173,9 +169,9 @@ GiveNoFolded fs = AreUnread fs ⊎ HaveRefusedFolded fs
 abbrev pub AreNotShared : ProgramKind → List Module → Type 0
 AreNotShared kind ms = (f : SharingFault) × (is_sharing_memory f ≡ false) × IsSharingFault kind ms f
 
--- Why there is no module that puts modules in DOS order.
+-- Why there is no module that puts modules in DOS order, and defines the names for which they ask, also by aliases.
 abbrev pub AreNotOrdered : List Module → Type 0
-AreNotOrdered ms = (f : OrderingFault) × (is_ordering_memory f ≡ false) × IsOrderingFault ms f
+AreNotOrdered ms = (asker : Option Module) × IsAskerOf ms asker × ((f : OrderingFault) × (is_ordering_memory f ≡ false) × IsOrderingFault (with_added ms asker) f)
 
 -- Why the modules of communals, stack and order are not added: there is none of the communals; or none of DOS order, where that is wanted.
 pub record HaveNoOrder (kind : ProgramKind) (stack : Option ℕ) (order : Option Order) (ms : List Module) : Type 0 where

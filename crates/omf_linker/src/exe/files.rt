@@ -1,7 +1,8 @@
 //! Why there is no program: refusals of files, of communals, of the module for DOS order, and of modules with aliases.
 
 ghost use Rattle.std.specs.Prelude.{◌≡◌, false, true};
-ghost use Rattle.omf_linker.specs.Exe.Refusing.{IsRefusalFor, is_following_memory, is_input_memory, is_library_memory, is_link_memory, is_ordering_memory, is_out_of_memory, is_sharing_memory};
+ghost use Rattle.omf_linker.specs.Exe.Lowered.{is_link_memory};
+ghost use Rattle.omf_linker.specs.Exe.Refusing.{IsRefusalFor, is_following_memory, is_input_memory, is_library_memory, is_ordering_memory, is_out_of_memory, is_sharing_memory};
 
 use crate::aliases::FollowingFault;
 use crate::exe::input::InputFault;

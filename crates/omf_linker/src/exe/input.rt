@@ -5,17 +5,17 @@ ghost use Rattle.std.specs.List.{AllZip};
 ghost use Rattle.omf_linking.specs.Folded.{IsFolded};
 ghost use Rattle.omf_linker.specs.Exe.Input.{AllGive, IsFileFault, IsInputFault, IsMemberFolded, is_library};
 ghost use Rattle.omf_linker.specs.Exe.Origins.{AllFrom, origins_in};
-ghost use Rattle.omf_linker.specs.Exe.Sharing.{any_profile};
 ghost use Rattle.omf_linker.specs.Inner.Input.{IsAdded};
 
 use crate::exe::folding::folded_members;
 use crate::exe::joining::move_all;
+use crate::exe::lowered::{taken_members, taken_modules};
+use crate::exe::sharing::any_profile;
 use crate::link::InputFile;
-use omf_check::{Checked, Profile};
+use omf_check::Checked;
 use omf_library::{LibraryFault, LibraryMember, library_members};
-use omf_linking::{FileFault, LinkFault, folded_all, modules_of_files};
+use omf_linking::{LinkFault, folded_all};
 use std::alloc::{AllocError, AllocFailed, Global};
-use std::slice::from_ref;
 
 /// The type of the record that a library begins with.
 const LIBRARY: u8 = 0xF0;
@@ -44,7 +44,7 @@ pub(crate) enum InputFault {
     Memory,
     /// A file begins with F0H, and is no library.
     Library(usize, LibraryFault),
-    /// Any other file does not hold modules and padding alone.
+    /// Any other file does not hold modules and padding alone, and neither does its lowering.
     Modules(usize, LinkFault),
 }
 
@@ -57,15 +57,6 @@ impl From<AllocError> for InputFault {
 impl<T: Drop> From<AllocFailed<T>> for InputFault {
     fn from(_error: AllocFailed<T>) -> InputFault {
         InputFault::Memory
-    }
-}
-
-/// The profile of the check.
-fn profile() -> Profile
-    ensures { result ≡ any_profile }
-{
-    Profile {
-        refuse_vendor_comments: false,
     }
 }
 
@@ -119,7 +110,7 @@ impl Input {
         move_all(members, &mut self.members)
     }
 
-    /// Adds the members of a library.
+    /// Adds what a program takes of the members of a library.
     ///
     /// # Errors
     ///
@@ -129,12 +120,16 @@ impl Input {
         ensures added { OnOk result (IsAdded file bytes.now self.old self.new) }
         ensures fault { IfErr result (IsFileFault file bytes.now) }
     {
-        match library_members(alloc, profile(), bytes) {
-            Ok(members) => match self.add_members(file, members) {
-                Ok(()) => Ok(()),
-                Err(AllocError) => Err(InputFault::Memory),
-            },
-            Err(fault) => Err(InputFault::Library(file, fault)),
+        let members = match library_members(alloc, any_profile(), bytes) {
+            Ok(members) => members,
+            Err(fault) => return Err(InputFault::Library(file, fault)),
+        };
+        let Ok(taken) = taken_members(alloc, bytes, members) else {
+            return Err(InputFault::Memory);
+        };
+        match self.add_members(file, taken) {
+            Ok(()) => Ok(()),
+            Err(AllocError) => Err(InputFault::Memory),
         }
     }
 
@@ -149,27 +144,22 @@ impl Input {
         move_all(modules, &mut self.given)
     }
 
-    /// Adds the modules of a file, as given ones.
+    /// Adds what a program takes of a file of modules, as given ones.
     ///
     /// # Errors
     ///
-    /// `Modules` if it does not hold modules and padding alone. `Memory` if memory runs out.
-    fn add_modules(
-        &mut self,
-        alloc: Global,
-        file: usize,
-        input: &InputFile,
-    ) -> Result<(), InputFault>
-        requires { is_library input.now.bytes ≡ false }
-        ensures added { OnOk result (IsAdded file input.now.bytes self.old self.new) }
-        ensures fault { IfErr result (IsFileFault file input.now.bytes) }
+    /// `Modules` if it does not hold modules and padding alone, and neither does its lowering. `Memory` if memory runs out.
+    fn add_modules(&mut self, alloc: Global, file: usize, bytes: &[u8]) -> Result<(), InputFault>
+        requires { is_library bytes.now ≡ false }
+        ensures added { OnOk result (IsAdded file bytes.now self.old self.new) }
+        ensures fault { IfErr result (IsFileFault file bytes.now) }
     {
-        match modules_of_files(alloc, profile(), from_ref(input)) {
+        match taken_modules(alloc, bytes) {
             Ok(modules) => match self.add_given(file, modules) {
                 Ok(()) => Ok(()),
                 Err(AllocError) => Err(InputFault::Memory),
             },
-            Err(FileFault { fault, .. }) => Err(InputFault::Modules(file, fault)),
+            Err(fault) => Err(InputFault::Modules(file, fault)),
         }
     }
 
@@ -185,7 +175,7 @@ impl Input {
         if is_library(input.bytes()) {
             self.add_library(alloc, file, input.bytes())
         } else {
-            self.add_modules(alloc, file, input)
+            self.add_modules(alloc, file, input.bytes())
         }
     }
 

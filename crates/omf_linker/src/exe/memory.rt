@@ -1,7 +1,8 @@
 //! Which faults are that memory ran out.
 
 ghost use Rattle.std.specs.Prelude.{◌≡◌};
-ghost use Rattle.omf_linker.specs.Exe.Refusing.{is_com_memory, is_communals_memory, is_derive_memory, is_exe_memory, is_following_memory, is_library_memory, is_link_memory, is_memory, is_modules_memory, is_order_memory, is_ordering_memory, is_placing_memory, is_sharing_memory};
+ghost use Rattle.omf_linker.specs.Exe.Lowered.{is_link_memory};
+ghost use Rattle.omf_linker.specs.Exe.Refusing.{is_com_memory, is_communals_memory, is_derive_memory, is_exe_memory, is_following_memory, is_library_memory, is_memory, is_modules_memory, is_order_memory, is_ordering_memory, is_placing_memory, is_sharing_memory};
 
 use crate::aliases::FollowingFault;
 use crate::exe::fault::{ComProgramFault, PlacingFault, ProgramFault};

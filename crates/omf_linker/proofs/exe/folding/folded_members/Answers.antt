@@ -1,7 +1,8 @@
 use Rattle.std.proofs.Common.{◌≡◌, ◌∷◌, ◌∙◌, ap, arith, length, sym}
 use Rattle.std.proofs.lemmas.List.{nil_from_length}
 use Rattle.std.specs.Vec.Iter.{into_iter_items}
-use Rattle.omf_linker.proofs.MemberFolds.{folded-end, folded-more}
+use Rattle.omf_linker.specs.Exe.Input.{IsMemberFolded}
+use Rattle.omf_linker.proofs.MemberFolds.{paired-end, paired-more}
 use Rattle.omf_linker.proofs.exe.folding.folded_members.Goals as goal
 
 pub loop-member-preserved-in_ok-push : goal.loop-member-preserved-in_ok-push
@@ -10,11 +11,11 @@ loop-member-preserved-in_ok-push c =
     let gone = c.in-Some.ensures.steps.1 in
     record {
       size = omega (arith, ap length steps, gone, c.loop-member.invariant.size);
-      held = folded-more c.args.members.items c.loop-member.all.items c.push.new.self.items _ _ c.in-Some.member c.in_ok-folded_member.field-0 c.loop-member.invariant.held steps c.in_ok-folded_member.ensures
+      held = paired-more IsMemberFolded c.args.members.items _ _ c.loop-member.all.items c.push.new.self.items c.in-Some.member c.in_ok-folded_member.field-0 c.loop-member.invariant.held steps c.in_ok-folded_member.ensures
           c.in_ok-push.ensures.items;
     }
 
 pub returns : goal.returns
 returns c =
     let left = into_iter_items c.loop-member.member-iterator in
-    folded-end c.args.members.items c.loop-member.all.items left c.loop-member.invariant.held (nil_from_length left (sym c.loop-member.invariant.size ∙ c.in-None.ensures.steps.0))
+    paired-end IsMemberFolded c.args.members.items left c.loop-member.all.items c.loop-member.invariant.held (nil_from_length left (sym c.loop-member.invariant.size ∙ c.in-None.ensures.steps.0))

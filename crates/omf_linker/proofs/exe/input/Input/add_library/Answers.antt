@@ -1,12 +1,14 @@
 use Rattle.std.proofs.Common.{subst}
 use Rattle.std.specs.Prelude.{Ok}
 use Rattle.omf_library.specs.LibraryMembers.{AreLibraryMembers}
+use Rattle.omf_linker.specs.Exe.Lowered.{AreTakenMembers}
 use Rattle.omf_linker.proofs.InputLaws.{library-added}
 use Rattle.omf_linker.proofs.exe.input.Input.add_library.Goals as goal
 
 pub returns-in-Ok-add_members-clause-added : goal.returns-in-Ok-add_members-clause-added
 returns-in-Ok-add_members-clause-added c =
     let bytes = c.args.bytes.now in
-    let library = subst (λ p. AreLibraryMembers p bytes (Ok c.in-Ok.members.items)) c.profile.ensures c.in-Ok.ensures in
+    let library = subst (λ p. AreLibraryMembers p bytes (Ok c.in-Ok.members.items)) c.any_profile.ensures c.in-Ok.ensures in
+    let taken : AreTakenMembers bytes c.in-Ok-taken_members.taken.items = record { read = c.in-Ok.members.items; library = library; taken = c.in-Ok-taken_members.ensures } in
     let added = c.in-Ok-add_members.ensures in
-    library-added c.args.file bytes c.args.self.now _ c.in-Ok.members.items c.requires library added.given added.members added.given_from added.members_from
+    library-added c.args.file bytes c.args.self.now _ c.in-Ok-taken_members.taken.items c.requires taken added.given added.members added.given_from added.members_from

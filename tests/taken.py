@@ -1,0 +1,99 @@
+#!/usr/bin/env python3
+"""Links generated modules with CEXTDEFs and BAKPATs, and compares with their lowerings by the reader of lowered.py: taken.py [--first SEED] [--count N]
+
+`omf-link exe` of a main module and such a file, or a library of its modules, must give what it gives of their lowerings: the same program and map, or the same
+lines. Where a record is at fault, it must name the file, the module and the record, and write nothing.
+OMF_LINK names the program (omf-link, if not set). The status is 1 where a file differs."""
+import argparse
+import os
+import pathlib
+import random
+import subprocess
+import sys
+import tempfile
+
+import lowered
+
+LINK = os.environ.get("OMF_LINK") or "omf-link"
+MOST_FAILED = 10
+PAGE = 16
+
+
+def with_public(records, name):
+    """The records with a PUBDEF of this name at the front of the first segment, before the MODEND."""
+    return records[:-1] + [lowered.record(0x90, b"\0\x01" + lowered.named(name) + b"\0\0\0"), records[-1]]
+
+
+def main_module(source, asked, names):
+    """A main module with a stack, which asks for some names and defines others."""
+    records = [lowered.record(0x80, b"\x01A"), lowered.record(0x96, b"\0\x04CODE\x05STACK"), lowered.record(0x98, b"\x28\x10\0\x02\x02\x01"),
+               lowered.record(0x98, b"\x74\x20\0\x03\x03\x01"), lowered.record(0x8C, b"".join(lowered.named(it) + b"\0" for it in asked))]
+    records += [lowered.record(0x90, b"\0\x01" + lowered.named(it) + lowered.little(source.randrange(16), 2) + b"\0") for it in names]
+    return b"".join(records + [lowered.record(0xA0, b"\x01\0\0" + source.randbytes(16)), lowered.record(0x8A, b"\xC1\0\x01\x01\0\0")])
+
+
+def library(members):
+    out = b"\xF0\x0D\0" + bytes(13)
+    for member in members:
+        out += member + bytes(-len(member) % PAGE)
+    return out + b"\xF1"
+
+
+def linked(folder, *files):
+    for made in ("p.exe", "p.map"):
+        (folder / made).unlink(missing_ok=True)
+    done = subprocess.run([LINK, "exe", "-o", "p.exe", "--map", "p.map", *files], cwd=folder, stdin=subprocess.DEVNULL, capture_output=True, timeout=60, check=False)
+    return done.returncode, done.stderr, *((folder / it).read_bytes() if (folder / it).exists() else None for it in ("p.exe", "p.map"))
+
+
+def lowering(records):
+    """The bytes of a module's lowering, or the number of the record at fault."""
+    try:
+        return b"".join(lowered.Lowered(records).records)
+    except lowered.Fault as fault:
+        return fault.args[0]
+
+
+def differs(folder, seed):
+    """What is not as it must be, if anything is."""
+    source = random.Random(seed)
+    modules = [with_public(records, b"p%d" % number) for number, (records, _) in enumerate(lowered.made(seed))]
+    lower = [lowering(it) for it in modules]
+    bytes_ = [b"".join(it) for it in modules]
+    in_library = source.random() < 0.5
+    names = sorted({name for records, low in zip(modules, lower) if isinstance(low, bytes) for name in lowered.Lowered(records).names if name})
+    (folder / "main.obj").write_bytes(main_module(source, [b"p%d" % it for it in range(len(modules))], names))
+    joined = library if in_library else b"".join
+    (folder / "x").write_bytes(joined(bytes_))
+    answer = linked(folder, "main.obj", "x")
+    faults = [(number, it) for number, it in enumerate(lower, 1) if not isinstance(it, bytes)]
+    if faults:
+        number, at = faults[0]
+        title = b'file "x" module %d%s refused ' % (number, b' "m"' if in_library else b"")
+        is_right = answer[0] == 1 and answer[2] is None and title in answer[1] and b" record %d at " % at in answer[1]
+        return None if is_right else (faults, answer)
+    (folder / "x").write_bytes(joined(lower))
+    wanted = linked(folder, "main.obj", "x")
+    return None if answer == wanted else (wanted[:2], answer[:2])
+
+
+def main():
+    parser = argparse.ArgumentParser(description=__doc__, formatter_class=argparse.RawDescriptionHelpFormatter)
+    parser.add_argument("--first", type=int, default=1)
+    parser.add_argument("--count", type=int, default=500)
+    asked = parser.parse_args()
+    failed = 0
+    with tempfile.TemporaryDirectory() as folder:
+        for seed in range(asked.first, asked.first + asked.count):
+            answer = differs(pathlib.Path(folder), seed)
+            if answer:
+                failed += 1
+                print(f"seed {seed}: {answer}")
+            if failed >= MOST_FAILED:
+                break
+    print(f"{asked.count} files linked, {failed} otherwise")
+    return 1 if failed else 0
+
+
+if __name__ == "__main__":
+    sys.exit(main())
