@@ -28,6 +28,7 @@ pub mod RepeatedLaws
 pub mod TwiceLaws
 pub mod RefusingLaws
 pub mod MakingLaws
+pub mod StartLaws
 pub mod TakenLaws
 pub mod InputLaws
 pub mod JoiningLaws

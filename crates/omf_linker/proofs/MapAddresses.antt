@@ -1,7 +1,7 @@
 -- The addresses in the map of a program are those with which it is linked.
 use Rattle.std.proofs.Common.{◌≡◌, ℕ, ◌+◌, ◌∙◌, List, [], ◌∷◌, Bool, length, map, refl, sym, ap, subst, arith}
 use Rattle.std.specs.Prelude.{Some, Ok}
-use Rattle.omf_check.specs.Module.{Module, typed_modules}
+use Rattle.omf_check.specs.Module.{Module}
 use Rattle.omf_layout.specs.Layout.{Laid}
 use Rattle.omf_layout.specs.Several.Laying.{laid}
 use Rattle.omf_placement.specs.Derive.{placed_modules}
@@ -12,8 +12,7 @@ use Rattle.omf_output.specs.Exe.Moved.{Movers}
 use Rattle.omf_output.proofs.DerivingLaws.{movers-many}
 use Rattle.omf_linker.specs.Exe.Laws.{MapsShowPrograms, ShowsAddressesOf}
 use Rattle.omf_linker.specs.Exe.Program.{AreLaid, AreMade, IsMapOf, members_from, weak_of}
-use Rattle.omf_linker.specs.Map.Addresses.{addressed}
-use Rattle.omf_linker.specs.Map.MapText.{map_text}
+use Rattle.omf_linker.specs.Map.Far.{program_map}
 use Rattle.omf_linker.proofs.ExeLaws.{laid-many, placements-many}
 
 -- As many placements and movers as modules: the members have each placement.
@@ -39,7 +38,7 @@ shown-of ms text members m a =
     let same : m.placements ≡ a.placements = cc in
     let placed = placements-many ms a.places a.placements (weak_of ms a.places) (laid-many ms a.places a.laid) a.derived in
     let moved = movers-many ms (placed_modules ms a.places) a.movers a.moving in
-    m.printed ∙ ap (λ (pls : List Places). map_text (addressed (typed_modules ms) pls)) (same ∙ sym (places-kept 0 ms a.placements a.movers placed moved) ∙ ap (λ (xs : List Member). map (λ (x : Member). x.places) xs) (sym a.numbered))
+    m.printed ∙ ap (program_map ms) (same ∙ sym (places-kept 0 ms a.placements a.movers placed moved) ∙ ap (λ (xs : List Member). map (λ (x : Member). x.places) xs) (sym a.numbered))
 
 pub maps-show-programs : MapsShowPrograms
 maps-show-programs ms text m = record { of_exe = λ most bytes has_stack p. shown-of ms text p.members m p.made; of_com = λ bytes p. shown-of ms text p.members m p.made }

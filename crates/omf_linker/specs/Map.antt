@@ -1,3 +1,4 @@
 pub mod Addresses
 pub mod MapText
+pub mod Far
 pub mod Rows

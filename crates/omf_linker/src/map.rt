@@ -12,12 +12,14 @@
 //! ```
 
 mod addresses;
+mod far;
 mod given;
 mod listing;
 mod printing;
 mod publics;
 pub mod rows;
 
+pub(crate) use far::{print_far, program_map};
 pub use given::given_text;
 pub use listing::map_text;
 pub(crate) use printing::print_digits;

@@ -20,8 +20,7 @@ use Rattle.omf_output.specs.Exe.Laws.{AreLow, all_moved, derived_at}
 use Rattle.omf_output.specs.Exe.Members.{Member, member_at}
 use Rattle.omf_linker.specs.Drafting.Laws.{HasBases}
 use Rattle.omf_linker.specs.Exe.Program.{AreMade, IsComOf, IsMapOf, IsProgramOf}
-use Rattle.omf_linker.specs.Map.Addresses.{addressed}
-use Rattle.omf_linker.specs.Map.MapText.{map_text}
+use Rattle.omf_linker.specs.Map.Far.{program_map}
 
 -- A name is that of a communal of modules: a COMDEF has it, and no PUBDEF.
 pub record IsCommunalOf (ms : List (List Rec)) (name : List ℕ) : Type 0 where
@@ -46,9 +45,9 @@ CommunalsAreFound = (home : Home) (ms : List (List Rec)) (pls : List Places) (ad
     → communals_of home ms ≡ Some added → HasBases added pl → IsCommunalOf ms name → HaveNone name before → HaveNone name after
     → IsFoundIn (added, pl) (before ++ (zip ms pls ++ (added, pl) ∷ after)) name
 
--- The modules of DOS order and of a stack define no name that these modules define.
+-- The modules of DOS order and of a stack define no name that these modules define. So does the order that is made of these modules and more.
 pub record DefineNoOther (ms : List (List Rec)) (name : List ℕ) : Type 0 where
-  pub order : (pl : Places) → HaveNone name ((order_records ms, pl) ∷ [])
+  pub order : (more : List (List Rec)) (pl : Places) → HaveNone name ((order_records (ms ++ more), pl) ∷ [])
   pub stack : (size : ℕ) (pl : Places) → HaveNone name ((stack_records size, pl) ∷ [])
 
 abbrev pub AddedDefineNewNames : Type 0
@@ -56,7 +55,7 @@ AddedDefineNewNames = (ms : List (List Rec)) (name : List ℕ) → has_claim (al
 
 -- A map shows the addresses of members of a program: it is that of their modules at the placements with which they are linked.
 abbrev pub ShowsAddressesOf : List Module → List Member → List ℕ → Type 0
-ShowsAddressesOf ms members text = text ≡ map_text (addressed (typed_modules ms) (map (λ m. m.places) members))
+ShowsAddressesOf ms members text = text ≡ program_map ms (map (λ m. m.places) members)
 
 -- So does a map of modules for each program of them, an .EXE or a .COM file.
 pub record ShowsAddresses (ms : List Module) (text : List ℕ) : Type 0 where

@@ -1,8 +1,9 @@
 -- What is written of a DOS program, from the bytes of its files on (this profile's rule).
-use Rattle.std.specs.Prelude.{◌≡◌, ◌⊎◌, ⊤, ◌++◌, ℕ, List, Bool, true, false, not, Option, Some, None, is_some, unwrap_or}
+use Rattle.std.specs.Prelude.{◌≡◌, ◌⊎◌, ⊤, ◌++◌, ℕ, List, [], ◌∷◌, Bool, true, false, not, Option, Some, None, codes, is_some, unwrap_or}
 use Rattle.std.specs.Global.{Vec}
 use Rattle.omf_check.specs.Module.{Module, typed_modules}
 use Rattle.omf_linking.specs.File.{InputFile}
+use Rattle.omf_output.specs.Exe.Loading.{word}
 use Rattle.omf_linker.specs.Aliases.{AreFollowed}
 use Rattle.omf_linker.specs.Exe.Adding.{AreAdded}
 use Rattle.omf_linker.specs.Exe.Input.{AreOfFiles, AreOfFolded}
@@ -10,6 +11,7 @@ use Rattle.omf_linker.specs.Exe.Listing.{list_text}
 use Rattle.omf_linker.specs.Exe.Origins.{AreAllWith, AreFrom}
 use Rattle.omf_linker.specs.Exe.Program.{IsBetweenOf, IsComOf, IsLongOf, IsMapOf, IsNearOf, IsProgramOf, ProgramModules}
 use Rattle.omf_linker.specs.Exe.Refusing.{AreNoComProgram, AreNoProgram, AreNotAdded, AreNotFollowed, AreUnplaced, Finds, GiveNoFolded, GiveNoModules, HaveNamesTwice, IsNotAllowed}
+use Rattle.omf_linker.specs.Map.Far.{far}
 use Rattle.omf_linker.specs.declared.exe.input.Origin.{Origin}
 use Rattle.omf_linker.specs.declared.exe.made.MadeProgram.{MadeProgram}
 use Rattle.omf_linker.specs.declared.exe.options.ExeOptions.{ExeOptions}
@@ -61,16 +63,24 @@ pub record IsListedMap (files : List InputFile) (p : ProgramModules) (map : List
   pub listed : map ≡ list_text files p.from (typed_modules p.modules) ++ text
   pub mapped : IsMapOf p.modules text
 
--- That map, if it is asked for.
-abbrev pub IsMapIf : Bool → List InputFile → ProgramModules → Option (Vec ℕ) → Type 0
-IsMapIf false files p map = map ≡ None
-IsMapIf true files p None = ⊥
-IsMapIf true files p (Some map) = IsListedMap files p map.items
+-- Where a program starts and its stack is, by the header of an .EXE file (its offsets: Loading of omf_output).
+abbrev pub header_lines : List ℕ → List ℕ
+header_lines bytes = codes "start " ++ far (word bytes 22) (word bytes 20) ++ 10 ∷ codes "stack " ++ far (word bytes 14) (word bytes 16) ++ 10 ∷ []
+
+abbrev pub start_lines : ProgramKind → List ℕ → List ℕ
+start_lines Exe bytes = header_lines bytes
+start_lines Com bytes = []
+
+-- The map of a program with these bytes, if it is asked for: that map, and after it where an .EXE file starts.
+abbrev pub IsMapIf : ProgramKind → Bool → List InputFile → ProgramModules → List ℕ → Option (Vec ℕ) → Type 0
+IsMapIf kind false files p bytes map = map ≡ None
+IsMapIf kind true files p bytes None = ⊥
+IsMapIf kind true files p bytes (Some map) = (listed : List ℕ) × IsListedMap files p listed × (map.items ≡ listed ++ start_lines kind bytes)
 
 -- What is written of modules of files.
 pub record IsMadeOf (options : ExeOptions) (files : List InputFile) (p : ProgramModules) (made : MadeProgram) : Type 0 where
   pub program : AreBytesOf options.kind (maximum options) p.modules made.bytes.items made.lacks_stack
-  pub map : IsMapIf (is_some options.map) files p made.map
+  pub map : IsMapIf options.kind (is_some options.map) files p made.bytes.items made.map
   pub alone : IsAlone options.kind p.modules
   pub long : Finds (IsLongOf p.modules) (is_some made.long) × IsAllowed options.allows_long (is_some made.long)
   pub near : Finds (IsNearOf p.modules) (is_some made.near) × IsAllowed options.allows_near (is_some made.near)

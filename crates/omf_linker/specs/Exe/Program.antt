@@ -22,8 +22,7 @@ use Rattle.omf_output.specs.Exe.Linked.{IsExeFault, exe_fault, linked, linked_at
 use Rattle.omf_output.specs.Exe.Loading.{loaded}
 use Rattle.omf_output.specs.Exe.Members.{Member, portions, stack}
 use Rattle.omf_output.specs.Exe.Moved.{Movers}
-use Rattle.omf_linker.specs.Map.Addresses.{addressed}
-use Rattle.omf_linker.specs.Map.MapText.{map_text}
+use Rattle.omf_linker.specs.Map.Far.{program_map}
 use Rattle.omf_linker.specs.declared.exe.fault.ComProgramFault.{ComProgramFault}
 use Rattle.omf_linker.specs.declared.exe.input.Origin.{Origin}
 use Rattle.omf_linker.specs.declared.exe.fault.ComProgramFault.TheVariants as no_com
@@ -103,13 +102,13 @@ pub record IsNearOf (ms : List Module) (found : Option Stray) : Type 0 where
   pub derived : derived (placed_modules ms places) (weak_of ms places) ≡ Ok placements
   pub first : found ≡ first_near ms placements
 
--- The map of a program: that of its modules at their placements.
+-- The map of a program, by its modules at their placements.
 pub record IsMapOf (ms : List Module) (text : List ℕ) : Type 0 where
   pub places : List Places
   pub placements : List Places
   pub laid : AreLaid ms places
   pub derived : derived (placed_modules ms places) (weak_of ms places) ≡ Ok placements
-  pub printed : text ≡ map_text (addressed (typed_modules ms) placements)
+  pub printed : text ≡ program_map ms placements
 
 -- Why modules are no program: a segment does not end below 2^20; an external has no place; or the modules so placed have a fault. Memory may run out at any time.
 pub record IsExternalFault (ms : List Module) (f : DeriveFault) : Type 0 where

@@ -1,16 +1,18 @@
 //! What is written of a DOS program: its bytes, its map, and lines of what is found in it.
 
-ghost use Rattle.std.specs.Prelude.{◌≡◌, IfErr, IfOk, false, is_some};
+ghost use Rattle.std.specs.Prelude.{◌≡◌, ◌≤◌, IfErr, IfOk, false, is_some, length};
 ghost use Rattle.omf_linker.specs.Exe.Making.{AreBytesOf, HaveNoBytes, IsAllowed, IsAlone, IsLookFault, IsMadeOf, IsMapIf, IsNotMadeOf};
 ghost use Rattle.omf_linker.specs.declared.exe.options.ProgramKind.TheVariants.{Exe};
 ghost use Rattle.omf_linker.specs.Exe.Program.{IsBetweenOf, IsLongOf, IsNearOf};
 ghost use Rattle.omf_linker.specs.Exe.Refusing.{AreUnplaced, Finds, IsNotAllowed, IsRefusalFor};
 
+use crate::exe::files::memory;
+use crate::exe::listing::put_start;
 use crate::exe::options::{ExeOptions, ProgramKind};
 use crate::exe::program::LinkedModules;
 use crate::exe::refusal::Refusal;
 use crate::link::InputFile;
-use std::alloc::Global;
+use std::alloc::{AllocError, Global};
 
 /// A program, its map, and lines of what is found in it.
 #[derive(Drop)]
@@ -106,21 +108,26 @@ fn looks_of(
     Ok(Looks { long, near })
 }
 
-/// The map of a program, if it is asked for.
+/// The map of a program with these bytes, if it is asked for.
 fn map_of(
     alloc: Global,
     modules: &LinkedModules<'_>,
     files: &[InputFile],
-    is_asked: bool,
+    options: &ExeOptions<'_>,
+    bytes: &[u8],
 ) -> Result<Option<Vec<u8>>, Refusal>
-    ensures map { IfOk result (IsMapIf is_asked files.now modules.now) }
+    requires { options.now.kind ≡ Exe → 28 ≤ length bytes.now }
+    ensures map { IfOk result (IsMapIf options.now.kind (is_some options.now.map) files.now modules.now bytes.now) }
     ensures refused { IfErr result (IsRefusalFor (AreUnplaced modules.now.modules)) }
 {
-    if !is_asked {
+    if options.map.is_none() {
         return Ok(None);
     }
-    let map = modules.map(alloc, files)?;
-    Ok(Some(map))
+    let mut map = modules.map(alloc, files)?;
+    match put_start(alloc, &mut map, options.kind, bytes) {
+        Ok(()) => Ok(Some(map)),
+        Err(AllocError) => Err(memory()),
+    }
 }
 
 /// The program of modules, with its map and what is found in it. A look refuses before there is a fault of the program, but for a name that is
@@ -155,7 +162,7 @@ pub(crate) fn made_of(
         }
     };
     let Looks { long, near } = looks_of(alloc, modules, files, options)?;
-    let map = map_of(alloc, modules, files, options.map.is_some())?;
+    let map = map_of(alloc, modules, files, options, &bytes)?;
     let repeated = modules.repeated(alloc, files, options.allows_twice)?;
     Ok(MadeProgram {
         bytes,

@@ -9,7 +9,7 @@ ghost use Rattle.omf_placement.specs.Inner.Linkage.{IsLinkage};
 ghost use Rattle.omf_linker.specs.Exe.Program.{AreLaid, AreMade, IsBetweenOf, IsComOf, IsComProgramFault, IsExternalFault, IsLongOf, IsMapOf, IsNearOf, IsPlacingFault, IsProgramFault, IsProgramOf, members_from, weak_of};
 
 use crate::exe::fault::{ComProgramFault, PlacingFault, ProgramFault};
-use crate::map::map_text;
+use crate::map::program_map;
 use crate::seen::{FarMember, first_long};
 use omf_check::Checked;
 use omf_layout::several::place_segments;
@@ -272,7 +272,7 @@ pub fn near_linked(
     }
 }
 
-/// The map of modules at the places of their program, as `map_text` prints it.
+/// The map of modules at the places of their program, as `program_map` prints it.
 ///
 /// # Errors
 ///
@@ -293,7 +293,7 @@ pub fn map_linked(
         Err(DeriveFault::Memory) => return Err(PlacingFault::Memory),
         Err(fault) => return Err(PlacingFault::External(fault)),
     };
-    match map_text(alloc, modules, &settled.placements) {
+    match program_map(alloc, modules, &settled.placements) {
         Ok(text) => Ok(text),
         Err(AllocError) => Err(PlacingFault::Memory),
     }

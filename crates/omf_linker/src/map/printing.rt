@@ -51,7 +51,7 @@ fn print_entry(
 }
 
 /// Prints a space and a name in double quotes.
-fn print_quoted(text: &mut String, name: &[u8]) -> Result<(), AllocError>
+pub(crate) fn print_quoted(text: &mut String, name: &[u8]) -> Result<(), AllocError>
     ensures { AddsText result (string_bytes text.old) (string_bytes text.new) (32 ∷ quoted name.now) }
 {
     text.push_str(" ")?;

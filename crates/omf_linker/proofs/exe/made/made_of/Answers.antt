@@ -1,8 +1,15 @@
-use Rattle.std.proofs.Common.{◌≡◌, inl, inr, rules, subst, sym}
+use Rattle.std.proofs.Common.{◌≡◌, ◌≤◌, ℕ, List, inl, inr, length, rules, subst, sym}
 use Rattle.std.specs.Prelude.{Err, IfErr}
-use Rattle.omf_linker.specs.Exe.Making.{IsNotMadeOf}
+use Rattle.omf_linker.specs.Exe.Making.{AreBytesOf, IsNotMadeOf}
 use Rattle.omf_linker.specs.Exe.Refusing.{IsRefusalFor}
+use Rattle.omf_linker.proofs.StartLaws.{program-long}
 use Rattle.omf_linker.proofs.exe.made.made_of.Goals as goal
+
+pub map_of-requires : goal.map_of-requires
+map_of-requires c = λ e.
+    let p = c.in-Ok.program in
+    let made = subst (λ kind. AreBytesOf kind c.maximum-most.result c.args.modules.now.modules p.bytes.items p.lacks_stack) e c.in-Ok.ensures.bytes in
+    subst (λ (xs : List ℕ). 28 ≤ length xs) (sym c.deref.ensures.value) (program-long _ _ p.bytes.items p.lacks_stack made)
 
 pub returns-in_err-long-clause-refused : goal.returns-in_err-long-clause-refused
 returns-in_err-long-clause-refused c =
