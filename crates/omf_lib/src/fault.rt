@@ -67,6 +67,8 @@ pub enum Note<'a> {
     After { offset: usize, length: usize },
     /// 20: a communal of a member is found by neither search.
     Communal(Public<'a>),
+    /// 22: a refused member has a lowering that is accepted; a linker takes that.
+    Lowered { offset: usize, member: usize },
 }
 
 /// An entry of the dictionary: the offset of its bucket, its page and its name.

@@ -16,11 +16,12 @@ use crate::shown::{Shown, Stop};
 use crate::text::put_note;
 use crate::undefined::judge_definitions;
 use omf_check::Profile;
-use omf_frame::Sink;
+use omf_frame::{Place, Reason, Sink};
 use omf_host::Status;
 use omf_library::{
     BLOCK, BUCKETS, Bucket, Defined, Dictionary, Kind, Rule, Sought, Span, credit_of, defined_names,
 };
+use omf_lowering::{LoweringFault, lowered};
 use std::alloc::{AllocError, Global};
 use std::collections::BTreeSet;
 use std::fmt::Write;
@@ -140,6 +141,45 @@ fn look_up_all(
     Ok(())
 }
 
+/// Whether a member that is refused has a lowering that is accepted.
+fn is_lowered(alloc: Global, profile: Profile, bytes: &[u8]) -> Result<bool, AllocError> {
+    match lowered(alloc, bytes) {
+        Ok(lower) => match judge(alloc, profile, &lower.bytes)? {
+            Verdict::Accepted(_) => Ok(true),
+            Verdict::Refused { .. } => Ok(false),
+        },
+        Err(LoweringFault::Memory) => Err(AllocError),
+        Err(LoweringFault::Refused { .. }) => Ok(false),
+    }
+}
+
+/// Appends the fault of a member that is refused, and a note if a linker takes it lowered.
+fn put_refused(
+    report: &mut Report,
+    profile: Profile,
+    member: &Member<'_>,
+    reason: Reason,
+    place: Place,
+) -> Result<(), AllocError> {
+    let (offset, number) = (member.offset, member.number);
+    report.shown.fault(Fault::Member {
+        offset,
+        member: number,
+        reason,
+        place,
+    })?;
+    if is_lowered(*report.shown.text.allocator(), profile, member.bytes)? {
+        return put_note(
+            &mut report.notes,
+            Note::Lowered {
+                offset,
+                member: number,
+            },
+        );
+    }
+    Ok(())
+}
+
 /// Checks a member, looks up its publics and communals, and appends the keys of its names.
 fn judge_member(
     report: &mut Report,
@@ -152,12 +192,7 @@ fn judge_member(
 {
     let alloc = *report.shown.text.allocator();
     match judge(alloc, profile, member.bytes)? {
-        Verdict::Refused { reason, place } => report.shown.fault(Fault::Member {
-            offset: member.offset,
-            member: member.number,
-            reason,
-            place,
-        }),
+        Verdict::Refused { reason, place } => put_refused(report, profile, member, reason, place),
         Verdict::Accepted(module) => {
             let names = defined_names(alloc, &module)?;
             look_up_all(report, library, member, names.as_slice())?;

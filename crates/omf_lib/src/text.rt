@@ -154,6 +154,10 @@ fn put_note_words(text: &mut String, note: Note<'_>) -> Result<(), AllocError> {
             write!(text, " member {member} ")?;
             put_quoted(text, public.name)
         }
+        Note::Lowered { offset, member } => {
+            put_note_head(text, 22, "Lowered", offset)?;
+            write!(text, " member {member}")
+        }
     }
 }
 

@@ -6,7 +6,7 @@ use Rattle.omf_lib.proofs.KeyLaws.{same_keys}
 use Rattle.omf_lib.proofs.judging.judge_member.Goals as goal
 
 pub returns-in-Refused : goal.returns-in-Refused
-returns-in-Refused c = λ done h. ok_given c.fault.result (
+returns-in-Refused c = λ done h. ok_given c.put_refused.result (
   [],
   inr (c.in-Refused.reason, c.in-Refused.place, subst (IsVerdict c.args.profile c.args.member.now.bytes.now) c.in-Refused.is c.in_ok-reason.ensures, refl),
   same_keys c.args.keys.now done h,
