@@ -40,8 +40,8 @@ pub(crate) const ABOUT: About = About {
   map     the addresses of segments, publics and externals, as far as a text
           gives them
   draft   a text with addresses, to begin with
-  lower   the modules of a file, with EXTDEFs in place of CEXTDEFs, and with
-          BAKPATs applied
+  lower   the modules of a file, with segments in place of COMDATs, EXTDEFs in
+          place of CEXTDEFs, and with BAKPATs applied
 
   -o FILE                  the output; without it, or where FILE is -, the
                            standard output

@@ -1,4 +1,4 @@
-//! The task `omf-link lower`: modules with CEXTDEFs and BAKPATs as modules of this profile (`omf_lowering`).
+//! The task `omf-link lower`: modules with COMDATs, CEXTDEFs and BAKPATs as modules of this profile (`omf_lowering`).
 
 ghost use Rattle.std.specs.Prelude.{◌≡◌};
 

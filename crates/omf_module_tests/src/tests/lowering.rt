@@ -35,16 +35,26 @@ const DATA_AT_2: &str = "A0 06 00 01 02 00 05 00 52";
 
 const TWO_BYTES: &str = "A2 0A 00 01 00 00 02 00 00 00 01 AA A6";
 
-const COMDAT: &str = "C2 03 00 00 00 3B";
+// A VENDEXT, which stays.
+const EXTENSION: &str = "CE 05 00 01 00 AA BB C7";
+
+// A COMDAT of the name 2 in segment 1, with the data AA BB, and the segment, the public name and the data that replace it.
+const COMDAT: &str = "C2 0C 00 00 00 00 00 00 00 00 01 02 AA BB CA";
+
+const COMDAT_SEGMENT: &str = "99 09 00 28 02 00 00 00 02 01 01 30";
+
+const COMDAT_PUBLIC: &str = "91 0A 00 00 02 01 54 00 00 00 00 00 0E";
+
+const COMDAT_DATA: &str = "A0 06 00 02 00 00 AA BB F3";
 
 /// Records, and the records of the lowered module.
-static LOWERED: [(Rows, Rows); 8] = [
+static LOWERED: [(Rows, Rows); 9] = [
     (
         &[HEADER, NAMES, SEGMENT, DATA, FIXUP, END],
         &[HEADER, NAMES, SEGMENT, DATA, FIXUP, END],
     ),
     // What is after the module is not read.
-    (&[HEADER, END, COMDAT, "7F"], &[HEADER, END]),
+    (&[HEADER, END, EXTENSION, "7F"], &[HEADER, END]),
     (
         &[HEADER, NAMES, COMDAT_EXTERNALS, END],
         &[HEADER, NAMES, EXTERNAL_T, EXTERNAL_EMPTY, END],
@@ -66,7 +76,19 @@ static LOWERED: [(Rows, Rows); 8] = [
         &[HEADER, NAMES, SEGMENT, DATA, WORD, DATA_AT_2, END],
         &[HEADER, NAMES, SEGMENT, DATA_WORD, DATA_AT_2, END],
     ),
-    (&[HEADER, COMDAT, END], &[HEADER, COMDAT, END]),
+    (&[HEADER, EXTENSION, END], &[HEADER, EXTENSION, END]),
+    (
+        &[HEADER, NAMES, SEGMENT, COMDAT, END],
+        &[
+            HEADER,
+            NAMES,
+            SEGMENT,
+            COMDAT_SEGMENT,
+            COMDAT_PUBLIC,
+            COMDAT_DATA,
+            END,
+        ],
+    ),
 ];
 
 /// Whether records have these lowered; or a growth is refused, and it `may_fail`.

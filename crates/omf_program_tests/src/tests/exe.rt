@@ -52,9 +52,9 @@ const ASKS: &str = "800300014200 8C040001660000 8A02000000";
 const LIBRARY: &str =
     "F00D0000000000000000000000000000 80030001420096040000015400980700280100020101009008000001016700000000A0050001000090008A020000000080030001420096040000015400980700280100020101009008000001016600000000A00500010000CB008A0200000000F1";
 
-/// The same library with a COMDAT in its first member, which has the public g.
+/// The same library with a VENDEXT in its first member, which has the public g.
 const REFUSED: &str =
-    "F00D0000000000000000000000000000 80030001420096040000015400980700280100020101009008000001016700000000C2050001000090008A020000000080030001420096040000015400980700280100020101009008000001016600000000A00500010000CB008A0200000000F1";
+    "F00D0000000000000000000000000000 80030001420096040000015400980700280100020101009008000001016700000000CE050001000090008A020000000080030001420096040000015400980700280100020101009008000001016600000000A00500010000CB008A0200000000F1";
 
 /// A main module: `call far g` in the segment T.
 const CALLS_G: &str =
@@ -169,12 +169,12 @@ static CASES: [Case; 23] = [
         has_stack: false,
         line: "",
     },
-    // The module needs it: its COMDAT is its fifth record, 34 bytes after its start.
+    // The module needs it: its VENDEXT is its fifth record, 34 bytes after its start.
     Case {
         files: &[("calls.obj", CALLS_G), ("l.lib", REFUSED)],
         program: "",
         has_stack: false,
-        line: "file \"l.lib\" module 1 \"B\" refused 4 UnsupportedType record 4 at 34 within 0 (COMDAT)\n",
+        line: "file \"l.lib\" module 1 \"B\" refused 4 UnsupportedType record 4 at 34 within 0 (VENDEXT)\n",
     },
     Case {
         files: &[("calls.obj", CALLS)],
@@ -320,7 +320,10 @@ const MAP: &str = "module 1 file \"calls.obj\" module 1\n\
     segment 1 1 00000000 00000005 \"T\" \"\"\n\
     segment 2 1 00000005 00000001 \"T\" \"\"\n\
     public 2 00000005 \"f\"\n\
-    external 1 1 00000005 \"f\"\n";
+    external 1 1 00000005 \"f\"\n\
+    at 0000:0005 \"f\"\n\
+    start 0000:0000\n\
+    stack 0000:0000\n";
 
 /// The map of the program of files.
 fn map_of(alloc: Global, files: Vec<InputFile>) -> Option<Vec<u8>> {

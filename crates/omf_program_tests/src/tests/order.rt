@@ -27,7 +27,10 @@ const MAP: &str = "module 1 \"order\"\n\
     segment 2 2 00000002 00000001 \"DATA\" \"DATA\"\n\
     segment 2 3 00000000 00000001 \"CODE\" \"CODE\"\n\
     public 1 00000003 \"_edata\"\n\
-    external 2 1 00000003 \"_edata\"\n";
+    external 2 1 00000003 \"_edata\"\n\
+    at 0000:0003 \"_edata\"\n\
+    start 0000:0000\n\
+    stack 0000:0000\n";
 
 /// The line in the order of the files.
 const UNDEFINED: &str = "undefined \"_edata\": file \"a.obj\" module 1\n";
