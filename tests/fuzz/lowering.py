@@ -45,7 +45,12 @@ class Lower:
         (folder / "wide.obj").write_bytes(bytes_)
         path.unlink(missing_ok=True)
         status, line = run([self.link, "lower", "-o", "out.obj", "wide.obj"], folder=folder)
-        wanted, made = wide.lowered(bytes_, "wide.obj", self.judge), path.read_bytes() if path.exists() else None
+        made = path.read_bytes() if path.exists() else None
+        promised(status in (0, 1) and (made is None) == (status == 1), f"lower: status {status}, {line[:200]}")
+        try:
+            wanted = wide.lowered(bytes_, "wide.obj", self.judge)
+        except wide.Unread:
+            return
         if isinstance(wanted, bytes):
             promised((status, line, made) == (0, b"", wanted), f"lower: status {status}, {line[:200]}, not the bytes of the reader")
             self.accepted += 1

@@ -5,7 +5,7 @@ import re
 
 from libraries import record
 
-NAMES, LOCAL_NAMES, EXTERNALS, COMDAT_EXTERNALS, DATA, REPEATED, BACKPATCH = 0x96, 0xCA, 0x8C, 0xBC, 0xA0, 0xA2, 0xB2
+NAMES, LOCAL_NAMES, EXTERNALS, COMDAT_EXTERNALS, DATA, REPEATED, BACKPATCH, COMDAT = 0x96, 0xCA, 0x8C, 0xBC, 0xA0, 0xA2, 0xB2, 0xC2
 HEADERS, ENDS, FRONT = (b"\x80", b"\x82"), (0x8A, 0x8B), 3
 PADDING = re.compile(rb"\0+|\x1A+|")
 # The bytes of a location of a BAKPAT, by its type.
@@ -164,6 +164,20 @@ def front_record(rest):
     return one
 
 
+class Unread(Exception):
+    """A COMDAT, which this reader does not lower."""
+
+
+def is_lowered(bytes_):
+    """Whether some record of a file is replaced, as far as the lengths of its records lead."""
+    at = 0
+    while at + FRONT <= len(bytes_):
+        if bytes_[at] == COMDAT_EXTERNALS or bytes_[at] & 0xFE in (BACKPATCH, COMDAT):
+            return True
+        at += FRONT + int.from_bytes(bytes_[at + 1:at + FRONT], "little")
+    return False
+
+
 class Lowered:
     """The records of a lowered module. Data are lists of a segment, an offset, a size, the number of the record (None for an LIDATA), its front and its
     bytes. `judge` is called with each record whose layout is not read here."""
@@ -177,6 +191,8 @@ class Lowered:
             self.take_externals(Fields(contents))
         elif kind & 0xFE == BACKPATCH:
             self.take_patches(Fields(contents), 4 if kind & 1 else 2)
+        elif kind & 0xFE == COMDAT:
+            raise Unread
         else:
             self.take_other(one, Fields(contents))
             self.records.append(one)
