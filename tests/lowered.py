@@ -1,8 +1,8 @@
 #!/usr/bin/env python3
 """Lowers generated modules, and compares with a reader of its own, by the standard's text: lowered.py [--first SEED] [--count N]
 
-Each module has LNAMES and LLNAMES, CEXTDEFs with names of these, LEDATAs of both widths, BAKPATs that add values to their data, and COMDATs; some files
-have several modules, with padding after them. What `omf-link lower` writes must be the bytes that this reader gives; where a record is at fault, it must name the file,
+Each module has LNAMES and LLNAMES, CEXTDEFs with names of these, LEDATAs of both widths, BAKPATs that add values to their data, and COMDATs with
+NBKPATs; some files have several modules, with padding after them. What `omf-link lower` writes must be the bytes that this reader gives; where a record is at fault, it must name the file,
 the module and the record, and write nothing.
 OMF_LINK names the program (omf-link, if not set). The status is 1 where a module differs."""
 import argparse
@@ -16,7 +16,7 @@ import tempfile
 
 LINK = os.environ.get("OMF_LINK") or "omf-link"
 NAMES, LOCAL_NAMES, EXTERNALS, COMDAT_EXTERNALS, DATA, BACKPATCH = 0x96, 0xCA, 0x8C, 0xBC, 0xA0, 0xB2
-SEGMENT, GROUP, REPEATED, COMDAT, FIXUPS = 0x98, 0x9A, 0xA2, 0xC2, 0x9C
+SEGMENT, GROUP, REPEATED, COMDAT, FIXUPS, NAMED_BACKPATCH = 0x98, 0x9A, 0xA2, 0xC2, 0x9C, 0xC8
 CONTINUED, ITERATED, LOCAL = 1, 2, 4
 SIZES = {0: 1, 1: 2, 2: 4}
 MOST_FAILED = 10
@@ -94,6 +94,7 @@ class Made:
     def add_comdats(self):
         """COMDATs of one name: a first one, and perhaps others that continue it, in any order of their offsets."""
         name = self.random.randint(1, self.count)
+        most = 0
         base = self.index(self.random.randint(0, self.groups)) + self.index(self.random.randint(1, len(self.lengths)))
         if self.random.random() < 0.02:
             base = self.random.choice([b"\x00\x00\x34\x12", b"\x09\x01", b"\x00\x09"])
@@ -104,12 +105,23 @@ class Made:
             wide, iterated = self.random.random() < 0.4, self.random.random() < 0.3
             width = 4 if wide else 2
             data = self.blocks(width, 2) if iterated else self.random.randbytes(self.random.randint(0, 12))
+            offset = self.random.choices([0, most, self.random.randint(0, 40), 0xFFFFFFFB], [20, 20, 20, wide])[0]
             front = bytes([flags | ITERATED * iterated, self.random.randint(0, 3) << 4 | allocation, align])
-            front += little(self.random.choices([0, self.random.randint(0, 40), 0xFFFFFFFB], [20, 20, 1])[0] if wide else self.random.choice([0, self.random.randint(0, 40)]), width)
+            front += little(offset, width)
             self.records.append(record(COMDAT + wide, front + self.index(0) + (base if allocation == 0 else b"") + self.index(name) + data))
             if not iterated and len(data) > 2 and self.random.random() < 0.4:
                 self.records.append(record(FIXUPS, b"\xC4\x00\x04\x01\x01"))
-            flags = flags & LOCAL | CONTINUED
+            flags, most = flags & LOCAL | CONTINUED, offset if iterated else offset + len(data)
+            if len(data) > 3 and not iterated and self.random.random() < 0.5:
+                self.add_named_patches(name, offset, len(data))
+
+    def add_named_patches(self, name, offset, size):
+        wide = self.random.random() < 0.4
+        width, kind = (4, self.random.choice([0, 1, 2])) if wide else (2, self.random.choice([0, 1]))
+        name = name if self.random.random() < 0.97 else self.random.randint(1, self.count + 1)
+        last = size - SIZES[kind] + (self.random.random() < 0.05)
+        items = [little(offset + self.random.randint(0, last), width) + little(self.random.getrandbits(32), width) for _ in range(self.random.randint(1, 3))]
+        self.records.append(record(NAMED_BACKPATCH + wide, bytes([kind]) + self.index(name) + b"".join(items)))
 
     def blocks(self, width, most):
         text = b""
@@ -163,7 +175,8 @@ def index_at(contents, at):
 
 
 class Lowered:
-    """The records of a lowered module. Data are lists of a segment, an offset, the number of the record, its front and its bytes."""
+    """The records of a lowered module. Data are a segment, an offset, a size, the number of the record, its front and its bytes,
+    or None for blocks."""
 
     def __init__(self, records):
         self.names, self.records, self.data = [], [], []
@@ -174,6 +187,8 @@ class Lowered:
                 self.take_externals(number, contents)
             elif kind & 0xFE == BACKPATCH:
                 self.take_patches(number, contents, 4 if kind & 1 else 2)
+            elif kind & 0xFE == NAMED_BACKPATCH:
+                self.take_named_patches(number, contents, 4 if kind & 1 else 2)
             elif kind & 0xFE == COMDAT:
                 self.take_comdat(number, kind & 1, contents)
             elif kind & 0xFE == SEGMENT and self.comdats:
@@ -197,7 +212,8 @@ class Lowered:
         elif kind & 0xFE == DATA:
             segment, at = index_at(contents, 0)
             end = at + (4 if kind & 1 else 2)
-            self.data.append((segment, int.from_bytes(contents[at:end], "little"), len(self.records), contents[:end], bytearray(contents[end:])))
+            own = bytearray(contents[end:])
+            self.data.append((segment, int.from_bytes(contents[at:end], "little"), len(own), len(self.records), contents[:end], own))
 
     def take_comdat(self, number, odd, contents):
         width = 4 if odd else 2
@@ -225,8 +241,8 @@ class Lowered:
             self.records.append(record(0xB7 if flags & LOCAL else 0x91, body))
         self.comdats[text][3] = max(self.comdats[text][3], end)
         front = shortest(self.comdats[text][0]) + little(offset, width)
-        if not flags & ITERATED:
-            self.data.append((self.comdats[text][0], offset, len(self.records), front, bytearray(data)))
+        own = None if flags & ITERATED else bytearray(data)
+        self.data.append((self.comdats[text][0], offset, end - offset, len(self.records), front, own))
         self.records.append(record((REPEATED if flags & ITERATED else DATA) + odd, front + data))
 
     def allocated(self, name, allocation):
@@ -256,12 +272,21 @@ class Lowered:
             offset, value = (int.from_bytes(contents[it:it + width], "little") for it in (item, item + width))
             self.patch(number, segment, offset, size, value)
 
+    def take_named_patches(self, number, contents, width):
+        name, at = index_at(contents, 1)
+        text = self.names[name - 1] if 1 <= name <= len(self.names) else None
+        if text not in self.comdats:
+            raise Fault(number)
+        for item in range(at, len(contents), 2 * width):
+            offset, value = (int.from_bytes(contents[it:it + width], "little") for it in (item, item + width))
+            self.patch(number, self.comdats[text][0], offset, SIZES[contents[0]], value)
+
     def patch(self, number, segment, offset, size, value):
         """Adds a value to the last data before it that have a byte of the location, if they have all."""
-        for other, first, record_number, front, own in reversed(self.data):
-            if other == segment and first < offset + size and offset < first + len(own):
+        for other, first, most, record_number, front, own in reversed(self.data):
+            if other == segment and first < offset + size and offset < first + most:
                 at = offset - first
-                if at < 0 or at + size > len(own):
+                if own is None or at < 0 or at + size > most:
                     raise Fault(number)
                 own[at:at + size] = little(int.from_bytes(own[at:at + size], "little") + value, size)
                 self.records[record_number] = record(self.records[record_number][0], front + own)

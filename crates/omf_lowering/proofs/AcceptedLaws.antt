@@ -26,7 +26,7 @@ use Rattle.omf_check.specs.declared.profile.Profile.{Profile}
 use Rattle.omf_check.proofs.Moving.{item_more}
 use Rattle.omf_check.proofs.WellLaws.{well-read}
 use Rattle.omf_lowering.specs.Comdats.{given_by, made, new_of}
-use Rattle.omf_lowering.specs.Lowering.{Before, IsLowered, IsWideRecord, comdat_of, fault_of, faults_in, growths, growths_in, is_bakpat, is_cextdef, is_comdat, is_late, is_segdef, lowered_records, lowering_fault, patches_in, pieces, replaced, replacement, so_far, start, up_to_next}
+use Rattle.omf_lowering.specs.Lowering.{Before, IsLowered, IsWideRecord, comdat_of, fault_of, faults_in, growths, growths_in, is_bakpat, is_cextdef, is_comdat, is_nbkpat, is_late, is_segdef, lowered_records, lowering_fault, patches_in, pieces, replaced, replacement, so_far, start, up_to_next}
 use Rattle.omf_lowering.specs.Patches.{patched}
 use Rattle.omf_lowering.specs.Wide.{is_known, is_right}
 
@@ -44,22 +44,24 @@ by_list test (n ∷ ks) k all one =
     both true b e = (refl, e)
     both false b e = absurd cc
 
--- a type that this profile reads or carries is known, and neither a CEXTDEF nor a BAKPAT nor a COMDAT
+-- a type that this profile reads or carries is known, and none of CEXTDEF, BAKPAT, NBKPAT, COMDAT
 abbrev is_plain : ℕ → Bool
-is_plain k = is_known k && (not (is_cextdef k) && (not (is_bakpat k) && not (is_comdat k)))
+is_plain k = is_known k && (not (is_cextdef k) && (not (is_bakpat k) && (not (is_nbkpat k) && not (is_comdat k))))
 
 record Plain (k : ℕ) : Type 0 where
   known : is_known k ≡ true
   cextdef : is_cextdef k ≡ false
   bakpat : is_bakpat k ≡ false
+  nbkpat : is_nbkpat k ≡ false
   comdat : is_comdat k ≡ false
 
-plain_by : (a b c d : Bool) → (a && (not b && (not c && not d))) ≡ true → (a ≡ true) × (b ≡ false) × (c ≡ false) × (d ≡ false)
-plain_by true false false false e = (refl, refl, refl, refl)
-plain_by true false false true e = absurd cc
-plain_by true false true d e = absurd cc
-plain_by true true c d e = absurd cc
-plain_by false b c d e = absurd cc
+plain_by : (a b c d e : Bool) → (a && (not b && (not c && (not d && not e)))) ≡ true → (a ≡ true) × (b ≡ false) × (c ≡ false) × (d ≡ false) × (e ≡ false)
+plain_by true false false false false h = (refl, refl, refl, refl, refl)
+plain_by true false false false true h = absurd cc
+plain_by true false false true e h = absurd cc
+plain_by true false true d e h = absurd cc
+plain_by true true c d e h = absurd cc
+plain_by false b c d e h = absurd cc
 
 plain_is : (k : ℕ) → is_taken k ≡ true → is_plain k ≡ true
 plain_is k e =
@@ -69,13 +71,19 @@ plain_is k e =
     ]
 
 plain : (k : ℕ) → is_taken k ≡ true → Plain k
-plain k e = let p = plain_by (is_known k) (is_cextdef k) (is_bakpat k) (is_comdat k) (plain_is k e) in record { known = p.0; cextdef = p.1; bakpat = p.2; comdat = p.3 }
+plain k e = let p = plain_by (is_known k) (is_cextdef k) (is_bakpat k) (is_nbkpat k) (is_comdat k) (plain_is k e) in record { known = p.0; cextdef = p.1; bakpat = p.2; nbkpat = p.3; comdat = p.4 }
 
-fourth : {A : Type 0} (a b c : Bool) (x y z w : A) → a ≡ false → b ≡ false → c ≡ false → cond a x (cond b y (cond c z w)) ≡ w
-fourth false false false x y z w e f g = refl
-fourth true b c x y z w e f g = absurd cc
-fourth false true c x y z w e f g = absurd cc
-fourth false false true x y z w e f g = absurd cc
+fifth : {A : Type 0} (a b c d : Bool) (x y z w v : A) → a ≡ false → b ≡ false → c ≡ false → d ≡ false → cond a x (cond b y (cond c z (cond d w v))) ≡ v
+fifth false false false false x y z w v e f g h = refl
+fifth true b c d x y z w v e f g h = absurd cc
+fifth false true c d x y z w v e f g h = absurd cc
+fifth false false true d x y z w v e f g h = absurd cc
+fifth false false false true x y z w v e f g h = absurd cc
+
+third : {A : Type 0} (a b : Bool) (x y z : A) → a ≡ false → b ≡ false → cond a x (cond b y z) ≡ z
+third false false x y z e f = refl
+third true b x y z e f = absurd cc
+third false true x y z e f = absurd cc
 
 and_never : (b : Bool) → (b && false) ≡ false
 and_never true = refl
@@ -98,7 +106,7 @@ IsSpelled r = IsTyped (typed r) r.body
 kept_one : (b : Before) (r : Raw) → IsTaken r → replacement b r ≡ r ∷ []
 kept_one b r taken =
     let p = plain r.kind taken in
-    fourth (is_cextdef r.kind) (is_bakpat r.kind) (is_comdat r.kind) _ [] (given_by (made r.kind) (comdat_of b r)) (r ∷ []) p.cextdef p.bakpat p.comdat
+    fifth (is_cextdef r.kind) (is_bakpat r.kind) (is_nbkpat r.kind) (is_comdat r.kind) _ [] [] (given_by (made r.kind) (comdat_of b r)) (r ∷ []) p.cextdef p.bakpat p.nbkpat p.comdat
 
 kept_all : (b : Before) (xs : List Raw) → All IsTaken xs → (fold up_to_next b xs).records ≡ b.records ++ xs
 kept_all b [] taken = sym (append-nil b.records)
@@ -118,7 +126,7 @@ sound_one before r earlier taken spelled =
     let b = so_far before in
     let own : Option Fault = cond (is_taken r.kind) (fault_of (read_body r.kind r.body)) None in
     let late : is_late b.instances r.kind ≡ false = ap (λ i. is_late i r.kind) (no_instances start before earlier) ∙ and_never (is_segdef r.kind) in
-    fourth (is_cextdef r.kind) (is_bakpat r.kind) (is_comdat r.kind) _ _ (fault_of (comdat_of b r)) (cond (is_late b.instances r.kind) (Some (fault 0 reason.UnsupportedType)) own) p.cextdef p.bakpat p.comdat
+    fifth (is_cextdef r.kind) (is_bakpat r.kind) (is_nbkpat r.kind) (is_comdat r.kind) _ _ _ (fault_of (comdat_of b r)) (cond (is_late b.instances r.kind) (Some (fault 0 reason.UnsupportedType)) own) p.cextdef p.bakpat p.nbkpat p.comdat
     ∙ second (is_late b.instances r.kind) (Some (fault 0 reason.UnsupportedType)) own late
     ∙ ap (λ t. cond t (fault_of (read_body r.kind r.body)) None) taken
     ∙ unfaulty (read_body r.kind r.body) (are_typed r (typed r) refl spelled).1
@@ -130,12 +138,12 @@ sound_all before (x ∷ xs) earlier taken spelled =
     ap (λ f. faults_in f ++ with_before (λ b r. faults_in (lowering_fault b r)) (before ++ x ∷ []) xs) (sound_one before x earlier first (All-head IsSpelled x xs spelled))
     ∙ sound_all (before ++ x ∷ []) xs (All-append IsTaken before (x ∷ []) earlier (all_one IsTaken x first)) (All-tail IsTaken x xs taken) (All-tail IsSpelled x xs spelled)
 
-no_patches : (before xs : List Raw) → All IsTaken xs → with_before (λ b r. patches_in (pieces b) r) before xs ≡ []
+no_patches : (before xs : List Raw) → All IsTaken xs → with_before (λ b r. patches_in (so_far b) (pieces b) r) before xs ≡ []
 no_patches before [] taken = refl
 no_patches before (x ∷ xs) taken =
     let p = plain x.kind (All-head IsTaken x xs taken) in
-    let none : patches_in (pieces before) x ≡ [] = second (is_bakpat x.kind) _ [] p.bakpat in
-    ap (λ l. l ++ with_before (λ b r. patches_in (pieces b) r) (before ++ x ∷ []) xs) none ∙ no_patches (before ++ x ∷ []) xs (All-tail IsTaken x xs taken)
+    let none : patches_in (so_far before) (pieces before) x ≡ [] = third (is_bakpat x.kind) (is_nbkpat x.kind) _ _ [] p.bakpat p.nbkpat in
+    ap (λ l. l ++ with_before (λ b r. patches_in (so_far b) (pieces b) r) (before ++ x ∷ []) xs) none ∙ no_patches (before ++ x ∷ []) xs (All-tail IsTaken x xs taken)
 
 no_growths : (before xs : List Raw) → All IsTaken xs → with_before (λ b r. growths_in (so_far b) (pieces b) r) before xs ≡ []
 no_growths before [] taken = refl

@@ -12,9 +12,10 @@ use Rattle.omf_records.specs.Inner.Reads.{and_then, or_none}
 use Rattle.omf_records.specs.Inner.Steps.{and_then_ok}
 use Rattle.omf_records.specs.Values.{At, Contents, DataItem, Header, Comment, Names, Segment, Group, Externs, Publics, Communals, Plain, Iterated, Fixups, ModEnd, Carried, is_wide}
 use Rattle.omf_lowering.specs.Externals.{all_of}
-use Rattle.omf_lowering.specs.Inner.Readers.{bakpat_whole}
+use Rattle.omf_lowering.specs.Comdats.{backpatches_by, named_patches, named_patches_by}
+use Rattle.omf_lowering.specs.Inner.Readers.{bakpat_whole, nbkpat_whole}
 use Rattle.omf_lowering.specs.Laws.{Fits, ValuesFit}
-use Rattle.omf_lowering.specs.Lowering.{is_bakpat, patches, patches_in, pieces, replaced, replacement, so_far}
+use Rattle.omf_lowering.specs.Lowering.{Before, is_bakpat, is_nbkpat, patches, patches_in, pieces, replaced, replacement, so_far}
 use Rattle.omf_lowering.specs.Patches.{has_all, has_byte_of, holder, patch_at, patch_by, patches_by, piece_in, piece_of, pieces_from, placed, size_of}
 use Rattle.omf_lowering.specs.declared.values.Backpatch.{Backpatch}
 use Rattle.omf_lowering.specs.declared.values.Patch.{Patch}
@@ -151,6 +152,18 @@ fits_record rs kind body (Ok ps) e =
     let read = and_then_ok ((bakpat_whole (is_wide kind)).read 3 body) (placed (pieces_from 0 rs)) ps e in
     fits_items rs read.0.segment.item read.0.part read.0.items ps read.2
 
+fits_named : (b : Before) (rs : List Raw) (kind : ℕ) (body : List ℕ) (r : Result (List Patch) Fault) → named_patches_by b.tables b.instances (pieces_from 0 rs) kind body ≡ r → All (Fits rs) (or_none r)
+fits_named b rs kind body (Err f) e = All-nil (Fits rs)
+fits_named b rs kind body (Ok ps) e =
+    let read = and_then_ok ((nbkpat_whole (is_wide kind)).read 3 body) (named_patches b.tables b.instances (pieces_from 0 rs)) ps e in
+    let given = and_then_ok (backpatches_by b.tables b.instances read.0) (placed (pieces_from 0 rs)) ps read.2 in
+    fits_items rs given.0.segment.item given.0.part given.0.items ps given.2
+
+if_either : {A : Type 0} (P : A → Type 0) (b c : Bool) (xs ys : List A) → All P xs → All P ys → All P (cond b xs (cond c ys []))
+if_either P true c xs ys h k = h
+if_either P false true xs ys h k = k
+if_either P false false xs ys h k = All-nil P
+
 -- more records after them
 there_still : (rs more : List Raw) (i : ℕ) (r : Raw) → slice_get rs i ≡ Some r → slice_get (rs ++ more) i ≡ Some r
 there_still [] more i r e = absurd cc
@@ -169,9 +182,10 @@ fits_from : (before xs : List Raw) → All (Fits (replaced before)) (patches bef
 fits_from before [] h = subst (λ rs. All (Fits (replaced rs)) (patches rs)) (sym (append-nil before)) h
 fits_from before (x ∷ xs) h =
     let more : replaced (before ++ x ∷ []) ≡ replaced before ++ replacement (so_far before) x = replaced-more before x in
-    let values : patches (before ++ x ∷ []) ≡ patches before ++ patches_in (pieces before) x = with_before-more (λ b r. patches_in (pieces b) r) [] before x in
-    let own : All (Fits (replaced before)) (patches_in (pieces before) x) = if_taken (Fits (replaced before)) (is_bakpat x.kind) _ (fits_record (replaced before) x.kind x.body _ refl) in
-    let all : All (Fits (replaced before)) (patches (before ++ x ∷ [])) = subst (All (Fits (replaced before))) (sym values) (All-append (Fits (replaced before)) (patches before) (patches_in (pieces before) x) h own) in
+    let values : patches (before ++ x ∷ []) ≡ patches before ++ patches_in (so_far before) (pieces before) x = with_before-more (λ b r. patches_in (so_far b) (pieces b) r) [] before x in
+    let own : All (Fits (replaced before)) (patches_in (so_far before) (pieces before) x) =
+    if_either (Fits (replaced before)) (is_bakpat x.kind) (is_nbkpat x.kind) _ _ (fits_record (replaced before) x.kind x.body _ refl) (fits_named (so_far before) (replaced before) x.kind x.body _ refl) in
+    let all : All (Fits (replaced before)) (patches (before ++ x ∷ [])) = subst (All (Fits (replaced before))) (sym values) (All-append (Fits (replaced before)) (patches before) (patches_in (so_far before) (pieces before) x) h own) in
     let now : All (Fits (replaced (before ++ x ∷ []))) (patches (before ++ x ∷ [])) =
     subst (λ rs. All (Fits rs) (patches (before ++ x ∷ []))) (sym more) (fits_all_still (replaced before) (replacement (so_far before) x) (patches (before ++ x ∷ [])) all) in
     subst (λ rs. All (Fits (replaced rs)) (patches rs)) (append_assoc before (x ∷ []) xs) (fits_from (before ++ x ∷ []) xs now)

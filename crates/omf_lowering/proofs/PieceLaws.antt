@@ -11,10 +11,10 @@ use Rattle.omf_records.specs.Values.{At, width}
 use Rattle.omf_records.specs.declared.record.Rec.{Rec as CodeRec}
 use Rattle.omf_records.specs.declared.record.Rec.TheVariants as code
 use Rattle.omf_records.specs.declared.record.Blocks.{Blocks}
-use Rattle.omf_lowering.specs.Comdats.{data_record, defined_by, given_by, growth, made, new_of, pubdef, segdef}
+use Rattle.omf_lowering.specs.Comdats.{data_record, defined_by, given_by, growth, made, named_patches_by, new_of, pubdef, segdef}
 use Rattle.omf_lowering.specs.Externals.{extdef, externals_by}
 use Rattle.omf_lowering.specs.Inner.State.{AreAppended, State, added}
-use Rattle.omf_lowering.specs.Lowering.{comdat_of, growths_in, instances_in, is_bakpat, is_cextdef, is_comdat, patches_in, replacement}
+use Rattle.omf_lowering.specs.Lowering.{comdat_of, growths_in, instances_in, is_bakpat, is_cextdef, is_comdat, is_nbkpat, patches_in, replacement}
 use Rattle.omf_lowering.specs.Patches.{piece_of, pieces_from, size_or_none}
 use Rattle.omf_lowering.specs.Values.{Instance, Resolved, Tables, is_continued}
 use Rattle.omf_lowering.specs.declared.values.Piece.{Piece}
@@ -77,13 +77,17 @@ module _ (s : State) (r : Raw) (x : Resolved) (comdat : is_comdat r.kind ≡ tru
   bakpat : is_bakpat r.kind ≡ false
   bakpat = of_comdat (λ k. is_bakpat k ≡ false) refl refl r.kind comdat
 
+  nbkpat : is_nbkpat r.kind ≡ false
+  nbkpat = of_comdat (λ k. is_nbkpat k ≡ false) refl refl r.kind comdat
+
   taken : is_taken r.kind ≡ false
   taken = of_comdat (λ k. is_taken k ≡ false) refl refl r.kind comdat
 
   replaced_by : replacement s.before r ≡ made r.kind x
   replaced_by =
-      second_of (is_cextdef r.kind) _ (cond (is_bakpat r.kind) [] (cond (is_comdat r.kind) (given_by (made r.kind) (comdat_of s.before r)) (r ∷ []))) cextdef
-      ∙ second_of (is_bakpat r.kind) [] (cond (is_comdat r.kind) (given_by (made r.kind) (comdat_of s.before r)) (r ∷ [])) bakpat
+      second_of (is_cextdef r.kind) _ (cond (is_bakpat r.kind) [] (cond (is_nbkpat r.kind) [] (cond (is_comdat r.kind) (given_by (made r.kind) (comdat_of s.before r)) (r ∷ [])))) cextdef
+      ∙ second_of (is_bakpat r.kind) [] (cond (is_nbkpat r.kind) [] (cond (is_comdat r.kind) (given_by (made r.kind) (comdat_of s.before r)) (r ∷ []))) bakpat
+      ∙ second_of (is_nbkpat r.kind) [] (cond (is_comdat r.kind) (given_by (made r.kind) (comdat_of s.before r)) (r ∷ [])) nbkpat
       ∙ first_of (is_comdat r.kind) (given_by (made r.kind) (comdat_of s.before r)) (r ∷ []) comdat
       ∙ ap (given_by (made r.kind)) is
 
@@ -99,8 +103,9 @@ module _ (s : State) (r : Raw) (x : Resolved) (comdat : is_comdat r.kind ≡ tru
       let records : rs ≡ s.before.records ++ replacement s.before r = more.records ∙ ap (λ l. s.before.records ++ l) items in
       let pieces : ps ≡ s.data_before ++ pieces_from (length s.before.records) (replacement s.before r) =
       more.pieces ∙ ap (λ l. s.data_before ++ pieces_from (length s.before.records) l) items in
-      let patches : s.patches ≡ s.patches ++ patches_in s.data_before r =
-      sym (ap (λ l. s.patches ++ l) (second_of (is_bakpat r.kind) _ [] bakpat) ∙ append-nil s.patches) in
+      let patches : s.patches ≡ s.patches ++ patches_in s.before s.data_before r =
+      sym (ap (λ l. s.patches ++ l) (second_of (is_bakpat r.kind) _ (cond (is_nbkpat r.kind) (or_none (named_patches_by s.before.tables s.before.instances s.data_before r.kind r.body)) []) bakpat
+      ∙ second_of (is_nbkpat r.kind) _ [] nbkpat) ∙ append-nil s.patches) in
       let growths : gs ≡ s.growths ++ growths_in s.before s.data_before r =
       g1 ∙ ap (λ l. s.growths ++ l) (sym (first_of (is_comdat r.kind) (given_by (growth s.data_before) (comdat_of s.before r)) [] comdat ∙ ap (given_by (growth s.data_before)) is)) in
       same_state same_tables instances records pieces patches growths

@@ -47,13 +47,13 @@ state-more before r =
     let data_too : pieces (before ++ r ∷ []) ≡ pieces before ++ pieces_from (length (replaced before)) (replacement (so_far before) r) =
     ap (pieces_from 0) (replaced-more before r) ∙ pieces-append 0 (replaced before) (replacement (so_far before) r)
     ∙ ap (λ n. pieces before ++ pieces_from n (replacement (so_far before) r)) zero_too in
-    let values : patches (before ++ r ∷ []) ≡ patches before ++ patches_in (pieces before) r = with_before-more (λ b x. patches_in (pieces b) x) [] before r in
+    let values : patches (before ++ r ∷ []) ≡ patches before ++ patches_in (so_far before) (pieces before) r = with_before-more (λ b x. patches_in (so_far b) (pieces b) x) [] before r in
     let grown : growths (before ++ r ∷ []) ≡ growths before ++ growths_in (so_far before) (pieces before) r =
     with_before-more (λ b x. growths_in (so_far b) (pieces b) x) [] before r in
     ap (λ b. record { before = b; data_before = pieces (before ++ r ∷ []); patches = patches (before ++ r ∷ []); growths = growths (before ++ r ∷ []) }) (so_far-more before r)
     ∙ ap (λ d. record { before = up_to_next (so_far before) r; data_before = d; patches = patches (before ++ r ∷ []); growths = growths (before ++ r ∷ []) }) data_too
     ∙ ap (λ p. record { before = up_to_next (so_far before) r; data_before = pieces before ++ pieces_from (length (replaced before)) (replacement (so_far before) r); patches = p; growths = growths (before ++ r ∷ []) }) values
-    ∙ ap (λ g. record { before = up_to_next (so_far before) r; data_before = pieces before ++ pieces_from (length (replaced before)) (replacement (so_far before) r); patches = patches before ++ patches_in (pieces before) r; growths = g }) grown
+    ∙ ap (λ g. record { before = up_to_next (so_far before) r; data_before = pieces before ++ pieces_from (length (replaced before)) (replacement (so_far before) r); patches = patches before ++ patches_in (so_far before) (pieces before) r; growths = g }) grown
 
 -- three records, appended one after another with their data
 pub three_more : (rs : List Raw) (ps : List Piece) (a b c : Raw) (r1 r2 r3 : List Raw) (p1 p2 p3 : List Piece)

@@ -12,12 +12,15 @@ use Rattle.omf_image.specs.Limits.{profile_limits}
 use Rattle.omf_image.specs.declared.part.Part.TheVariants as part
 use Rattle.omf_records.specs.Layout.{fault}
 use Rattle.omf_records.specs.Shortest.{data_bytes, public_bytes, segment_bytes}
-use Rattle.omf_records.specs.Values.{At, Contents, Group, Names, Segment, alignment, combination, nowhere, width}
+use Rattle.omf_records.specs.Values.{At, Contents, Group, Names, Segment, alignment, combination, nowhere, width, is_wide}
 -- computed: readings_meet_layouts and contents_are_typed_once of omf_records.
 use Rattle.omf_records.specs.Inner.Reading.{typed}
 use Rattle.omf_records.specs.Inner.Reads.{and_then}
 use Rattle.omf_check.specs.Tables.{defined_names, entry}
-use Rattle.omf_lowering.specs.Patches.{size_or_none}
+use Rattle.omf_lowering.specs.Layouts.{Backpatches, NamedBackpatches}
+-- computed: readings_meet_layouts of omf_lowering.
+use Rattle.omf_lowering.specs.Inner.Readers.{nbkpat_whole}
+use Rattle.omf_lowering.specs.Patches.{placed, size_or_none}
 -- computed: readings_meet_layouts of omf_lowering.
 use Rattle.omf_lowering.specs.Values.{BaseItem, ComdatItem, Instance, Resolved, Tables, allocation, is_continued, is_iterated, is_local}
 use Rattle.omf_lowering.specs.declared.values.Pattern.{Pattern}
@@ -177,3 +180,23 @@ growth data_before r = if is_continued r.item.flags
 abbrev pub given_by : {A B : Type 0} → (A → List B) → Result A Fault → List B
 given_by f (Ok x) = f x
 given_by f (Err e) = []
+
+-- The COMDAT with the name of an NBKPAT, before it.
+abbrev pub instance_at : At ℕ → Option Instance → Result Instance Fault
+instance_at at None = Err (fault at.within reason.UnsupportedType)
+instance_at at (Some i) = Ok i
+
+-- The backpatches of an NBKPAT, as of a BAKPAT for the segment of the COMDAT (TIS OMF 1.1, "NBKPAT").
+abbrev pub backpatches_by : Tables → List Instance → NamedBackpatches → Result Backpatches Fault
+backpatches_by t instances b =
+    and_then (text_by b.name (entry t.names b.name.item)) (λ text.
+    and_then (instance_at b.name (instance_of instances text)) (λ i.
+    Ok (record { segment = nowhere i.segment; part = b.part; items = b.items })))
+
+-- The values that an NBKPAT's backpatches add, or their first fault.
+abbrev pub named_patches : Tables → List Instance → List Piece → NamedBackpatches → Result (List Patch) Fault
+named_patches t instances pieces b = and_then (backpatches_by t instances b) (placed pieces)
+
+-- The values that an NBKPAT with these contents adds, or its first fault: of layout, of its name, or else of a location.
+abbrev pub named_patches_by : Tables → List Instance → List Piece → ℕ → List ℕ → Result (List Patch) Fault
+named_patches_by t instances pieces kind body = and_then ((nbkpat_whole (is_wide kind)).read 3 body) (named_patches t instances pieces)

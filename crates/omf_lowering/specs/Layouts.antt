@@ -48,6 +48,18 @@ bakpat wide = do
   part ← called (checked byte (wrong_type wide)) part_of
   called (many (backpatch wide)) (λ items. record { segment = segment; part = part; items = items })
 
+-- NBKPAT: the part that each location is, the index of the name of a COMDAT, and the backpatches.
+pub record NamedBackpatches : Type 0 where
+  pub name : At ℕ
+  pub part : Part
+  pub items : List (At Backpatch)
+
+abbrev pub nbkpat : Bool → Layout NamedBackpatches
+nbkpat wide = do
+  part ← called (checked byte (wrong_type wide)) part_of
+  name ← with_place index
+  called (many (backpatch wide)) (λ items. record { name = name; part = part; items = items })
+
 -- COMDAT: selections are 0 to 3, allocations 0 to 4, and alignments 0, as the segment's, to 5.
 abbrev pub wrong_attributes : ℕ → List Reason
 wrong_attributes attributes = unless (nat_lt (selection attributes) 4 && nat_lt (allocation attributes) 5) reason.UnsupportedType

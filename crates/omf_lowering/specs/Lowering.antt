@@ -5,7 +5,7 @@ use Rattle.omf_frame.specs.Bytes.{is_one_of, with_before}
 use Rattle.omf_frame.specs.Fault.{Fault}
 use Rattle.omf_frame.specs.Framing.{Raw, raw_bytes, is_taken, is_end, front_record}
 use Rattle.omf_frame.specs.Types.{row}
-use Rattle.omf_frame.specs.declared.kinds.RecordType.TheVariants.{Cextdef, Bakpat, Comdat, Segdef}
+use Rattle.omf_frame.specs.declared.kinds.RecordType.TheVariants.{Cextdef, Bakpat, Comdat, Nbkpat, Segdef}
 use Rattle.omf_frame.specs.declared.fault.Place.{Place}
 use Rattle.omf_frame.specs.declared.fault.Reason.{Reason}
 use Rattle.omf_frame.specs.declared.fault.Reason.TheVariants as reason
@@ -15,7 +15,7 @@ use Rattle.omf_records.specs.Layout.{fault}
 use Rattle.omf_records.specs.Inner.Reading.{read_body}
 use Rattle.omf_records.specs.Inner.Reads.{and_then, or_none}
 use Rattle.omf_records.specs.Values.{is_wide}
-use Rattle.omf_lowering.specs.Comdats.{defined_by, given_by, growth, made, new_of, resolved}
+use Rattle.omf_lowering.specs.Comdats.{defined_by, given_by, growth, made, named_patches_by, new_of, resolved}
 use Rattle.omf_lowering.specs.Externals.{externals_by, extdef}
 -- computed: readings_meet_layouts of omf_lowering.
 use Rattle.omf_lowering.specs.Inner.Readers.{comdat_whole}
@@ -33,6 +33,9 @@ is_cextdef kind = is_one_of (row Cextdef).bytes kind
 abbrev pub is_bakpat : ℕ → Bool
 is_bakpat kind = is_one_of (row Bakpat).bytes kind
 
+abbrev pub is_nbkpat : ℕ → Bool
+is_nbkpat kind = is_one_of (row Nbkpat).bytes kind
+
 abbrev pub is_comdat : ℕ → Bool
 is_comdat kind = is_one_of (row Comdat).bytes kind
 
@@ -49,12 +52,13 @@ pub record Before : Type 0 where
 abbrev pub comdat_of : Before → Raw → Result Resolved Fault
 comdat_of b r = and_then ((comdat_whole (is_wide r.kind)).read 3 r.body) (resolved b.tables b.instances (length b.records) r.kind)
 
--- What replaces a record: an EXTDEF for each external of a CEXTDEF, nothing for a BAKPAT, a segment of its own with a public name and data for a COMDAT, or
+-- What replaces a record: an EXTDEF for each external of a CEXTDEF, nothing for a BAKPAT or an NBKPAT, a segment of its own with a public name and data for a COMDAT, or
 -- more data for one that is continued; every other record itself.
 abbrev pub replacement : Before → Raw → List Raw
 replacement b r =
     if is_cextdef r.kind then map extdef (or_none (externals_by b.tables.names r.body))
     else if is_bakpat r.kind then []
+    else if is_nbkpat r.kind then []
     else if is_comdat r.kind then given_by (made r.kind) (comdat_of b r)
     else r ∷ []
 
@@ -89,13 +93,16 @@ replaced rs = (so_far rs).records
 abbrev pub pieces : List Raw → List Piece
 pieces rs = pieces_from 0 (replaced rs)
 
--- The values that a record adds to the data before it: those of a BAKPAT.
-abbrev pub patches_in : List Piece → Raw → List Patch
-patches_in data_before r = if is_bakpat r.kind then or_none (patches_by data_before r.kind r.body) else []
+-- The values that a record adds to the data before it: those of a BAKPAT or an NBKPAT.
+abbrev pub patches_in : Before → List Piece → Raw → List Patch
+patches_in b data_before r =
+    if is_bakpat r.kind then or_none (patches_by data_before r.kind r.body)
+    else if is_nbkpat r.kind then or_none (named_patches_by b.tables b.instances data_before r.kind r.body)
+    else []
 
--- The values of all BAKPATs, in their order.
+-- The values of all BAKPATs and NBKPATs, in their order.
 abbrev pub patches : List Raw → List Patch
-patches rs = with_before (λ before r. patches_in (pieces before) r) [] rs
+patches rs = with_before (λ before r. patches_in (so_far before) (pieces before) r) [] rs
 
 -- What a record adds to the length of a SEGDEF before it: a COMDAT that is continued.
 abbrev pub growths_in : Before → List Piece → Raw → List Patch
@@ -105,7 +112,7 @@ growths_in b data_before r = if is_comdat r.kind then given_by (growth data_befo
 abbrev pub growths : List Raw → List Patch
 growths rs = with_before (λ before r. growths_in (so_far before) (pieces before) r) [] rs
 
--- The lowered records: each replaced, the values of the BAKPATs added to the data of the LEDATAs, and the lengths of the COMDATs' segments. A fixup of such
+-- The lowered records: each replaced, the values of the BAKPATs and NBKPATs added to the data of the LEDATAs, and the lengths of the COMDATs' segments. A fixup of such
 -- data is applied to the sum.
 abbrev pub lowered_records : List Raw → List Raw
 lowered_records rs = patched (patched (replaced rs) (patches rs)) (growths rs)
@@ -119,12 +126,13 @@ fault_of (Err e) = Some e
 abbrev pub is_late : List Instance → ℕ → Bool
 is_late instances kind = is_segdef kind && not (length instances == 0)
 
--- The fault of a record, by what is before it and the data before it: of a CEXTDEF, of a BAKPAT, of a COMDAT, of a SEGDEF after a COMDAT, or of the layout of a
+-- The fault of a record, by what is before it and the data before it: of a CEXTDEF, of a BAKPAT, of an NBKPAT, of a COMDAT, of a SEGDEF after a COMDAT, or of the layout of a
 -- record that this profile reads.
 abbrev pub fault_by : Before → List Piece → Raw → Option Fault
 fault_by b data_before r =
     if is_cextdef r.kind then fault_of (externals_by b.tables.names r.body)
     else if is_bakpat r.kind then fault_of (patches_by data_before r.kind r.body)
+    else if is_nbkpat r.kind then fault_of (named_patches_by b.tables b.instances data_before r.kind r.body)
     else if is_comdat r.kind then fault_of (comdat_of b r)
     else if is_late b.instances r.kind then Some (fault 0 reason.UnsupportedType)
     else if is_taken r.kind then fault_of (read_body r.kind r.body)

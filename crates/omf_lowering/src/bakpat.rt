@@ -1,20 +1,24 @@
 //! The values that a BAKPAT adds (TIS OMF 1.1, "BAKPAT").
 
-ghost use Rattle.std.specs.Prelude.{◌≡◌, ◌+◌, ◌<◌, ◌≤◌, ◌++◌, drop, length, IfOk, IfErr, OnOk, Ok, None};
+ghost use Rattle.std.specs.Prelude.{◌≡◌, ◌+◌, ◌<◌, ◌≤◌, ◌++◌, drop, length, IfOk, IfErr, OnOk, Ok, Err, None};
 ghost use Rattle.omf_records.specs.Inner.Reads.{or_none};
-ghost use Rattle.omf_lowering.specs.Inner.Readers.{bakpat_whole, read_to, type_reader};
+ghost use Rattle.omf_lowering.specs.Inner.Readers.{bakpat_whole, nbkpat_whole, read_to, type_reader};
 ghost use Rattle.omf_lowering.specs.Inner.State.{GivesAll, IsStop};
+ghost use Rattle.omf_lowering.specs.Comdats.{backpatches_by, named_patches};
 ghost use Rattle.omf_lowering.specs.Lowering.{fault_of};
 ghost use Rattle.omf_lowering.specs.Patches.{has_all, has_byte_of, holder, patch_at, patches_by, placed, size_of};
 
 use crate::entries::{Entry, entries};
 use crate::fault::Stop;
 use crate::fields::{byte_at, fault_at, number_at, placed_index_at};
+use crate::instance::{Instance, segment_at};
+use crate::tables::Tables;
 use crate::values::{Backpatch, Patch, Piece};
 use omf_frame::{Index, Reason};
 use omf_image::Part;
 use omf_records::{At, LayoutFault};
 use std::alloc::Global;
+use std::marker::Model;
 
 /// The contents of a BAKPAT: the index of its segment, the type of its locations, and its backpatches.
 #[derive(Drop)]
@@ -22,6 +26,22 @@ struct Backpatches {
     segment: At<Index>,
     part: Part,
     items: Vec<At<Backpatch>>,
+}
+
+/// The contents of an NBKPAT: the index of the name of a COMDAT, the type of its locations, and its backpatches.
+#[derive(Drop)]
+pub(crate) struct NamedBackpatches {
+    name: At<Index>,
+    part: Part,
+    items: Vec<At<Backpatch>>,
+}
+
+impl Model for NamedBackpatches {
+    ghost use Rattle.omf_lowering.specs.Layouts.{NamedBackpatches as NamedItems};
+
+    ghost Value = { NamedItems };
+
+    ghost view = { λ b. record { name = b.name; part = b.part; items = b.items.items } };
 }
 
 /// The part of the location type at a position, and the position after it.
@@ -72,6 +92,23 @@ fn backpatches_in(alloc: Global, wide: bool, body: &[u8]) -> Result<Backpatches,
         part,
         items,
     })
+}
+
+/// The contents of an NBKPAT.
+pub(crate) fn named_in(alloc: Global, wide: bool, body: &[u8]) -> Result<NamedBackpatches, Stop>
+    requires { length body.now ≤ 65534 }
+    ensures { GivesAll (λ b. b) result ((nbkpat_whole wide).read 3 body.now) }
+{
+    let (part, pos) = match type_at(body, wide, 0) {
+        Ok(found) => found,
+        Err(fault) => return Err(Stop::At(fault)),
+    };
+    let (name, pos) = match placed_index_at(body, pos) {
+        Ok(found) => found,
+        Err(fault) => return Err(Stop::At(fault)),
+    };
+    let items = entries(alloc, body, wide, pos)?;
+    Ok(NamedBackpatches { name, part, items })
 }
 
 /// The number of bytes of a location.
@@ -193,4 +230,39 @@ pub(crate) fn lower_patches(
 {
     let given = backpatches_in(alloc, kind % 2 == 1, body)?;
     push_patches(patches, pieces, &given)
+}
+
+/// The backpatches of an NBKPAT, as of a BAKPAT for the segment of its COMDAT.
+fn backpatches_by(
+    tables: &Tables<'_>,
+    instances: &[Instance<'_>],
+    given: NamedBackpatches,
+) -> Result<Backpatches, LayoutFault>
+    ensures ok { IfOk result (λ b. backpatches_by tables.now instances.now given ≡ Ok (record { segment = b.segment; part = b.part; items = b.items.items })) }
+    ensures err { IfErr result (λ f. backpatches_by tables.now instances.now given ≡ Err f) }
+{
+    let item = segment_at(tables, instances, &given.name)?;
+    Ok(Backpatches {
+        segment: At { within: 0, item },
+        part: given.part,
+        items: given.items,
+    })
+}
+
+/// Appends the values of an NBKPAT, by the COMDATs and the data before it.
+pub(crate) fn lower_named(
+    patches: &mut Vec<Patch>,
+    pieces: &[Piece],
+    tables: &Tables<'_>,
+    instances: &[Instance<'_>],
+    given: NamedBackpatches,
+) -> Result<(), Stop>
+    ensures ok { OnOk result (patches.new.items ≡ patches.old.items ++ or_none (named_patches tables.now instances.now pieces.now given)) }
+    ensures sound { OnOk result (fault_of (named_patches tables.now instances.now pieces.now given) ≡ None) }
+    ensures err { IfErr result (λ stop. IsStop stop (fault_of (named_patches tables.now instances.now pieces.now given))) }
+{
+    match backpatches_by(tables, instances, given) {
+        Ok(given) => push_patches(patches, pieces, &given),
+        Err(fault) => Err(Stop::At(fault)),
+    }
 }

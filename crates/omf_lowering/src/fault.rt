@@ -16,7 +16,7 @@ pub enum LoweringFault {
     #[error("memory ran out")]
     Memory,
     /// The first record at fault has this fault at this place: of framing (NoEnd, Cut, UnknownType, EmptyRecord, Checksum), of layout (8 to 18),
-    /// UndefinedName in a CEXTDEF; in a BAKPAT NoDataRecord, FixupOnIterated or OutsideRecord; in a COMDAT UnsupportedType, UndefinedName,
+    /// UndefinedName in a CEXTDEF; in a BAKPAT or an NBKPAT NoDataRecord, FixupOnIterated or OutsideRecord; in a COMDAT or an NBKPAT UnsupportedType, UndefinedName,
     /// UndefinedSegment, UndefinedGroup, OutsideSegment or TooMany; UnsupportedType of a SEGDEF after a COMDAT.
     #[error("a record cannot be lowered")]
     Refused {

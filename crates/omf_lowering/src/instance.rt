@@ -1,13 +1,14 @@
 //! What a COMDAT refers to: the pattern of its segment, its name, and the instance that it is of.
 
-ghost use Rattle.std.specs.Prelude.{◌≡◌, ◌+◌, ◌<◌, ◌≤◌, length, false};
+ghost use Rattle.std.specs.Prelude.{◌≡◌, ◌+◌, ◌<◌, ◌≤◌, length, false, IfOk, IfErr, Ok, Err};
 ghost use Rattle.omf_check.specs.Tables.{entry};
 ghost use Rattle.omf_frame.specs.Types.{width_bytes};
 ghost use Rattle.omf_image.specs.Inner.Expanding.{expanded_length};
 ghost use Rattle.omf_image.specs.Limits.{profile_limits};
+ghost use Rattle.omf_records.specs.Inner.Reads.{and_then};
 ghost use Rattle.omf_records.specs.Layout.{fault};
 ghost use Rattle.omf_records.specs.Values.{width};
-ghost use Rattle.omf_lowering.specs.Comdats.{allocated, class_of, data_size, end_by, explicit, index_of, instance_of, is_full, is_joined, joined, new_instance, own_of, pattern_of, resolved, text_by};
+ghost use Rattle.omf_lowering.specs.Comdats.{allocated, class_of, data_size, end_by, explicit, index_of, instance_at, instance_of, is_full, is_joined, joined, new_instance, own_of, pattern_of, resolved, text_by};
 ghost use Rattle.omf_lowering.specs.Patches.{size_or_none};
 
 use crate::comdat::{Base, Comdat, is_continued, is_iterated};
@@ -244,6 +245,22 @@ fn instance_of<'a>(instances: &[Instance<'a>], text: &Name<'a>) -> Option<Instan
         }
     }
     None
+}
+
+/// The segment of the COMDAT with a name, for its NBKPATs.
+pub(crate) fn segment_at(
+    tables: &Tables<'_>,
+    instances: &[Instance<'_>],
+    at: &At<Index>,
+) -> Result<Index, LayoutFault>
+    ensures ok { IfOk result (λ segment. and_then (text_by at.now (entry tables.now.names at.now.item)) (λ text. and_then (instance_at at.now (instance_of instances.now text)) (λ i. Ok i.segment)) ≡ Ok segment) }
+    ensures err { IfErr result (λ f. and_then (text_by at.now (entry tables.now.names at.now.item)) (λ text. and_then (instance_at at.now (instance_of instances.now text)) (λ i. Ok i.segment)) ≡ Err f) }
+{
+    let text = text_at(&tables.names, at)?;
+    match instance_of(instances, &text) {
+        Some(found) => Ok(found.segment),
+        None => Err(refused(at.within, Reason::UnsupportedType)),
+    }
 }
 
 /// A new COMDAT, whose SEGDEF will have this number.

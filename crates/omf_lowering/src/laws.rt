@@ -2,7 +2,7 @@
 
 ghost use Rattle.omf_lowering.specs.Laws.{AcceptedStay, AnswersAreUnique, DataAreAdded, ReadingsMeetLayouts, ValuesFit};
 
-/// Reading the contents of a CEXTDEF, a BAKPAT or a COMDAT gives the one value that they encode, or else the least of their faults.
+/// Reading the contents of a CEXTDEF, a BAKPAT, a COMDAT or an NBKPAT gives the one value that they encode, or else the least of their faults.
 pub fn readings_meet_layouts()
     ensures { ReadingsMeetLayouts }
 {}
@@ -17,7 +17,7 @@ pub fn accepted_stay()
     ensures { AcceptedStay }
 {}
 
-/// No value of a BAKPAT is lost: each is for an LEDATA, with all bytes of its location in the data.
+/// No value of a BAKPAT or an NBKPAT is lost: each is for an LEDATA, with all bytes of its location in the data.
 pub fn values_fit()
     ensures { ValuesFit }
 {}

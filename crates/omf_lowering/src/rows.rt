@@ -146,3 +146,27 @@ pub fn comdat_references()
     ensures unbegun { Refuses base (hex (codes "C2 0D 00 01 10 02 00 00 00 00 01 03 B8 00 00 62")) 11 reason.UnsupportedType }
     ensures late { Refuses (base ++ f) (hex (codes "98 07 00 28 04 00 02 01 01 31")) 0 reason.UnsupportedType }
 {}
+
+/// The values of an NBKPAT are added to the data of the COMDAT with its name, and of those that continue it.
+pub fn named_values()
+    ensures word { lowers (base ++ f ++ hex (codes "C8 07 00 01 03 01 00 34 12 E6") ++ M)
+        ≡ base ++ f_segment ++ f_public ++ hex (codes "A0 07 00 02 00 00 B8 34 12 59") ++ M }
+    ensures wide { lowers (base ++ f ++ hex (codes "C9 0B 00 00 03 00 00 00 00 48 00 00 00 E1") ++ M)
+        ≡ base ++ f_segment ++ f_public ++ hex (codes "A0 07 00 02 00 00 00 00 00 57") ++ M }
+    ensures continued { lowers (base ++ f ++ hex (codes "C2 0C 00 01 10 02 03 00 00 00 01 03 90 90 F8") ++ hex (codes "C8 0B 00 00 03 04 00 01 00 03 00 02 00 20") ++ M)
+        ≡ base ++ hex (codes "99 09 00 48 05 00 00 00 02 01 01 0D") ++ f_public ++ f_data ++ hex (codes "A0 06 00 02 03 00 92 91 32") ++ M }
+    ensures other { lowers (base ++ f ++ g ++ hex (codes "C8 07 00 01 04 01 00 34 12 E5") ++ M)
+        ≡ base ++ f_segment ++ f_public ++ f_data ++ hex (codes "99 09 00 48 03 00 00 00 02 01 01 0F") ++ hex (codes "91 0D 00 00 03 04 43 4F 44 45 00 00 00 00 00 40") ++ hex (codes "A0 07 00 03 00 00 B8 34 12 58") ++ M }
+{}
+
+/// An NBKPAT cut short or with an undefined location type, whose name is not defined or has no COMDAT before it, or with a location outside of the data.
+pub fn named_value_faults()
+    ensures location { Refuses (base ++ f) (hex (codes "C8 07 00 02 03 01 00 01 00 2A")) 3 reason.LocationType }
+    ensures cut { Refuses (base ++ f) (hex (codes "C8 08 00 01 03 01 00 01 00 00 2A")) 9 reason.Short }
+    ensures layout_first { Refuses (base ++ f) (hex (codes "C8 04 00 01 05 00 2E")) 5 reason.Short }
+    ensures name { Refuses (base ++ f) (hex (codes "C8 07 00 01 05 01 00 01 00 29")) 4 reason.UndefinedName }
+    ensures no_comdat { Refuses (base ++ f) (hex (codes "C8 07 00 01 04 01 00 01 00 2A")) 4 reason.UnsupportedType }
+    ensures later { Refuses base (hex (codes "C8 07 00 01 03 01 00 01 00 2B")) 4 reason.UnsupportedType }
+    ensures past { Refuses (base ++ f) (hex (codes "C8 07 00 01 03 02 00 01 00 2A")) 5 reason.OutsideRecord }
+    ensures none { Refuses (base ++ f) (hex (codes "C8 0B 00 01 03 00 00 01 00 03 00 01 00 24")) 9 reason.NoDataRecord }
+{}

@@ -9,10 +9,10 @@ ghost use Rattle.omf_lowering.specs.Comdats.{defined_by, growth, made, new_of, r
 ghost use Rattle.omf_lowering.specs.Externals.{extdef, externals_by};
 ghost use Rattle.omf_lowering.specs.Inner.Readers.{comdat_whole};
 ghost use Rattle.omf_lowering.specs.Inner.State.{AreAppended, State, IsStop, added, seen, state_of};
-ghost use Rattle.omf_lowering.specs.Lowering.{fault_by, fault_of, is_bakpat, is_cextdef, is_comdat, is_late};
+ghost use Rattle.omf_lowering.specs.Lowering.{fault_by, fault_of, is_bakpat, is_cextdef, is_comdat, is_late, is_nbkpat};
 ghost use Rattle.omf_lowering.specs.Patches.{patched, piece_in, pieces_from, with_patch};
 
-use crate::bakpat::lower_patches;
+use crate::bakpat::{lower_named, lower_patches, named_in};
 use crate::cextdef::lower_externals;
 use crate::comdat::{comdat_in, is_continued};
 use crate::fault::Stop;
@@ -214,6 +214,7 @@ impl<'a> Work<'a> {
     fn keep(&mut self, alloc: Global, front: &Front<'a>) -> Result<(), Stop>
         requires cextdef { is_cextdef front.now.kind ≡ false }
         requires bakpat { is_bakpat front.now.kind ≡ false }
+        requires nbkpat { is_nbkpat front.now.kind ≡ false }
         requires comdat { is_comdat front.now.kind ≡ false }
         requires short { length front.now.body.now ≤ 65534 }
         ensures ok { OnOk result (self.new ≡ added self.old (seen front.now)) }
@@ -252,6 +253,24 @@ impl<'a> Work<'a> {
         Ok(push_instance(&mut self.instances, of)?)
     }
 
+    /// Takes an NBKPAT.
+    fn take_named(&mut self, alloc: Global, front: &Front<'a>) -> Result<(), Stop>
+        requires nbkpat { is_nbkpat front.now.kind ≡ true }
+        requires short { length front.now.body.now ≤ 65534 }
+        ensures ok { OnOk result (self.new ≡ added self.old (seen front.now)) }
+        ensures sound { OnOk result (fault_by self.old.before self.old.data_before (seen front.now) ≡ None) }
+        ensures err { IfErr result (λ stop. IsStop stop (fault_by self.old.before self.old.data_before (seen front.now))) }
+    {
+        let given = named_in(alloc, front.kind % 2 == 1, front.body)?;
+        lower_named(
+            &mut self.patches,
+            &self.pieces,
+            &self.tables,
+            &self.instances,
+            given,
+        )
+    }
+
     /// Takes the next record.
     pub(crate) fn take(&mut self, alloc: Global, front: &Front<'a>) -> Result<(), Stop>
         requires { length front.now.body.now ≤ 65534 }
@@ -268,6 +287,7 @@ impl<'a> Work<'a> {
                 front.kind,
                 front.body,
             ),
+            0xC8 | 0xC9 => self.take_named(alloc, front),
             0xC2 | 0xC3 => self.take_comdat(alloc, front),
             _ => self.keep(alloc, front),
         }

@@ -9,7 +9,7 @@ use Rattle.omf_records.specs.Inner.FieldReaders.{index_reader, index_shrinks, by
 use Rattle.omf_records.specs.Inner.Readers.{◌>=>◌, ◌>=>|◌, then_shrinks, called_reader, checked_reader, placed_shrinks, index_at, number_at, give_reader, when_reader, called_whole, rest_whole}
 use Rattle.omf_records.specs.Inner.Many.{each_whole}
 use Rattle.omf_records.specs.Inner.EntryReaders.{one_reason}
-use Rattle.omf_lowering.specs.Layouts.{named_external, cextdef, wrong_type, part_of, backpatch, bakpat, wrong_attributes, wrong_align, base, comdat}
+use Rattle.omf_lowering.specs.Layouts.{named_external, cextdef, wrong_type, part_of, backpatch, bakpat, nbkpat, wrong_attributes, wrong_align, base, comdat}
 use Rattle.omf_lowering.specs.Values.{allocation, selection}
 
 abbrev pub external_reader : Reader named_external
@@ -33,6 +33,9 @@ backpatch_shrinks wide = then_shrinks _ _ (number_reader wide) (λ o. number_rea
 
 abbrev pub bakpat_whole : (wide : Bool) → Whole (bakpat wide)
 bakpat_whole wide = index_at >=>| λ s. type_reader wide >=>| λ t. called_whole (many (backpatch wide)) _ (each_whole (backpatch wide) (backpatch_reader wide) (backpatch_shrinks wide))
+
+abbrev pub nbkpat_whole : (wide : Bool) → Whole (nbkpat wide)
+nbkpat_whole wide = type_reader wide >=>| λ t. index_at >=>| λ n. called_whole (many (backpatch wide)) _ (each_whole (backpatch wide) (backpatch_reader wide) (backpatch_shrinks wide))
 
 abbrev pub attributes_reader : Reader (checked byte wrong_attributes)
 attributes_reader = checked_reader byte wrong_attributes byte_reader (λ a. one_reason (nat_lt (selection a) 4 && nat_lt (allocation a) 5) reason.UnsupportedType)

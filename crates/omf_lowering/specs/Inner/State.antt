@@ -33,7 +33,7 @@ abbrev pub added : State → Raw → State
 added s r = record {
   before = up_to_next s.before r;
   data_before = s.data_before ++ pieces_from (length s.before.records) (replacement s.before r);
-  patches = s.patches ++ patches_in s.data_before r;
+  patches = s.patches ++ patches_in s.before s.data_before r;
   growths = s.growths ++ growths_in s.before s.data_before r;
 }
 
