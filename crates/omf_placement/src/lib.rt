@@ -18,7 +18,7 @@ pub use frame::{Frame, Placed};
 pub use group::{lower, lowest_member, real_group};
 pub use placement::Placement;
 pub use several::{
-    Base, Definer, DeriveFault, Given, Linkage, Source, WeakPair, derive, derive_linked,
+    Base, Definer, DeriveFault, Given, Linkage, Source, WeakPair, base_of, derive, derive_linked,
     publics_of, weak_pairs, with_weak, with_weak_linked,
 };
 pub use text::{Draft, parse_placement};

@@ -15,6 +15,6 @@ pub use fault::DeriveFault;
 pub use given::Given;
 pub use linkage::{Linkage, derive, derive_linked, with_weak_linked};
 pub use pairs::{WeakPair, weak_pairs};
-pub use publics::publics_of;
+pub use publics::{base_of, publics_of};
 pub use sources::{Base, Definer, Source};
 pub use weak::with_weak;

@@ -48,7 +48,7 @@ pub(crate) fn paragraph(number: u16) -> Placed
 
 /// The base of a PUBDEF with these indices of its group and its segment, and, if the segment is 0, this number of its base frame. `None` if
 /// the placement has no entry for one of them.
-pub(crate) fn base_of(
+pub fn base_of(
     placement: &Placement,
     group: Index,
     segment: Index,
