@@ -16,7 +16,7 @@ import tempfile
 
 LINK = os.environ.get("OMF_LINK") or "omf-link"
 NAMES, LOCAL_NAMES, EXTERNALS, COMDAT_EXTERNALS, DATA, BACKPATCH = 0x96, 0xCA, 0x8C, 0xBC, 0xA0, 0xB2
-SEGMENT, GROUP, REPEATED, COMDAT, FIXUPS, NAMED_BACKPATCH = 0x98, 0x9A, 0xA2, 0xC2, 0x9C, 0xC8
+SEGMENT, GROUP, REPEATED, COMDAT, FIXUPS, NAMED_BACKPATCH, COMMENT = 0x98, 0x9A, 0xA2, 0xC2, 0x9C, 0xC8, 0x88
 CONTINUED, ITERATED, LOCAL = 1, 2, 4
 SIZES = {0: 1, 1: 2, 2: 4}
 MOST_FAILED = 10
@@ -144,7 +144,7 @@ class Made:
         return count
 
     def add_comment(self):
-        self.records.append(record(0x88, b"\0\0hi"))
+        self.records.append(record(COMMENT, b"\0\0hi"))
 
 
 class Fault(Exception):
@@ -239,6 +239,7 @@ class Lowered:
             self.add_comdat(text, align, pattern or self.allocated(name, attributes & 15))
             body = shortest(group) + shortest(self.comdats[text][0]) + named(text) + bytes(4) + shortest(kind)
             self.records.append(record(0xB7 if flags & LOCAL else 0x91, body))
+            self.records.append(record(COMMENT, b"\x80\xDCCOMDAT" + bytes([attributes >> 4])))
         self.comdats[text][3] = max(self.comdats[text][3], end)
         front = shortest(self.comdats[text][0]) + little(offset, width)
         own = None if flags & ITERATED else bytearray(data)

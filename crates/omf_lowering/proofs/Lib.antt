@@ -1,5 +1,10 @@
 pub mod AcceptedLaws
+pub mod ChoiceAllLaws
+pub mod ChoiceLaws
+pub mod ChoiceRestLaws
+pub mod ChoiceStayLaws
 pub mod DataLaws
+pub mod DebugLaws
 pub mod FieldSteps
 pub mod FileLaws
 pub mod FitLaws

@@ -1,5 +1,5 @@
 -- The data of an LIDATA, and the state after a CEXTDEF and after a COMDAT.
-use Rattle.std.proofs.Common.{◌≡◌, inl, inr, ℕ, ◌-◌, Bool, true, false, cond, List, [], ◌∷◌, ◌++◌, length, map, Result, Ok, Err, refl, sym, ap, subst, ◌∙◌, append-nil}
+use Rattle.std.proofs.Common.{◌≡◌, inl, inr, ℕ, ◌+◌, ◌-◌, Bool, true, false, cond, List, [], ◌∷◌, ◌++◌, length, map, Result, Ok, Err, refl, sym, ap, subst, ◌∙◌, append_assoc, append-nil, length-append}
 use Rattle.std.specs.Prelude.{OnOk, ◌||◌, ◌==◌}
 use Rattle.std.proofs.lemmas.Bool.{eqb-true, or_cases}
 use Rattle.omf_frame.specs.Framing.{Raw, is_taken}
@@ -11,15 +11,15 @@ use Rattle.omf_records.specs.Values.{At, width}
 use Rattle.omf_records.specs.declared.record.Rec.{Rec as CodeRec}
 use Rattle.omf_records.specs.declared.record.Rec.TheVariants as code
 use Rattle.omf_records.specs.declared.record.Blocks.{Blocks}
-use Rattle.omf_lowering.specs.Comdats.{data_record, defined_by, given_by, growth, made, named_patches_by, new_of, pubdef, segdef}
+use Rattle.omf_lowering.specs.Comdats.{defined_by, given_by, growth, made, named_patches_by, new_of}
 use Rattle.omf_lowering.specs.Externals.{extdef, externals_by}
 use Rattle.omf_lowering.specs.Inner.State.{AreAppended, State, added}
 use Rattle.omf_lowering.specs.Lowering.{comdat_of, growths_in, instances_in, is_bakpat, is_cextdef, is_comdat, is_nbkpat, patches_in, replacement}
 use Rattle.omf_lowering.specs.Patches.{piece_of, pieces_from, size_or_none}
-use Rattle.omf_lowering.specs.Values.{Instance, Resolved, Tables, is_continued}
+use Rattle.omf_lowering.specs.Values.{Instance, Resolved, Tables}
 use Rattle.omf_lowering.specs.declared.values.Piece.{Piece}
 use Rattle.omf_lowering.specs.declared.values.Patch.{Patch}
-use Rattle.omf_lowering.proofs.StateLaws.{extdefs_without}
+use Rattle.omf_lowering.proofs.StateLaws.{extdefs_without, pieces-append}
 
 iterated : ℕ → ℕ → ℕ → ℕ → ℕ → List Piece
 iterated number s o size at = (record { number = number; is_plain = false; segment = s; offset = o; size = size; at = at }) ∷ []
@@ -110,17 +110,13 @@ module _ (s : State) (r : Raw) (x : Resolved) (comdat : is_comdat r.kind ≡ tru
       g1 ∙ ap (λ l. s.growths ++ l) (sym (first_of (is_comdat r.kind) (given_by (growth s.data_before) (comdat_of s.before r)) [] comdat ∙ ap (given_by (growth s.data_before)) is)) in
       same_state same_tables instances records pieces patches growths
 
--- a new COMDAT's records are appended
-pub appended_new : (kind : ℕ) (x : Resolved) (a b c : Raw) (old new : List Raw) (p q : List Piece) → is_continued x.item.flags ≡ false → a ≡ segdef x → b ≡ pubdef x → c ≡ data_record kind x
-    → new ≡ old ++ a ∷ b ∷ c ∷ [] → q ≡ p ++ pieces_from (length old) (a ∷ b ∷ c ∷ []) → AreAppended (made kind x) old new p q
-appended_new kind x a b c old new p q fresh ea eb ec records pieces = record {
-  items = a ∷ b ∷ c ∷ [];
-  is = ap (λ y. y ∷ b ∷ c ∷ []) ea ∙ ap (λ y. segdef x ∷ y ∷ c ∷ []) eb ∙ ap (λ y. segdef x ∷ pubdef x ∷ y ∷ []) ec
-      ∙ sym (second_of (is_continued x.item.flags) (data_record kind x ∷ []) (segdef x ∷ pubdef x ∷ data_record kind x ∷ []) fresh);
-  records = records;
-  pieces = pieces;
-}
-
-pub on_both : {A E P R Q : Type 0} (r : Result A E) → (P → R → Q) → OnOk r P → OnOk r R → OnOk r Q
-on_both (Ok x) f h k = f h k
-on_both (Err e) f h k = h
+-- one more record of those to append, and its data
+pub one_moved : (r : Raw) (rest rs new all : List Raw) (ps qs q : List Piece) → rs ++ r ∷ rest ≡ all → new ≡ rs ++ r ∷ [] → ps ++ pieces_from (length rs) (r ∷ rest) ≡ q
+    → qs ≡ ps ++ pieces_from (length rs) (r ∷ []) → (new ++ rest ≡ all) × (qs ++ pieces_from (length new) rest ≡ q)
+one_moved r rest rs new all ps qs q is more is_too more_too =
+    let next : length new ≡ length rs + 1 = ap length more ∙ length-append rs (r ∷ []) in (
+      ap (λ l. l ++ rest) more ∙ append_assoc rs (r ∷ []) rest ∙ is,
+      ap (λ l. l ++ pieces_from (length new) rest) more_too ∙ ap (λ n. (ps ++ pieces_from (length rs) (r ∷ [])) ++ pieces_from n rest) next
+          ∙ append_assoc ps (pieces_from (length rs) (r ∷ [])) (pieces_from (length rs + 1) rest)
+          ∙ ap (λ l. ps ++ l) (sym (pieces-append (length rs) (r ∷ []) rest)) ∙ is_too,
+    )

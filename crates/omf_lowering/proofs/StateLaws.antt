@@ -55,24 +55,5 @@ state-more before r =
     ∙ ap (λ p. record { before = up_to_next (so_far before) r; data_before = pieces before ++ pieces_from (length (replaced before)) (replacement (so_far before) r); patches = p; growths = growths (before ++ r ∷ []) }) values
     ∙ ap (λ g. record { before = up_to_next (so_far before) r; data_before = pieces before ++ pieces_from (length (replaced before)) (replacement (so_far before) r); patches = patches before ++ patches_in (so_far before) (pieces before) r; growths = g }) grown
 
--- three records, appended one after another with their data
-pub three_more : (rs : List Raw) (ps : List Piece) (a b c : Raw) (r1 r2 r3 : List Raw) (p1 p2 p3 : List Piece)
-    → r1 ≡ rs ++ a ∷ [] → r2 ≡ r1 ++ b ∷ [] → r3 ≡ r2 ++ c ∷ []
-    → p1 ≡ ps ++ pieces_from (length rs) (a ∷ []) → p2 ≡ p1 ++ pieces_from (length r1) (b ∷ []) → p3 ≡ p2 ++ pieces_from (length r2) (c ∷ [])
-    → (r3 ≡ rs ++ a ∷ b ∷ c ∷ []) × (p3 ≡ ps ++ pieces_from (length rs) (a ∷ b ∷ c ∷ []))
-three_more rs ps a b c r1 r2 r3 p1 p2 p3 ra rb rc pa pb pc =
-    let two : r2 ≡ rs ++ a ∷ b ∷ [] = rb ∙ ap (λ l. l ++ b ∷ []) ra ∙ append_assoc rs (a ∷ []) (b ∷ []) in
-    let first : length r1 ≡ length rs + 1 = ap length ra ∙ length-append rs (a ∷ []) in
-    let second : length r2 ≡ length rs + 2 = ap length two ∙ length-append rs (a ∷ b ∷ []) in
-    let ab : p2 ≡ ps ++ pieces_from (length rs) (a ∷ b ∷ []) =
-    pb ∙ ap (λ n. p1 ++ pieces_from n (b ∷ [])) first ∙ ap (λ l. l ++ pieces_from (length rs + 1) (b ∷ [])) pa
-    ∙ append_assoc ps (pieces_from (length rs) (a ∷ [])) (pieces_from (length rs + 1) (b ∷ []))
-    ∙ ap (λ l. ps ++ l) (sym (pieces-append (length rs) (a ∷ []) (b ∷ []))) in (
-      rc ∙ ap (λ l. l ++ c ∷ []) two ∙ append_assoc rs (a ∷ b ∷ []) (c ∷ []),
-      pc ∙ ap (λ n. p2 ++ pieces_from n (c ∷ [])) second ∙ ap (λ l. l ++ pieces_from (length rs + 2) (c ∷ [])) ab
-          ∙ append_assoc ps (pieces_from (length rs) (a ∷ b ∷ [])) (pieces_from (length rs + 2) (c ∷ []))
-          ∙ ap (λ l. ps ++ l) (sym (pieces-append (length rs) (a ∷ b ∷ []) (c ∷ []))),
-    )
-
 pub faults-more : (before : List Raw) (r : Raw) → faults (before ++ r ∷ []) ≡ faults before ++ faults_in (lowering_fault before r)
 faults-more before r = with_before-more (λ b x. faults_in (lowering_fault b x)) [] before r

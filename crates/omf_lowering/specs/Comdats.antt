@@ -1,4 +1,4 @@
--- A COMDAT as a segment of its own, with a public name and data (TIS OMF 1.1, "COMDAT", "SEGDEF", "PUBDEF", "LEDATA"). A linker joins pieces of one public
+-- A COMDAT as a segment of its own, with a public name, a mark and data (TIS OMF 1.1, "COMDAT", "SEGDEF", "PUBDEF", "COMENT", "LEDATA"). A linker joins pieces of one public
 -- segment, so a COMDAT with an explicit base becomes such a piece of it (this profile's rule).
 use Rattle.std.specs.Prelude.{ℕ, ◌+◌, ◌*◌, ◌-◌, ◌^◌, ◌%◌, List, [], ◌∷◌, ◌++◌, length, filter, fold, min, codes, bytes_eq, Bool, not, ◌==◌, ◌&&◌, nat_lt, nat_le, Option, Some, None, Result, Ok, Err, if◌then◌else◌}
 use Rattle.omf_frame.specs.Bytes.{is_one_of, last}
@@ -22,7 +22,7 @@ use Rattle.omf_lowering.specs.Layouts.{Backpatches, NamedBackpatches}
 use Rattle.omf_lowering.specs.Inner.Readers.{nbkpat_whole}
 use Rattle.omf_lowering.specs.Patches.{placed, size_or_none}
 -- computed: readings_meet_layouts of omf_lowering.
-use Rattle.omf_lowering.specs.Values.{BaseItem, ComdatItem, Instance, Resolved, Tables, allocation, is_continued, is_iterated, is_local}
+use Rattle.omf_lowering.specs.Values.{BaseItem, ComdatItem, Instance, Resolved, Tables, allocation, is_continued, is_iterated, is_local, selection}
 use Rattle.omf_lowering.specs.declared.values.Pattern.{Pattern}
 use Rattle.omf_lowering.specs.declared.values.Piece.{Piece}
 use Rattle.omf_lowering.specs.declared.values.Patch.{Patch}
@@ -155,9 +155,14 @@ data_kind kind flags = (if is_iterated flags then 0xA2 else 0xA0) + kind % 2
 abbrev pub data_record : ℕ → Resolved → Raw
 data_record kind r = raw_of (data_kind kind r.item.flags) (data_bytes kind (record { segment = nowhere r.own.segment; offset = r.item.offset; bytes = r.item.bytes }))
 
+-- The COMENT of a COMDAT: of class DCH, one of those for user-defined comments, and not to be removed. It keeps how a linker selects among COMDATs of the name
+-- (TIS OMF 1.1, "COMENT"; this profile's rule).
+abbrev pub mark : Resolved → Raw
+mark r = raw_of 0x88 (0x80 ∷ 0xDC ∷ codes "COMDAT" ++ selection r.item.attributes ∷ [])
+
 -- The records that replace a COMDAT.
 abbrev pub made : ℕ → Resolved → List Raw
-made kind r = if is_continued r.item.flags then data_record kind r ∷ [] else segdef r ∷ pubdef r ∷ data_record kind r ∷ []
+made kind r = if is_continued r.item.flags then data_record kind r ∷ [] else segdef r ∷ pubdef r ∷ mark r ∷ data_record kind r ∷ []
 
 -- The instances that a COMDAT adds.
 abbrev pub new_of : Resolved → List Instance

@@ -2,3 +2,4 @@ pub mod FileState
 pub mod Readers
 pub mod Run
 pub mod State
+pub mod Choosing

@@ -1,4 +1,4 @@
--- The layouts of the records that a lowering replaces (TIS OMF 1.1, the page of each record). `wide` is true in a record of odd type.
+-- The layouts of the records that a lowering replaces, and of LINNUM (TIS OMF 1.1, the page of each record). `wide` is true in a record of odd type.
 use Rattle.std.specs.Prelude.{ℕ, nat_lt, ◌==◌, ◌&&◌, Bool, false, if◌then◌else◌, List}
 use Rattle.omf_frame.specs.declared.fault.Reason.{Reason}
 use Rattle.omf_frame.specs.declared.fault.Reason.TheVariants as reason
@@ -8,6 +8,7 @@ use Rattle.omf_records.specs.Values.{At}
 use Rattle.omf_records.specs.Layout.{Layout, ◌>>=◌, give, rest, many, index, byte, number_of, checked, with_place, called, when}
 use Rattle.omf_records.specs.Entries.{unless}
 use Rattle.omf_lowering.specs.Values.{BaseItem, ComdatItem, allocation, selection}
+use Rattle.omf_lowering.specs.declared.linnum.LineNumber.{LineNumber}
 use Rattle.omf_lowering.specs.declared.values.NamedExternal.{NamedExternal}
 use Rattle.omf_lowering.specs.declared.values.Backpatch.{Backpatch}
 
@@ -87,3 +88,22 @@ comdat wide = do
   base ← when (allocation attributes == 0) base
   name ← with_place index
   called rest (λ bytes. record { flags = flags; attributes = attributes; align = align; offset = offset; type_index = type_index; base = base; name = name; bytes = bytes })
+
+-- LINNUM: the number of a line of the source, and an offset.
+abbrev pub line_number : Bool → Layout LineNumber
+line_number wide = do
+  number ← number_of false
+  offset ← number_of wide
+  give (record { number = number; offset = offset })
+
+-- LINNUM: the indices of a group and of a segment, and the lines with their offsets in that segment.
+pub record LineNumbers : Type 0 where
+  pub group : ℕ
+  pub segment : ℕ
+  pub items : List (At LineNumber)
+
+abbrev pub linnum : Bool → Layout LineNumbers
+linnum wide = do
+  group ← index
+  segment ← index
+  called (many (line_number wide)) (λ items. record { group = group; segment = segment; items = items })

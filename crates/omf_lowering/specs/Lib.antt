@@ -4,6 +4,11 @@ pub mod Wide
 pub mod Externals
 pub mod Patches
 pub mod Comdats
+pub mod Lines
+pub mod Choice
+pub mod ChoiceLaws
+pub mod ChoiceRows
+pub mod Debugging
 pub mod Lowering
 pub mod Files
 pub mod Laws

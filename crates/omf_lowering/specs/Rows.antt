@@ -32,7 +32,7 @@ two_bytes = hex (codes "A2 0A 00 01 00 00 02 00 00 00 01 AA A6")
 abbrev pub base : List ℕ
 base = H ++ hex (codes "96 0B 00 00 01 54 01 66 04 43 4F 44 45 84") ++ S
 
--- a COMDAT f with the data B8 00 00 and the base T, at words
+-- a COMDAT f with the data B8 00 00 and the base T, at words; any of its name may be selected
 abbrev pub f : List ℕ
 f = hex (codes "C2 0D 00 00 10 02 00 00 00 00 01 03 B8 00 00 63")
 
@@ -44,6 +44,10 @@ f_segment = hex (codes "99 09 00 48 03 00 00 00 02 01 01 0F")
 abbrev pub f_public : List ℕ
 f_public = hex (codes "91 0A 00 00 02 01 66 00 00 00 00 00 FC")
 
+-- the mark of f, of which any may be selected
+abbrev pub f_mark : List ℕ
+f_mark = hex (codes "88 0A 00 80 DC 43 4F 4D 44 41 54 01 59")
+
 -- the LEDATA of f
 abbrev pub f_data : List ℕ
 f_data = hex (codes "A0 07 00 02 00 00 B8 00 00 9F")
@@ -54,4 +58,4 @@ g = hex (codes "C2 0D 00 00 10 02 00 00 00 00 01 04 B8 00 00 62")
 
 -- what replaces it after f
 abbrev pub g_made : List ℕ
-g_made = hex (codes "99 09 00 48 03 00 00 00 02 01 01 0F") ++ hex (codes "91 0D 00 00 03 04 43 4F 44 45 00 00 00 00 00 40") ++ hex (codes "A0 07 00 03 00 00 B8 00 00 9E")
+g_made = hex (codes "99 09 00 48 03 00 00 00 02 01 01 0F") ++ hex (codes "91 0D 00 00 03 04 43 4F 44 45 00 00 00 00 00 40") ++ f_mark ++ hex (codes "A0 07 00 03 00 00 B8 00 00 9E")

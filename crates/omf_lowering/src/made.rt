@@ -1,11 +1,11 @@
-//! The records that replace a COMDAT (TIS OMF 1.1, "SEGDEF", "PUBDEF", "LEDATA").
+//! The records that replace a COMDAT (TIS OMF 1.1, "SEGDEF", "PUBDEF", "COMENT", "LEDATA").
 
 ghost use Rattle.std.specs.Prelude.{◌≡◌, ◌<◌, ◌++◌, IfOk, OnOk};
 ghost use Rattle.byteorder.specs.Endian.{little_bytes};
 ghost use Rattle.omf_records.specs.Values.{width};
-ghost use Rattle.omf_lowering.specs.Comdats.{attribute_of, data_kind, data_record, group_of, pubdef, segdef};
+ghost use Rattle.omf_lowering.specs.Comdats.{attribute_of, data_kind, data_record, group_of, made, mark, pubdef, segdef};
 
-use crate::comdat::{Base, is_iterated, is_local};
+use crate::comdat::{Base, is_continued, is_iterated, is_local};
 use crate::instance::Resolved;
 use crate::record::Record;
 use omf_frame::{Field, Index, Le16, Le32};
@@ -25,7 +25,7 @@ fn attribute_of(align: u8, attribute: u8) -> u8
 }
 
 /// The SEGDEF of a COMDAT.
-pub(crate) fn segdef(alloc: Global, of: &Resolved<'_>) -> Result<Record, AllocError>
+fn segdef(alloc: Global, of: &Resolved<'_>) -> Result<Record, AllocError>
     ensures { IfOk result (λ r. r ≡ segdef of.now) }
 {
     let mut body = Vec::new(alloc);
@@ -48,7 +48,7 @@ fn group_of(base: &Option<Base>) -> Index
 }
 
 /// The PUBDEF of a COMDAT, or the LPUBDEF of a local one.
-pub(crate) fn pubdef(alloc: Global, of: &Resolved<'_>) -> Result<Record, AllocError>
+fn pubdef(alloc: Global, of: &Resolved<'_>) -> Result<Record, AllocError>
     ensures { IfOk result (λ r. r ≡ pubdef of.now) }
 {
     let mut body = Vec::new(alloc);
@@ -59,6 +59,19 @@ pub(crate) fn pubdef(alloc: Global, of: &Resolved<'_>) -> Result<Record, AllocEr
     of.item.type_index.put(&mut body)?;
     let kind = if is_local(of.item.flags) { 0xB7 } else { 0x91 };
     Ok(Record::made(kind, body))
+}
+
+/// What the mark of a COMDAT begins with: its type byte and class, and a text.
+const MARK: &[u8] = b"\x80\xDCCOMDAT";
+
+/// The COMENT that keeps how a linker selects among COMDATs of the name.
+fn mark(alloc: Global, of: &Resolved<'_>) -> Result<Record, AllocError>
+    ensures { IfOk result (λ r. r ≡ mark of.now) }
+{
+    let mut body = Vec::new(alloc);
+    body.extend_from_slice(MARK)?;
+    body.push(of.item.attributes / 16)?;
+    Ok(Record::made(0x88, body))
 }
 
 /// Appends a number: 32 bits in a record of odd type, the low 16 in one of even type.
@@ -80,7 +93,7 @@ fn data_kind(kind: u8, flags: u8) -> u8
 }
 
 /// The LEDATA of a COMDAT of a record with this type byte, or the LIDATA of one with blocks.
-pub(crate) fn data_record(alloc: Global, kind: u8, of: &Resolved<'_>) -> Result<Record, AllocError>
+fn data_record(alloc: Global, kind: u8, of: &Resolved<'_>) -> Result<Record, AllocError>
     ensures { IfOk result (λ r. r ≡ data_record kind of.now) }
 {
     let mut body = Vec::new(alloc);
@@ -88,4 +101,18 @@ pub(crate) fn data_record(alloc: Global, kind: u8, of: &Resolved<'_>) -> Result<
     put_number(&mut body, kind, of.item.offset.item)?;
     body.extend_from_slice(of.item.bytes)?;
     Ok(Record::made(data_kind(kind, of.item.flags), body))
+}
+
+/// The records that replace a COMDAT of a record with this type byte.
+pub(crate) fn made(alloc: Global, kind: u8, of: &Resolved<'_>) -> Result<Vec<Record>, AllocError>
+    ensures { IfOk result (λ v. v.items ≡ made kind of.now) }
+{
+    let mut records = Vec::new(alloc);
+    if !is_continued(of.item.flags) {
+        records.push(segdef(alloc, of)?)?;
+        records.push(pubdef(alloc, of)?)?;
+        records.push(mark(alloc, of)?)?;
+    }
+    records.push(data_record(alloc, kind, of)?)?;
+    Ok(records)
 }

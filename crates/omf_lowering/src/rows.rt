@@ -6,7 +6,7 @@ ghost use Rattle.omf_check.specs.Rows.{H, N, S, F, M};
 ghost use Rattle.omf_frame.specs.Rows.{hex};
 ghost use Rattle.omf_frame.specs.declared.fault.Reason.TheVariants as reason;
 ghost use Rattle.omf_lowering.specs.Lowering.{fault_at};
-ghost use Rattle.omf_lowering.specs.Rows.{Refuses, base, f, f_data, f_public, f_segment, front, g, g_made, lowers, two_bytes, word};
+ghost use Rattle.omf_lowering.specs.Rows.{Refuses, base, f, f_data, f_mark, f_public, f_segment, front, g, g_made, lowers, two_bytes, word};
 
 /// An external of a CEXTDEF has the name that its index has in the table of names.
 pub fn externals()
@@ -72,54 +72,54 @@ pub fn framing()
 
 /// A COMDAT with an explicit base: a piece of the base segment with its own alignment, and a public name at its start.
 pub fn comdats()
-    ensures explicit { lowers (base ++ f ++ M) ≡ base ++ f_segment ++ f_public ++ f_data ++ M }
+    ensures explicit { lowers (base ++ f ++ M) ≡ base ++ f_segment ++ f_public ++ f_mark ++ f_data ++ M }
     ensures as_the_base { lowers (base ++ hex (codes "C2 0D 00 00 10 00 00 00 05 00 01 03 B8 00 00 60") ++ M)
-        ≡ base ++ hex (codes "99 09 00 28 03 00 00 00 02 01 01 2F") ++ hex (codes "91 0A 00 00 02 01 66 00 00 00 00 05 F7") ++ f_data ++ M }
+        ≡ base ++ hex (codes "99 09 00 28 03 00 00 00 02 01 01 2F") ++ hex (codes "91 0A 00 00 02 01 66 00 00 00 00 05 F7") ++ f_mark ++ f_data ++ M }
     ensures offset { lowers (base ++ hex (codes "C2 0D 00 00 10 02 04 00 00 00 01 03 B8 00 00 5F") ++ M)
-        ≡ base ++ hex (codes "99 09 00 48 07 00 00 00 02 01 01 0B") ++ f_public ++ hex (codes "A0 07 00 02 04 00 B8 00 00 9B") ++ M }
+        ≡ base ++ hex (codes "99 09 00 48 07 00 00 00 02 01 01 0B") ++ f_public ++ f_mark ++ hex (codes "A0 07 00 02 04 00 B8 00 00 9B") ++ M }
     ensures grouped { lowers (base ++ hex (codes "9A 04 00 02 FF 01 60") ++ hex (codes "C2 0D 00 00 10 02 00 00 00 01 01 03 B8 00 00 62") ++ M)
-        ≡ base ++ hex (codes "9A 04 00 02 FF 01 60") ++ f_segment ++ hex (codes "91 0A 00 01 02 01 66 00 00 00 00 00 FB") ++ f_data ++ M }
+        ≡ base ++ hex (codes "9A 04 00 02 FF 01 60") ++ f_segment ++ hex (codes "91 0A 00 01 02 01 66 00 00 00 00 00 FB") ++ f_mark ++ f_data ++ M }
     ensures wide { lowers (base ++ hex (codes "C3 0F 00 00 10 05 00 00 00 00 00 00 01 03 B8 00 00 5D") ++ M)
-        ≡ base ++ hex (codes "99 09 00 A8 03 00 00 00 02 01 01 AF") ++ f_public ++ hex (codes "A1 09 00 02 00 00 00 00 B8 00 00 9C") ++ M }
+        ≡ base ++ hex (codes "99 09 00 A8 03 00 00 00 02 01 01 AF") ++ f_public ++ f_mark ++ hex (codes "A1 09 00 02 00 00 00 00 B8 00 00 9C") ++ M }
     ensures local { lowers (base ++ hex (codes "C2 0D 00 04 10 02 00 00 00 00 01 03 B8 00 00 5F") ++ M)
-        ≡ base ++ f_segment ++ hex (codes "B7 0A 00 00 02 01 66 00 00 00 00 00 D6") ++ f_data ++ M }
-    ensures second { lowers (base ++ f ++ g ++ M) ≡ base ++ f_segment ++ f_public ++ f_data ++ g_made ++ M }
+        ≡ base ++ f_segment ++ hex (codes "B7 0A 00 00 02 01 66 00 00 00 00 00 D6") ++ f_mark ++ f_data ++ M }
+    ensures second { lowers (base ++ f ++ g ++ M) ≡ base ++ f_segment ++ f_public ++ f_mark ++ f_data ++ g_made ++ M }
 {}
 
 /// A COMDAT that the linker allocates: a segment of its name, of the class CODE if a name has that text.
 pub fn allocated_comdats()
     ensures far_code { lowers (base ++ hex (codes "C2 0B 00 00 11 00 00 00 00 03 B8 00 00 67") ++ M)
-        ≡ base ++ hex (codes "99 09 00 68 03 00 00 00 03 04 01 EB") ++ f_public ++ f_data ++ M }
+        ≡ base ++ hex (codes "99 09 00 68 03 00 00 00 03 04 01 EB") ++ f_public ++ f_mark ++ f_data ++ M }
     ensures far_data { lowers (base ++ hex (codes "C2 0B 00 00 02 02 00 00 00 03 B8 00 00 74") ++ M)
-        ≡ base ++ hex (codes "99 09 00 48 03 00 00 00 03 03 01 0C") ++ f_public ++ f_data ++ M }
+        ≡ base ++ hex (codes "99 09 00 48 03 00 00 00 03 03 01 0C") ++ f_public ++ hex (codes "88 0A 00 80 DC 43 4F 4D 44 41 54 00 5A") ++ f_data ++ M }
     ensures code32 { lowers (base ++ hex (codes "C2 0B 00 00 33 05 00 00 00 03 B8 00 00 40") ++ M)
-        ≡ base ++ hex (codes "99 09 00 A9 03 00 00 00 03 04 01 AA") ++ f_public ++ f_data ++ M }
+        ≡ base ++ hex (codes "99 09 00 A9 03 00 00 00 03 04 01 AA") ++ f_public ++ hex (codes "88 0A 00 80 DC 43 4F 4D 44 41 54 03 57") ++ f_data ++ M }
     ensures data32 { lowers (base ++ hex (codes "C2 0B 00 00 24 00 00 00 00 03 B8 00 00 54") ++ M)
-        ≡ base ++ hex (codes "99 09 00 69 03 00 00 00 03 03 01 EB") ++ f_public ++ f_data ++ M }
+        ≡ base ++ hex (codes "99 09 00 69 03 00 00 00 03 03 01 EB") ++ f_public ++ hex (codes "88 0A 00 80 DC 43 4F 4D 44 41 54 02 58") ++ f_data ++ M }
 {}
 
 /// A COMDAT with blocks: its length is that of the expanded data.
 pub fn repeated_comdats()
     ensures blocks { lowers (base ++ hex (codes "C2 10 00 02 10 02 00 00 00 00 01 03 03 00 00 00 01 90 82") ++ M)
-        ≡ base ++ f_segment ++ f_public ++ hex (codes "A2 0A 00 02 00 00 03 00 00 00 01 90 BE") ++ M }
+        ≡ base ++ f_segment ++ f_public ++ f_mark ++ hex (codes "A2 0A 00 02 00 00 03 00 00 00 01 90 BE") ++ M }
     ensures wide_blocks { lowers (base ++ hex (codes "C3 14 00 02 10 02 02 00 00 00 00 00 01 03 03 00 00 00 00 00 01 90 7B") ++ M)
-        ≡ base ++ hex (codes "99 09 00 48 05 00 00 00 02 01 01 0D") ++ f_public ++ hex (codes "A3 0E 00 02 02 00 00 00 03 00 00 00 00 00 01 90 B7") ++ M }
+        ≡ base ++ hex (codes "99 09 00 48 05 00 00 00 02 01 01 0D") ++ f_public ++ f_mark ++ hex (codes "A3 0E 00 02 02 00 00 00 03 00 00 00 00 00 01 90 B7") ++ M }
 {}
 
 /// The data of a continued COMDAT follow in the segment of its name, whose length is the largest end.
 pub fn continued_comdats()
     ensures longer { lowers (base ++ f ++ hex (codes "C2 0C 00 01 10 02 03 00 00 00 01 03 90 90 F8") ++ M)
-        ≡ base ++ hex (codes "99 09 00 48 05 00 00 00 02 01 01 0D") ++ f_public ++ f_data ++ hex (codes "A0 06 00 02 03 00 90 90 35") ++ M }
+        ≡ base ++ hex (codes "99 09 00 48 05 00 00 00 02 01 01 0D") ++ f_public ++ f_mark ++ f_data ++ hex (codes "A0 06 00 02 03 00 90 90 35") ++ M }
     ensures inside { lowers (base ++ f ++ hex (codes "C2 0B 00 01 10 02 01 00 00 00 01 03 90 8B") ++ M)
-        ≡ base ++ f_segment ++ f_public ++ f_data ++ hex (codes "A0 05 00 02 01 00 90 C8") ++ M }
+        ≡ base ++ f_segment ++ f_public ++ f_mark ++ f_data ++ hex (codes "A0 05 00 02 01 00 90 C8") ++ M }
     ensures far_apart { lowers (base ++ f ++ g ++ hex (codes "C2 0B 00 01 10 02 03 00 00 00 01 03 90 89") ++ hex (codes "C2 0B 00 01 10 02 09 00 00 00 01 03 91 82") ++ M)
-        ≡ base ++ hex (codes "99 09 00 48 0A 00 00 00 02 01 01 08") ++ f_public ++ f_data ++ g_made ++ hex (codes "A0 05 00 02 03 00 90 C6") ++ hex (codes "A0 05 00 02 09 00 91 BF") ++ M }
+        ≡ base ++ hex (codes "99 09 00 48 0A 00 00 00 02 01 01 08") ++ f_public ++ f_mark ++ f_data ++ g_made ++ hex (codes "A0 05 00 02 03 00 90 C6") ++ hex (codes "A0 05 00 02 09 00 91 BF") ++ M }
 {}
 
 /// A fixup of the data follows as it was.
 pub fn comdat_fixups()
     ensures fixed { lowers (base ++ f ++ hex (codes "9C 06 00 C4 01 04 01 01 93") ++ M)
-        ≡ base ++ f_segment ++ f_public ++ f_data ++ hex (codes "9C 06 00 C4 01 04 01 01 93") ++ M }
+        ≡ base ++ f_segment ++ f_public ++ f_mark ++ f_data ++ hex (codes "9C 06 00 C4 01 04 01 01 93") ++ M }
 {}
 
 /// A COMDAT cut short, with an undefined selection, allocation or alignment. A fault of layout comes first.
@@ -150,13 +150,13 @@ pub fn comdat_references()
 /// The values of an NBKPAT are added to the data of the COMDAT with its name, and of those that continue it.
 pub fn named_values()
     ensures word { lowers (base ++ f ++ hex (codes "C8 07 00 01 03 01 00 34 12 E6") ++ M)
-        ≡ base ++ f_segment ++ f_public ++ hex (codes "A0 07 00 02 00 00 B8 34 12 59") ++ M }
+        ≡ base ++ f_segment ++ f_public ++ f_mark ++ hex (codes "A0 07 00 02 00 00 B8 34 12 59") ++ M }
     ensures wide { lowers (base ++ f ++ hex (codes "C9 0B 00 00 03 00 00 00 00 48 00 00 00 E1") ++ M)
-        ≡ base ++ f_segment ++ f_public ++ hex (codes "A0 07 00 02 00 00 00 00 00 57") ++ M }
+        ≡ base ++ f_segment ++ f_public ++ f_mark ++ hex (codes "A0 07 00 02 00 00 00 00 00 57") ++ M }
     ensures continued { lowers (base ++ f ++ hex (codes "C2 0C 00 01 10 02 03 00 00 00 01 03 90 90 F8") ++ hex (codes "C8 0B 00 00 03 04 00 01 00 03 00 02 00 20") ++ M)
-        ≡ base ++ hex (codes "99 09 00 48 05 00 00 00 02 01 01 0D") ++ f_public ++ f_data ++ hex (codes "A0 06 00 02 03 00 92 91 32") ++ M }
+        ≡ base ++ hex (codes "99 09 00 48 05 00 00 00 02 01 01 0D") ++ f_public ++ f_mark ++ f_data ++ hex (codes "A0 06 00 02 03 00 92 91 32") ++ M }
     ensures other { lowers (base ++ f ++ g ++ hex (codes "C8 07 00 01 04 01 00 34 12 E5") ++ M)
-        ≡ base ++ f_segment ++ f_public ++ f_data ++ hex (codes "99 09 00 48 03 00 00 00 02 01 01 0F") ++ hex (codes "91 0D 00 00 03 04 43 4F 44 45 00 00 00 00 00 40") ++ hex (codes "A0 07 00 03 00 00 B8 34 12 58") ++ M }
+        ≡ base ++ f_segment ++ f_public ++ f_mark ++ f_data ++ hex (codes "99 09 00 48 03 00 00 00 02 01 01 0F") ++ hex (codes "91 0D 00 00 03 04 43 4F 44 45 00 00 00 00 00 40") ++ f_mark ++ hex (codes "A0 07 00 03 00 00 B8 34 12 58") ++ M }
 {}
 
 /// An NBKPAT cut short or with an undefined location type, whose name is not defined or has no COMDAT before it, or with a location outside of the data.

@@ -5,10 +5,10 @@ ghost use Rattle.omf_frame.specs.Framing.{is_taken, raw_bytes};
 ghost use Rattle.omf_records.specs.Inner.Reading.{read_body};
 ghost use Rattle.omf_records.specs.Inner.Reads.{and_then, or_none};
 ghost use Rattle.omf_records.specs.Values.{is_wide};
-ghost use Rattle.omf_lowering.specs.Comdats.{defined_by, growth, made, new_of, resolved};
+ghost use Rattle.omf_lowering.specs.Comdats.{defined_by, growth, new_of, resolved};
 ghost use Rattle.omf_lowering.specs.Externals.{extdef, externals_by};
 ghost use Rattle.omf_lowering.specs.Inner.Readers.{comdat_whole};
-ghost use Rattle.omf_lowering.specs.Inner.State.{AreAppended, State, IsStop, added, seen, state_of};
+ghost use Rattle.omf_lowering.specs.Inner.State.{State, IsStop, added, seen, state_of};
 ghost use Rattle.omf_lowering.specs.Lowering.{fault_by, fault_of, is_bakpat, is_cextdef, is_comdat, is_late, is_nbkpat};
 ghost use Rattle.omf_lowering.specs.Patches.{patched, piece_in, pieces_from, with_patch};
 
@@ -17,7 +17,7 @@ use crate::cextdef::lower_externals;
 use crate::comdat::{comdat_in, is_continued};
 use crate::fault::Stop;
 use crate::instance::{Instance, Resolved, resolve};
-use crate::made::{data_record, pubdef, segdef};
+use crate::made::made;
 use crate::pieces::{is_taken, past, piece_of, push_piece};
 use crate::record::{Front, Record};
 use crate::tables::Tables;
@@ -90,44 +90,19 @@ fn append(
     Ok(records.push(next)?)
 }
 
-/// Appends three records and their data.
-fn append_three(
+/// Appends records and their data.
+fn append_all(
     records: &mut Vec<Record>,
     pieces: &mut Vec<Piece>,
-    first: Record,
-    second: Record,
-    third: Record,
+    added: Vec<Record>,
 ) -> Result<(), AllocError>
-    ensures records { OnOk result (records.new.items ≡ records.old.items ++ first ∷ second ∷ third ∷ []) }
-    ensures pieces { OnOk result (pieces.new.items ≡ pieces.old.items ++ pieces_from (length records.old.items) (first ∷ second ∷ third ∷ [])) }
+    ensures records { OnOk result (records.new.items ≡ records.old.items ++ added.items) }
+    ensures pieces { OnOk result (pieces.new.items ≡ pieces.old.items ++ pieces_from (length records.old.items) added.items) }
 {
-    append(records, pieces, first)?;
-    append(records, pieces, second)?;
-    append(records, pieces, third)?;
-    Ok(())
-}
-
-/// Appends the records that replace a COMDAT with this type byte, and their data.
-fn append_made(
-    alloc: Global,
-    records: &mut Vec<Record>,
-    pieces: &mut Vec<Piece>,
-    kind: u8,
-    of: &Resolved<'_>,
-) -> Result<(), AllocError>
-    ensures { OnOk result (AreAppended (made kind of.now) records.old.items records.new.items pieces.old.items pieces.new.items) }
-{
-    if is_continued(of.item.flags) {
-        append(records, pieces, data_record(alloc, kind, of)?)
-    } else {
-        append_three(
-            records,
-            pieces,
-            segdef(alloc, of)?,
-            pubdef(alloc, of)?,
-            data_record(alloc, kind, of)?,
-        )
+    for record in added {
+        append(records, pieces, record)?;
     }
+    Ok(())
 }
 
 /// Appends what a continued COMDAT adds to the length of its segment.
@@ -249,7 +224,8 @@ impl<'a> Work<'a> {
             Err(fault) => return Err(Stop::At(fault)),
         };
         push_growth(&mut self.growths, &self.pieces, &of)?;
-        append_made(alloc, &mut self.records, &mut self.pieces, front.kind, &of)?;
+        let replacing = made(alloc, front.kind, &of)?;
+        append_all(&mut self.records, &mut self.pieces, replacing)?;
         Ok(push_instance(&mut self.instances, of)?)
     }
 

@@ -9,7 +9,7 @@ use Rattle.omf_records.specs.Inner.FieldReaders.{index_reader, index_shrinks, by
 use Rattle.omf_records.specs.Inner.Readers.{◌>=>◌, ◌>=>|◌, then_shrinks, called_reader, checked_reader, placed_shrinks, index_at, number_at, give_reader, when_reader, called_whole, rest_whole}
 use Rattle.omf_records.specs.Inner.Many.{each_whole}
 use Rattle.omf_records.specs.Inner.EntryReaders.{one_reason}
-use Rattle.omf_lowering.specs.Layouts.{named_external, cextdef, wrong_type, part_of, backpatch, bakpat, nbkpat, wrong_attributes, wrong_align, base, comdat}
+use Rattle.omf_lowering.specs.Layouts.{named_external, cextdef, wrong_type, part_of, backpatch, bakpat, nbkpat, wrong_attributes, wrong_align, base, comdat, line_number, linnum}
 use Rattle.omf_lowering.specs.Values.{allocation, selection}
 
 abbrev pub external_reader : Reader named_external
@@ -62,6 +62,15 @@ comdat_whole wide =
     explicit_reader (allocation a == 0) >=>| λ b.
     index_at >=>| λ n.
     called_whole rest _ rest_whole
+
+abbrev pub line_reader : (wide : Bool) → Reader (line_number wide)
+line_reader wide = number_reader false >=> λ n. number_reader wide >=> λ o. give_reader _
+
+pub line_shrinks : (wide : Bool) → Shrinks (line_reader wide).read
+line_shrinks wide = then_shrinks _ _ (number_reader false) (λ n. number_reader wide >=> λ o. give_reader _) (number_shrinks false)
+
+abbrev pub linnum_whole : (wide : Bool) → Whole (linnum wide)
+linnum_whole wide = index_reader >=>| λ g. index_reader >=>| λ s. called_whole (many (line_number wide)) _ (each_whole (line_number wide) (line_reader wide) (line_shrinks wide))
 
 -- A value with the position in the contents after it, as a reading with the rest of the bytes. Contents begin at offset 3.
 abbrev pub read_to : {A : Type 0} → List ℕ → Result (A × ℕ) Fault → Result (After A) Fault

@@ -1,9 +1,9 @@
 //! Modules that are lowered. Their bytes are written by hand from the standard.
 
 use super::verdicts::ANY;
-use omf_check::check;
+use omf_check::{Checked, check};
 use omf_frame::{Bytes, Place, Reason};
-use omf_lowering::{FileFault, LoweringFault, lowered, lowered_file};
+use omf_lowering::{FileFault, LoweringFault, chosen, lowered, lowered_file};
 use omf_samples::{DATA, END, FIXUP, HEADER, NAMES, SEGMENT, joined};
 use std::alloc::Global;
 
@@ -38,17 +38,24 @@ const TWO_BYTES: &str = "A2 0A 00 01 00 00 02 00 00 00 01 AA A6";
 // A VENDEXT, which stays.
 const EXTENSION: &str = "CE 05 00 01 00 AA BB C7";
 
-// A COMDAT of the name 2 in segment 1, with the data AA BB, and the segment, the public name and the data that replace it.
+// A COMDAT of the name 2 in segment 1, with the data AA BB, and the segment, the public name, the mark and the data that replace it.
 const COMDAT: &str = "C2 0C 00 00 00 00 00 00 00 00 01 02 AA BB CA";
 
 const COMDAT_SEGMENT: &str = "99 09 00 28 02 00 00 00 02 01 01 30";
 
 const COMDAT_PUBLIC: &str = "91 0A 00 00 02 01 54 00 00 00 00 00 0E";
 
+const COMDAT_MARK: &str = "88 0A 00 80 DC 43 4F 4D 44 41 54 00 5A";
+
 const COMDAT_DATA: &str = "A0 06 00 02 00 00 AA BB F3";
 
+// An NBKPAT of the name 2: 102H to the word at 0. The data with this value added.
+const NAMED_WORD: &str = "C8 07 00 01 02 00 00 02 01 2B";
+
+const COMDAT_DATA_WORD: &str = "A0 06 00 02 00 00 AC BC F0";
+
 /// Records, and the records of the lowered module.
-static LOWERED: [(Rows, Rows); 9] = [
+static LOWERED: [(Rows, Rows); 10] = [
     (
         &[HEADER, NAMES, SEGMENT, DATA, FIXUP, END],
         &[HEADER, NAMES, SEGMENT, DATA, FIXUP, END],
@@ -85,7 +92,21 @@ static LOWERED: [(Rows, Rows); 9] = [
             SEGMENT,
             COMDAT_SEGMENT,
             COMDAT_PUBLIC,
+            COMDAT_MARK,
             COMDAT_DATA,
+            END,
+        ],
+    ),
+    (
+        &[HEADER, NAMES, SEGMENT, COMDAT, NAMED_WORD, END],
+        &[
+            HEADER,
+            NAMES,
+            SEGMENT,
+            COMDAT_SEGMENT,
+            COMDAT_PUBLIC,
+            COMDAT_MARK,
+            COMDAT_DATA_WORD,
             END,
         ],
     ),
@@ -359,5 +380,143 @@ fn has_fault(alloc: Global, rows: Rows, fault: FileFault) -> bool {
 fn a_fault_of_a_file_has_its_place(rt: HostRuntime) {
     for (rows, fault) in &FILE_FAULTS {
         assert!(rt; has_fault(rt.alloc(), *rows, *fault));
+    }
+}
+
+// The same COMDAT, of which any may be selected, and its mark; its segment where it is left out.
+const ANY_COMDAT: &str = "C2 0C 00 00 10 00 00 00 00 00 01 02 AA BB BA";
+
+const ANY_MARK: &str = "88 0A 00 80 DC 43 4F 4D 44 41 54 01 59";
+
+const EMPTY_SEGMENT: &str = "99 09 00 28 00 00 00 00 02 01 01 32";
+
+// A fixup of the word at 0, and a FIXUPP without a fixup.
+const WORD_FIXUP: &str = "9C 06 00 C4 00 04 01 01 94";
+
+const NO_FIXUPS: &str = "9C 01 00 63";
+
+/// Records of modules, and the records of the modules of which one COMDAT of each name is chosen.
+static CHOSEN: [(&[Rows], &[Rows]); 3] = [
+    (
+        &[&[HEADER, NAMES, SEGMENT, DATA, END]],
+        &[&[HEADER, NAMES, SEGMENT, DATA, END]],
+    ),
+    (
+        &[
+            &[HEADER, NAMES, SEGMENT, ANY_COMDAT, END],
+            &[HEADER, NAMES, SEGMENT, ANY_COMDAT, WORD_FIXUP, END],
+        ],
+        &[
+            &[
+                HEADER,
+                NAMES,
+                SEGMENT,
+                COMDAT_SEGMENT,
+                COMDAT_PUBLIC,
+                ANY_MARK,
+                COMDAT_DATA,
+                END,
+            ],
+            &[
+                HEADER,
+                NAMES,
+                SEGMENT,
+                EMPTY_SEGMENT,
+                ANY_MARK,
+                NO_FIXUPS,
+                END,
+            ],
+        ],
+    ),
+    (
+        &[
+            &[HEADER, NAMES, SEGMENT, COMDAT, END],
+            &[HEADER, NAMES, SEGMENT, COMDAT, END],
+        ],
+        &[
+            &[
+                HEADER,
+                NAMES,
+                SEGMENT,
+                COMDAT_SEGMENT,
+                COMDAT_PUBLIC,
+                COMDAT_MARK,
+                COMDAT_DATA,
+                END,
+            ],
+            &[
+                HEADER,
+                NAMES,
+                SEGMENT,
+                COMDAT_SEGMENT,
+                COMDAT_PUBLIC,
+                COMDAT_MARK,
+                COMDAT_DATA,
+                END,
+            ],
+        ],
+    ),
+];
+
+/// The module of some records, lowered; none without memory, or if it is refused.
+fn module_of(alloc: Global, rows: Rows) -> Option<Checked> {
+    let Ok(bytes) = joined(alloc, rows) else {
+        return None;
+    };
+    let Ok(module) = lowered(alloc, &bytes) else {
+        return None;
+    };
+    match check(alloc, &mut Bytes::new(&module.bytes), ANY) {
+        Ok(module) => Some(module),
+        Err(_) => None,
+    }
+}
+
+/// The modules of some records; none without memory, or if one is refused.
+fn modules_of(alloc: Global, rows: &[Rows]) -> Option<Vec<Checked>> {
+    let mut modules = Vec::new(alloc);
+    for rows in rows {
+        let Ok(()) = modules.push(module_of(alloc, *rows)?) else {
+            return None;
+        };
+    }
+    Some(modules)
+}
+
+/// Whether modules have the bytes of these records.
+fn have_bytes(alloc: Global, modules: &[Checked], wanted: &[Rows]) -> bool {
+    for (module, rows) in modules.iter().zip(wanted.iter()) {
+        let Ok(bytes) = joined(alloc, *rows) else {
+            return false;
+        };
+        if module.bytes() != bytes.as_slice() {
+            return false;
+        }
+    }
+    modules.len() == wanted.len()
+}
+
+/// Whether of the COMDATs of modules these are chosen; or a growth is refused, and it `may_fail`.
+fn chooses(alloc: Global, rows: &[Rows], wanted: &[Rows], may_fail: bool) -> bool {
+    let Some(modules) = modules_of(alloc, rows) else {
+        return may_fail;
+    };
+    match chosen(alloc, modules) {
+        Ok(modules) => may_fail || have_bytes(alloc, &modules, wanted),
+        Err(_) => may_fail,
+    }
+}
+
+#[test]
+fn the_first_comdat_of_a_name_counts(rt: HostRuntime) {
+    for (rows, wanted) in &CHOSEN {
+        assert!(rt; chooses(rt.alloc(), *rows, *wanted, false));
+    }
+}
+
+#[test]
+fn a_refused_growth_chooses_nothing_else(rt: HostRuntime) {
+    for (rows, wanted) in &CHOSEN {
+        assert!(rt; chooses(rt.alloc(), *rows, *wanted, true));
     }
 }

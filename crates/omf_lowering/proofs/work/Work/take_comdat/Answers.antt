@@ -19,7 +19,8 @@ returns-clause-ok c =
     sym (c.in-Ok.ensures
     ∙ ap (λ others. and_then ((comdat_whole (is_wide r.kind)).read 3 r.body) (resolved w.tables others c.len-number.result r.kind)) c.deref.ensures.value
     ∙ ap (λ n. and_then ((comdat_whole (is_wide r.kind)).read 3 r.body) (resolved w.tables w.instances.items n r.kind)) count) in
-    added_comdat old r of c.requires.comdat is c.push_instance.new.instances.items c.append_made.new.records.items c.append_made.new.pieces.items c.push_growth.new.growths.items
-    c.in_ok-push_instance.ensures c.in_ok-append_made.ensures
+    added_comdat old r of c.requires.comdat is c.push_instance.new.instances.items c.append_all.new.records.items c.append_all.new.pieces.items c.push_growth.new.growths.items
+    c.in_ok-push_instance.ensures
+    (record { items = c.in_ok-replacing.replacing.items; is = c.in_ok-replacing.ensures; records = c.in_ok-append_all.ensures.records; pieces = c.in_ok-append_all.ensures.pieces })
     (c.in_ok-push_growth.ensures ∙ ap (λ ps. w.growths.items ++ growth ps of) c.deref-2.ensures.value)
     ∙ ap (λ s. added s r) c.self.view_is
