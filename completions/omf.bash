@@ -116,8 +116,8 @@ _omf_link() {
     esac
     [[ $current == -* ]] || return
     case "$task" in
-        'exe') words="-o --map --stack --order --max-alloc -L --library-path --no-default-libraries --no-default-library --allow --ignore-case";;
-        'com') words="-o --map --stack --order -L --library-path --no-default-libraries --no-default-library --allow --ignore-case";;
+        'exe') words="-o --map --stack --order --max-alloc -L --library-path --no-default-libraries --no-default-library --allow --ignore-case --keep-debug";;
+        'com') words="-o --map --stack --order -L --library-path --no-default-libraries --no-default-library --allow --ignore-case --keep-debug";;
         'image') words="--allow --ignore-case -t -o";;
         'map') words="--ignore-case -t -o";;
         'bin') words="--base --size --fill --allow --ignore-case -t -o";;

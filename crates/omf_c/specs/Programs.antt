@@ -46,6 +46,7 @@ pub record AreOptionsOf (row : ProgramRow) (o : ExeOptions) : Type 0 where
   pub twice : o.allows_twice ≡ row.allow_twice
   pub long : o.allows_long ≡ row.allow_group
   pub near : o.allows_near ≡ row.allow_near
+  pub debug : o.keeps_debug ≡ false
 
 -- These files and options have this program.
 pub record IsProgramOfFiles (files : List InputFile) (o : ExeOptions) (m : MadeProgram) : Type 0 where

@@ -86,6 +86,7 @@ fn options_of<'a>(alloc: Global, row: &ProgramRow) -> ExeOptions<'a>
         allows_twice: row.allow_twice,
         allows_long: row.allow_group,
         allows_near: row.allow_near,
+        keeps_debug: false,
     }
 }
 

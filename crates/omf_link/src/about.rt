@@ -9,11 +9,11 @@ pub(crate) const ABOUT: About = About {
     usage: "usage: omf-link exe -o FILE [--map FILE] [--stack BYTES] [--order dos|input]
            [--max-alloc PARAGRAPHS] [-L DIR ..] [--library-path DIR ..]
            [--no-default-libraries] [--no-default-library NAME ..]
-           [--allow group|near|twice ..] [--ignore-case] FILE ..
+           [--allow group|near|twice ..] [--ignore-case] [--keep-debug] FILE ..
        omf-link com -o FILE [--map FILE] [--stack BYTES] [--order dos|input]
            [-L DIR ..] [--library-path DIR ..] [--no-default-libraries]
            [--no-default-library NAME ..] [--allow group|near|twice ..]
-           [--ignore-case] FILE ..
+           [--ignore-case] [--keep-debug] FILE ..
        omf-link image [--allow overlap|align|group|frame|near|twice ..]
            [--ignore-case] [-t TEXT] [-o FILE] [FILE ..]
        omf-link map [--ignore-case] [-t TEXT] [-o FILE] [FILE ..]
@@ -41,7 +41,7 @@ pub(crate) const ABOUT: About = About {
           gives them
   draft   a text with addresses, to begin with
   lower   the modules of a file, with segments in place of COMDATs, EXTDEFs in
-          place of CEXTDEFs, and with BAKPATs applied
+          place of CEXTDEFs, and with BAKPATs and NBKPATs applied
 
   -o FILE                  the output; without it, or where FILE is -, the
                            standard output
@@ -66,6 +66,8 @@ pub(crate) const ABOUT: About = About {
                            hex and srec also overlap, align and frame
   --ignore-case            ignore the case of publics, externals and communals,
                            and show them in lower case
+  --keep-debug             exe, com: with the segments of debug information
+                           (classes DEBSYM, DEBTYP, DWARF) in memory
   --base ADDRESS           bin: the address of the first byte; draft: of the
                            first segment (default 10000)
   --size SIZE              bin: the number of bytes, hexadecimal, or as 64K

@@ -19,6 +19,7 @@ pub mod DraftLaws
 pub mod FitLaws
 pub mod PlacesLaws
 pub mod MapLaws
+pub mod SourceLaws
 pub mod PublicLaws
 pub mod SeenLaws
 pub mod LookLaws

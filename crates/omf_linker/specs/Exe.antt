@@ -5,6 +5,7 @@ pub mod Program
 pub mod Refusing
 pub mod Making
 pub mod Taken
+pub mod Trimming
 pub mod Sharing
 pub mod Ordering
 pub mod Adding

@@ -11,6 +11,7 @@ use Rattle.omf_linker.specs.Exe.Listing.{list_text}
 use Rattle.omf_linker.specs.Exe.Origins.{AreAllWith, AreFrom}
 use Rattle.omf_linker.specs.Exe.Program.{IsBetweenOf, IsComOf, IsLongOf, IsMapOf, IsNearOf, IsProgramOf, ProgramModules}
 use Rattle.omf_linker.specs.Exe.Refusing.{AreNoComProgram, AreNoProgram, AreNotAdded, AreNotFollowed, AreUnplaced, Finds, GiveNoFolded, GiveNoModules, HaveNamesTwice, IsNotAllowed}
+use Rattle.omf_linker.specs.Exe.Trimming.{AreTrimmed}
 use Rattle.omf_linker.specs.Map.Far.{far}
 use Rattle.omf_linker.specs.declared.exe.input.Origin.{Origin}
 use Rattle.omf_linker.specs.declared.exe.made.MadeProgram.{MadeProgram}
@@ -86,12 +87,14 @@ pub record IsMadeOf (options : ExeOptions) (files : List InputFile) (p : Program
   pub near : Finds (IsNearOf p.modules) (is_some made.near) × IsAllowed options.allows_near (is_some made.near)
   pub twice : HaveNamesTwice p.modules (is_some made.repeated) × IsAllowed options.allows_twice (is_some made.repeated)
 
--- What is written of files: of their modules, with those that are added, and with the defaults that aliases give to externals.
+-- What is written of files: of their modules as a program has them, with those that are added, and with the defaults that aliases give to externals.
 pub record IsMade (options : ExeOptions) (p : ProgramFiles) (made : MadeProgram) : Type 0 where
   pub given : AreOf p.ignores_case p.files p.modules
   pub origins : AreFrom p.ignores_case p.files p.modules p.from
+  pub trimmed : List Module
+  pub trim : AreTrimmed options.keeps_debug p.modules trimmed
   pub all : ProgramModules
-  pub added : AreAllWith options.kind options.stack options.order p.modules p.from all
+  pub added : AreAllWith options.kind options.stack options.order trimmed p.from all
   pub linked : List Module
   pub followed : AreFollowed all.modules linked
   pub made_of : IsMadeOf options p.files (record { modules = linked; from = all.from }) made
@@ -111,4 +114,6 @@ IsNotLinkedOf options all = AreNotFollowed all ⊎ ((linked : List Module) × Ar
 -- Why nothing is written of files.
 pub record IsNotMade (options : ExeOptions) (p : ProgramFiles) : Type 0 where
   pub given : AreOf p.ignores_case p.files p.modules
-  pub why : AreNotAdded options.kind options.stack options.order p.modules ⊎ ((all : List Module) × AreAdded options.kind options.stack options.order p.modules all × IsNotLinkedOf options all)
+  pub trimmed : List Module
+  pub trim : AreTrimmed options.keeps_debug p.modules trimmed
+  pub why : AreNotAdded options.kind options.stack options.order trimmed ⊎ ((all : List Module) × AreAdded options.kind options.stack options.order trimmed all × IsNotLinkedOf options all)

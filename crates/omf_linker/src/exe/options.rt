@@ -61,6 +61,8 @@ pub struct ExeOptions<'a> {
     pub allows_long: bool,
     /// Whether near references may be into another frame.
     pub allows_near: bool,
+    /// Whether segments of debug information are in memory.
+    pub keeps_debug: bool,
 }
 
 /// The size of a stack: a number from 1 to 65534, decimal without a mark.
@@ -112,6 +114,7 @@ impl<'a> ExeOptions<'a> {
             allows_twice: false,
             allows_long: false,
             allows_near: false,
+            keeps_debug: false,
         }
     }
 
@@ -134,6 +137,10 @@ impl<'a> ExeOptions<'a> {
             }
             "--ignore-case" => {
                 self.ignore_case = true;
+                true
+            }
+            "--keep-debug" => {
+                self.keeps_debug = true;
                 true
             }
             _ => false,

@@ -18,6 +18,7 @@ ghost use Rattle.omf_linker.specs.Exe.Program.{IsBetweenOf, IsComOf, IsLongOf, I
 ghost use Rattle.omf_linker.specs.Exe.Refusing.{AreNoComProgram, AreNoProgram, AreNotAdded, AreNotFollowed, AreNotOrdered, AreNotShared, AreTwiceLines, AreUnplaced, Finds, GiveNoFolded, GiveNoModules, HaveNamesTwice, IsNotAllowed, IsRefusalFor, NeedRefused, is_com_memory, is_memory, is_out_of_memory, is_placing_memory};
 ghost use Rattle.omf_linker.specs.Exe.Sharing.{AreShared};
 ghost use Rattle.omf_linker.specs.Exe.Taken.{values_at};
+ghost use Rattle.omf_linker.specs.Exe.Trimming.{AreTrimmed};
 
 use crate::aliases::{asker_of, followed};
 use crate::exe::added::{is_dos_ordered, stack_of};
@@ -39,6 +40,7 @@ use crate::exe::refused::of_joining;
 use crate::exe::sharing::{shared_module, with_added};
 use crate::link::InputFile;
 use omf_check::Checked;
+use omf_lowering::{chosen, without_debug};
 use omf_output::exe::{ComFault, ExeFile};
 use omf_placement::{DeriveFault, Linkage};
 use std::alloc::{AllocError, Global};
@@ -169,6 +171,21 @@ pub fn order_modules(alloc: Global, modules: Vec<Checked>) -> Result<Vec<Checked
     }
 }
 
+/// Modules with one COMDAT of each name, and without debug information, unless that is kept.
+fn trimmed(
+    alloc: Global,
+    modules: Vec<Checked>,
+    keeps_debug: bool,
+) -> Result<Vec<Checked>, AllocError>
+    ensures { IfOk result (λ v. AreTrimmed keeps_debug modules.items v.items) }
+{
+    let chosen = chosen(alloc, modules)?;
+    if keeps_debug {
+        return Ok(chosen);
+    }
+    without_debug(alloc, chosen)
+}
+
 /// Lines, if they are allowed; else the refusal with them.
 fn shown(lines: String, is_allowed: bool) -> Result<Option<String>, Refusal>
     ensures same { IfOk result (λ shown. shown ≡ Some lines) }
@@ -284,6 +301,23 @@ impl ProgramModules {
             all.in_dos_order(alloc)
         } else {
             Ok(all)
+        }
+    }
+
+    /// The modules as they are laid: of the COMDATs of one name the first counts, and there is no debug information, unless that is kept.
+    ///
+    /// # Errors
+    ///
+    /// Out of memory.
+    pub fn trimmed(self, alloc: Global, keeps_debug: bool) -> Result<ProgramModules, Refusal>
+        ensures trimmed { IfOk result (λ p. AreTrimmed keeps_debug self.modules p.modules) }
+        ensures from { IfOk result (λ p. p.from ≡ self.from) }
+        ensures refused { IfErr result (λ r. is_out_of_memory r ≡ true) }
+    {
+        let ProgramModules { modules, from } = self;
+        match trimmed(alloc, modules, keeps_debug) {
+            Ok(modules) => Ok(ProgramModules { modules, from }),
+            Err(AllocError) => Err(memory()),
         }
     }
 

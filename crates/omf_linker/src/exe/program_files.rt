@@ -119,8 +119,8 @@ impl ProgramFiles {
         self.modules.sought(alloc, known)
     }
 
-    /// What is written of the files: the program as a .COM file or as an .EXE file, its map, and lines of what is found in it. The aliases of the
-    /// modules are followed.
+    /// What is written of the files: the program as a .COM file or as an .EXE file, its map, and lines of what is found in it. Of the COMDATs of one name
+    /// the first counts, debug information is left out unless the options keep it, and the aliases of the modules are followed.
     ///
     /// # Errors
     ///
@@ -137,7 +137,8 @@ impl ProgramFiles {
         ensures refused { IfErr result (IsRefusalFor (IsNotMade options.now self)) }
     {
         let ProgramFiles { files, modules, .. } = self;
-        let added = modules.with_added(alloc, options)?;
+        let trimmed = modules.trimmed(alloc, options.keeps_debug)?;
+        let added = trimmed.with_added(alloc, options)?;
         let all = added.following_aliases(alloc)?;
         let linked = all.linked(alloc)?;
         let made = made_of(alloc, &linked, &files, options)?;

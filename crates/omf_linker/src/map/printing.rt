@@ -11,7 +11,7 @@ use std::alloc::AllocError;
 use std::fmt::Write;
 
 /// Prints a space and a decimal number.
-fn print_number(text: &mut String, number: usize) -> Result<(), AllocError>
+pub(crate) fn print_number(text: &mut String, number: usize) -> Result<(), AllocError>
     ensures { AddsText result (string_bytes text.old) (string_bytes text.new) (32 ∷ decimal number) }
 {
     write!(text, " {number}")
@@ -59,7 +59,7 @@ pub(crate) fn print_quoted(text: &mut String, name: &[u8]) -> Result<(), AllocEr
 }
 
 /// Prints a space and a name in double quotes, or a dash for none.
-fn print_name(text: &mut String, name: Option<Name<'_>>) -> Result<(), AllocError>
+pub(crate) fn print_name(text: &mut String, name: Option<Name<'_>>) -> Result<(), AllocError>
     ensures { AddsText result (string_bytes text.old) (string_bytes text.new) (32 ∷ unwrap_or (option_map quoted name.entry) (codes "-")) }
 {
     match name {

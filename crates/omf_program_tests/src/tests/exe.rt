@@ -60,6 +60,10 @@ const REFUSED: &str =
 const CALLS_G: &str =
     "80030001413B 96040000015400 98070028050002010100 8C040001670000 A009000100009A0000000000 9C0500CC01560100 8A0700C1000101000000";
 
+/// A module of one byte in the segment T, with the COMDAT f of two bytes there, of which any may be selected.
+const COMDAT: &str =
+    "800300014200 960600000154016600 98070028010002010100 A005000100009000 C20C00001000000000000103F4CB00 8A02000000";
+
 /// The names of files and their bytes, and the file of their program; without one, the line.
 struct Case {
     files: &'static [(&'static str, &'static str)],
@@ -91,7 +95,7 @@ const NOTHING_LIES_THERE: &str =
 const ONE_LIES_THERE: &str =
     "800300014200 96040000015500 980A0000400000040002010100 A00500010000AB00 8A02000000";
 
-static CASES: [Case; 23] = [
+static CASES: [Case; 25] = [
     // The word at 1 moves. Two paragraphs from the end of the image on, the stack ends at 1:10H.
     Case {
         files: &[("one.obj", ONE)],
@@ -249,6 +253,19 @@ static CASES: [Case; 23] = [
         has_stack: false,
         line: "",
     },
+    // A file with a COMDAT takes part as it is lowered. Of two COMDATs of a name the first counts.
+    Case {
+        files: &[("calls.obj", CALLS), ("f.obj", COMDAT)],
+        program: "4D5A2800010001000200 0000FFFF0000000000000000 00001C000000 03000000 9A0600000090F4CB",
+        has_stack: false,
+        line: "",
+    },
+    Case {
+        files: &[("calls.obj", CALLS), ("f.obj", COMDAT), ("g.obj", COMDAT)],
+        program: "4D5A2900010001000200 0000FFFF0000000000000000 00001C000000 03000000 9A0600000090F4CB90",
+        has_stack: false,
+        line: "",
+    },
 ];
 
 /// A file with bytes in hexadecimal; `None` where it finds no memory.
@@ -347,6 +364,45 @@ fn is_mapped(alloc: Global, files: Vec<InputFile>, text: &str) -> bool {
 fn a_map_begins_with_the_modules(rt: HostRuntime) {
     match files_of(rt.alloc(), &CASES[2]) {
         Some(files) => assert!(rt; is_mapped(rt.alloc(), files, MAP)),
+        None => assert!(rt; false),
+    }
+}
+
+/// CALLS with T in the group G, and line 7 of its source at 3. In T of another module, line 8 at 0; and what is no contents of a LINNUM.
+static LINES: Case = Case {
+    files: &[
+        (
+            "calls.obj",
+            "80030001413B 9606000001540147 00 98070028050002010100 9A040003FF0100 8C040001660000 A009000100009A0000000000 9C0500CC01560100 94070001010700030000 8A0700C1000101000000",
+        ),
+        (
+            "f.obj",
+            "800300014200 96040000015400 98070028010002010100 9008000001016600000000 A00500010000CB00 9509000001 0800 00000000 00 94020001 00 8A02000000",
+        ),
+    ],
+    program: "",
+    has_stack: false,
+    line: "",
+};
+
+/// Their map: G has the frame of T, and so has the line of the LINNUM with the group G.
+const LINES_MAP: &str = "module 1 file \"calls.obj\" module 1\n\
+    module 2 file \"f.obj\" module 1\n\
+    segment 1 1 00000000 00000005 \"T\" \"\"\n\
+    segment 2 1 00000005 00000001 \"T\" \"\"\n\
+    public 2 00000005 \"f\"\n\
+    external 1 1 00000005 \"f\"\n\
+    group 1 1 0000 \"G\"\n\
+    at 0000:0005 \"f\"\n\
+    line 0000:0003 1 7\n\
+    line 0000:0005 2 8\n\
+    start 0000:0000\n\
+    stack 0000:0000\n";
+
+#[test]
+fn a_map_has_groups_and_lines(rt: HostRuntime) {
+    match files_of(rt.alloc(), &LINES) {
+        Some(files) => assert!(rt; is_mapped(rt.alloc(), files, LINES_MAP)),
         None => assert!(rt; false),
     }
 }

@@ -21,6 +21,7 @@ struct Read {
     allows_twice: bool,
     allows_long: bool,
     allows_near: bool,
+    keeps_debug: bool,
 }
 
 /// No options.
@@ -36,12 +37,13 @@ const NONE: Read = Read {
     allows_twice: false,
     allows_long: false,
     allows_near: false,
+    keeps_debug: false,
 };
 
 /// Arguments, separated by spaces, and the options that they give.
 type Case = (&'static str, Option<Read>);
 
-static CASES: [Case; 44] = [
+static CASES: [Case; 46] = [
     ("", Some(NONE)),
     (
         "--map a.map",
@@ -110,6 +112,14 @@ static CASES: [Case; 44] = [
             ..NONE
         }),
     ),
+    (
+        "--keep-debug",
+        Some(Read {
+            keeps_debug: true,
+            ..NONE
+        }),
+    ),
+    ("--keep-debug yes", None),
     ("--max-alloc 65536", None),
     ("--max-alloc", None),
     ("--max-alloc 1 --max-alloc 1", None),
@@ -232,6 +242,7 @@ fn are_read(options: &ExeOptions<'_>, read: &Read) -> bool {
         && options.allows_twice == read.allows_twice
         && options.allows_long == read.allows_long
         && options.allows_near == read.allows_near
+        && options.keeps_debug == read.keeps_debug
 }
 
 /// Whether arguments give the options of a case.

@@ -15,7 +15,7 @@ returns-in_err-made-clause-refused c =
     let own = c.self.inside in
     let all = c.in_ok-all.all.modules in
     subst (λ r. IfErr r (IsRefusalFor (IsNotMade options c.args.self))) (sym same)
-    (λ e. not_made options c.args.self own.files.items own.ignores_case own.modules.modules own.modules.from c.in_ok-added.added.modules c.self.view_is c.self.invariant.0 c.in_ok-added.ensures.added.added
+    (λ e. not_made options c.args.self own.files.items own.ignores_case own.modules.modules own.modules.from c.in_ok-trimmed.trimmed.modules c.in_ok-added.added.modules c.self.view_is c.self.invariant.0 c.in_ok-trimmed.ensures.trimmed c.in_ok-added.ensures.added.added
     (inr (all, c.in_ok-all.ensures.followed, subst (IsNotMadeOf options) linked (c.in_err-made.ensures.refused e))))
 
 pub returns-in_err-all-clause-refused : goal.returns-in_err-all-clause-refused
@@ -25,5 +25,5 @@ returns-in_err-all-clause-refused c =
     let same : c.from_residual-in_err-all.result ≡ Err f = search rules in
     let own = c.self.inside in
     subst (λ r. IfErr r (IsRefusalFor (IsNotMade options c.args.self))) (sym same)
-    (λ e. not_made options c.args.self own.files.items own.ignores_case own.modules.modules own.modules.from c.in_ok-added.added.modules c.self.view_is c.self.invariant.0 c.in_ok-added.ensures.added.added
+    (λ e. not_made options c.args.self own.files.items own.ignores_case own.modules.modules own.modules.from c.in_ok-trimmed.trimmed.modules c.in_ok-added.added.modules c.self.view_is c.self.invariant.0 c.in_ok-trimmed.ensures.trimmed c.in_ok-added.ensures.added.added
     (inl (c.in_err-all.ensures.refused e)))
