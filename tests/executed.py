@@ -3,7 +3,7 @@
 
 Each seed makes a program of two to six modules for NASM. Its parts refer to one another in the ways that compilers do: near and far calls, code in a
 group that not every module names, words in DGROUP and in far segments, also some bytes after a name, near and far communals of several sizes, pointers and tables
-of them, two parts of a stack. Each step adds to a sum in BP, so a reference that goes elsewhere gives another sum, or no end. The modules are linked in any order, some of them from a library, as an .EXE, a .COM or a ROM. An 8086 emulator
+of them, two parts of a stack, and routines that each module which calls them has as a COMDAT. Each step adds to a sum in BP, so a reference that goes elsewhere gives another sum, or no end. The modules are linked in any order, some of them from a library, as an .EXE, a .COM or a ROM. An 8086 emulator
 (Unicorn) loads the program as DOS does, at three paragraphs, and runs it. With --dosbox DOSBox runs those for DOS too, some in one go. What is linked with status 0 must end with the sum of the source. A program
 without a near call into another segment must link. So must one with such calls in a group, also from a module that does not name it, but for two cases:
 a called routine of a module that does not name the group is in the frame of its segment, and a call from below that is refused; and where all modules that
@@ -26,6 +26,8 @@ import time
 
 sys.path.append("/usr/lib/python3/dist-packages")
 sys.path.insert(0, os.path.join(os.path.dirname(os.path.realpath(__file__)), "fuzz"))
+sys.path.insert(0, os.path.dirname(os.path.realpath(__file__)))
+from comdats import with_comdats  # noqa: E402
 from smaller import fewer  # noqa: E402
 
 LINK, LIB = os.environ.get("OMF_LINK", "omf-link"), os.environ.get("OMF_LIB", "omf-lib")
@@ -45,6 +47,7 @@ class Module:
     def __init__(self, number, code):
         self.number, self.code, self.names_group = number, code, False
         self.text, self.data, self.far, self.taken, self.communals = [], [], [], set(), {}
+        self.inlines = {}
 
     def source(self, plan):
         """The text for NASM."""
@@ -61,6 +64,8 @@ class Module:
             lines += [f"segment FAR{self.number} {plan.far} align=16 class=FAR_DATA", *self.far]
         if plan.kind != "com" and (self.number == 0 or plan.split_stack and self.number == 1):
             lines += ["segment STACK stack class=STACK", "resb 256"]
+        for name, body in self.inlines.items():
+            lines += [f"global {name}__", f"segment INLINE_{name} align=1 class=CODE", f"{name}__:", *body]
         return "\n".join(lines) + "\n"
 
 
@@ -80,6 +85,7 @@ class Plan:
         self.modules = [Module(number, pick.choice(codes)) for number in range(count)]
         self.words, self.sum, self.tables = {}, 0, 0
         self.leaves, self.rows = {}, {}
+        self.selections = {f"x{it}": pick.choice((1, 1, 2)) for it in range(3)}
         for module in self.modules:
             self.declare(module)
         for module in self.modules:
@@ -153,6 +159,7 @@ class Plan:
             steps.append(self.code_table)
             if self.far_data():
                 steps += [self.far_call, self.far_code_table]
+            steps += [self.inline] * 4 if self.kind == "exe" else []
         return steps
 
     def any_module(self):
@@ -245,6 +252,21 @@ class Plan:
         self.other(module, name)
         return [f"call seg {name}:{name}"]
 
+    def inline(self, module):
+        """A far call of a routine that each module which calls it has as a COMDAT."""
+        name = self.random.choice(sorted(self.selections))
+        module.taken.add(f"extern {name}")
+        own = random.Random(f"{self.seed} {name}")
+        word, value = f"f{own.choice(self.modules).number}", own.randrange(65536)
+        nops = ["nop"] * self.random.randrange(4) if self.selections[name] == 1 else []
+        if name not in module.inlines:
+            self.other(module, word)
+            body = [*nops, f"mov ax, seg {word}", "mov es, ax", f"mov ax, [es:{word}]", *self.adds(), f"mov ax, {value}", *self.adds(), "retf"]
+            module.inlines[name] = body
+        self.add(self.words[word])
+        self.add(value)
+        return [f"call seg {name}:{name}"]
+
     def far_word(self, module):
         name = self.other(module, f"f{self.any_module().number}")
         self.add(self.words[name])
@@ -317,6 +339,11 @@ def built(plan, folder):
         made = run("nasm", "-f", "obj", f"{name}.asm", "-o", f"{name}.obj")
         if made.returncode:
             raise ValueError(made.stderr.decode())
+        if module.inlines:
+            with open(f"{name}.obj", "rb") as it:
+                whole = with_comdats(it.read(), {name.encode(): selection for name, selection in plan.selections.items()})
+            with open(f"{name}.obj", "wb") as it:
+                it.write(whole)
         names.append(f"{name}.obj")
     return names
 

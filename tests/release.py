@@ -120,6 +120,7 @@ def stages():
     yield Stage("names", ["tests/names.py"], "OMF_DUMP", "nasm", 600, r"^(\d+) lists")
     yield Stage("lowered", ["tests/lowered.py"], "OMF_LINK", "", 600, r"^(\d+) modules lowered")
     yield Stage("taken", ["tests/taken.py"], "OMF_LINK", "", 600, r"^(\d+) files linked")
+    yield Stage("chosen", ["tests/chosen.py"], "OMF_LINK", "", 600, r"^(\d+) links")
     yield Stage("find", ["tests/find.py"], "OMF_FIND OMF_LINK OMF_LIB", "", 600, r"^(\d+) runs")
     made = ["bench/find_programs.py", "--members", "500", "--code", "12000", "--own", "3000"]
     yield Stage("find programs", made, "OMF_FIND OMF_LINK OMF_LIB", "cc", 600, r"^(\d+) programs", {"RUNS": "1"})
