@@ -142,11 +142,11 @@ def roots(definitions, wanted):
             continue
         public, modules = exported(crate)
         for path in code_files(crate):
-            if path.stem in ("rows", "edges", "tests") or "tests" in path.parts:
+            if path.stem.split("_")[-1] in ("rows", "edges", "tests") or "tests" in path.parts:
                 continue
             text = path.read_text(encoding="utf-8")
             words = {called: definitions.key.get(one) for called, one in words_of(text).items()}
-            is_law = path.stem == "laws" or path.parent.name == "laws"
+            is_law = path.stem.split("_")[-1] == "laws" or path.parent.name == "laws"
             for owner, name, contract in contracts(path):
                 is_public = (owner or name) in public or path.stem in modules or "no_mangle" in text
                 if wanted(crate, owner, name, contract, is_public, is_law):

@@ -149,10 +149,10 @@ def promise_rows(trait, owner, ghosts, words, defined, all_definitions):
 def laws_of(crate):
     """The laws of a crate with their sentences: public functions without parameters in files named for laws or listed beside them."""
     for path in code_files(crate):
-        if path.stem in ("rows", "edges") or "tests" in path.parts:
+        if path.stem.split("_")[-1] in ("rows", "edges") or "tests" in path.parts:
             continue
         for call in calls_of(path):
-            if path.stem == "laws" or path.parent.name == "laws":
+            if path.stem.split("_")[-1] == "laws" or path.parent.name == "laws":
                 yield call
 
 
@@ -165,7 +165,7 @@ def page():
         names, modules = exported(crate)
         rows = []
         for path in code_files(crate):
-            if path.stem in ("rows", "edges", "laws") or path.parent.name == "laws" or "tests" in path.parts or path.stem == "tests":
+            if path.stem.split("_")[-1] in ("rows", "edges", "laws") or path.parent.name == "laws" or "tests" in path.parts or path.stem == "tests":
                 continue
             text = path.read_text(encoding="utf-8")
             words = words_of(text)
