@@ -360,7 +360,7 @@ struct omf_file {
 
 /* What is asked of a program, as by the options of `omf-link exe`. All of it 0 is an .EXE file with none of them. */
 struct omf_program {
-    uint16_t stack;       /* --stack: the bytes that are added to the stack, 1 to 65,534; 0 for none */
+    uint16_t stack;       /* --stack: the bytes of the stack, 1 to 65,534; 0 for as many as the modules' own */
     uint16_t order;       /* --order: 1 dos, 2 input; any other number: DOS order if a module asks for it */
     bool is_com;          /* a .COM file, as of `omf-link com` */
     bool ignore_case;     /* --ignore-case */

@@ -14,7 +14,7 @@ from tree import ROOT, code_files, crates
 FOLDER = ROOT / "completions"
 ABOUT = "made by tests/docs.py options from the usage texts of the programs"
 ALWAYS = [("--help", "", "how to call it"), ("--version", "", "the version")]
-TRIES = {"omf-link exe --ord": "--order", "omf-link exe --order d": "dos", "omf-lib ch": "check", "omf-find --symbols gh": "ghidra", "omf re": "reloc"}
+TRIES = {"omf-link exe --ord": "--order", "omf-link exe --allow tw": "twice", "omf-lib ch": "check", "omf-find --symbols gh": "ghidra", "omf re": "reloc"}
 
 
 def texts():

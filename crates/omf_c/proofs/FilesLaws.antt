@@ -2,11 +2,11 @@
 use Rattle.std.proofs.Common.{◌≡◌, ℕ, List, [], arith, refl, subst, inl, inr}
 use Rattle.std.specs.Prelude.{◌⊎◌}
 use Rattle.omf_linking.specs.File.{InputFile}
-use Rattle.omf_linker.specs.Exe.Making.{GiveNone, IsMade, IsNotMade, ProgramFiles}
-use Rattle.omf_linker.specs.Exe.Refusing.{IsRefusalFor}
-use Rattle.omf_linker.specs.declared.exe.made.MadeProgram.{MadeProgram}
-use Rattle.omf_linker.specs.declared.exe.options.ExeOptions.{ExeOptions}
-use Rattle.omf_linker.specs.declared.exe.refusal.Refusal.{Refusal}
+use Rattle.omf_exe.specs.Making.{GiveNone, IsMade, IsNotMade, ProgramFiles}
+use Rattle.omf_exe.specs.Refusing.{IsRefusalFor}
+use Rattle.omf_exe.specs.declared.made.MadeProgram.{MadeProgram}
+use Rattle.omf_exe.specs.declared.options.ExeOptions.{ExeOptions}
+use Rattle.omf_exe.specs.declared.refusal.Refusal.{Refusal}
 use Rattle.omf_c.specs.Answers.{done}
 use Rattle.omf_c.specs.Programs.{AreNotWritten, HandsProgram, HaveNoProgram, IsAnsweredOf, IsProgramOfFiles, ShowsRefusal, warnings}
 use Rattle.omf_c.specs.declared.answer.Answer.{Answer}

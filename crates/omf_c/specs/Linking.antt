@@ -13,8 +13,8 @@ use Rattle.omf_linking.specs.declared.space.stretch.Owner.{Owner}
 use Rattle.omf_output.specs.declared.rom.form.Chip.{Chip}
 use Rattle.omf_output.specs.declared.rom.form.Form.TheVariants.{Binary}
 use Rattle.omf_linker.specs.Link.Shown.{IsShownOf}
-use Rattle.omf_linker.specs.declared.link.fault.ImageFault.{ImageFault}
-use Rattle.omf_linker.specs.declared.link.fault.ImageFault.TheVariants as image
+use Rattle.omf_lines.specs.declared.fault.ImageFault.{ImageFault}
+use Rattle.omf_lines.specs.declared.fault.ImageFault.TheVariants as image
 use Rattle.omf_linker.specs.declared.link.words.Task.TheVariants.{Rom}
 use Rattle.omf_c.specs.Answers.{HandsOut, done, of_reach}
 use Rattle.omf_c.specs.declared.answer.Answer.{Answer}

@@ -3,15 +3,15 @@ use Rattle.std.specs.Prelude.{String, ◌≡◌, ◌⊎◌, ◌≤◌, ◌<◌, 
 use Rattle.std.specs.Global.{Global}
 use Rattle.std.specs.Str.Lossy.{utf8_lossy}
 use Rattle.omf_linking.specs.File.{InputFile}
-use Rattle.omf_linker.specs.Exe.Making.{GiveNone, IsMade, IsNotMade, ProgramFiles}
-use Rattle.omf_linker.specs.Exe.Refusing.{is_out_of_memory, refusal_report}
-use Rattle.omf_linker.specs.declared.exe.made.MadeProgram.{MadeProgram}
-use Rattle.omf_linker.specs.declared.exe.options.ExeOptions.{ExeOptions}
-use Rattle.omf_linker.specs.declared.exe.options.Order.{Order}
-use Rattle.omf_linker.specs.declared.exe.options.Order.TheVariants.{Dos, Input}
-use Rattle.omf_linker.specs.declared.exe.options.ProgramKind.{ProgramKind}
-use Rattle.omf_linker.specs.declared.exe.options.ProgramKind.TheVariants.{Exe, Com}
-use Rattle.omf_linker.specs.declared.exe.refusal.Refusal.{Refusal}
+use Rattle.omf_exe.specs.Making.{GiveNone, IsMade, IsNotMade, ProgramFiles}
+use Rattle.omf_exe.specs.Refusing.{is_out_of_memory, refusal_report}
+use Rattle.omf_exe.specs.declared.made.MadeProgram.{MadeProgram}
+use Rattle.omf_exe.specs.declared.options.ExeOptions.{ExeOptions}
+use Rattle.omf_exe.specs.declared.options.Order.{Order}
+use Rattle.omf_exe.specs.declared.options.Order.TheVariants.{Dos, Input}
+use Rattle.omf_exe.specs.declared.options.ProgramKind.{ProgramKind}
+use Rattle.omf_exe.specs.declared.options.ProgramKind.TheVariants.{Exe, Com}
+use Rattle.omf_exe.specs.declared.refusal.Refusal.{Refusal}
 use Rattle.omf_c.specs.Answers.{HandsOut, done}
 use Rattle.omf_c.specs.Images.{over}
 use Rattle.omf_c.specs.Linking.{unlinked}
@@ -39,6 +39,7 @@ order_of order = if order == 1 then Some Dos else if order == 2 then Some Input 
 pub record AreOptionsOf (row : ProgramRow) (o : ExeOptions) : Type 0 where
   pub kind : o.kind ≡ kind_of row.is_com
   pub map : is_some o.map ≡ false
+  pub symbols : is_some o.symbols ≡ false
   pub ignore_case : o.ignore_case ≡ row.ignore_case
   pub stack : o.stack ≡ stack_of row.stack
   pub most : is_some o.max_alloc ≡ false
@@ -46,7 +47,9 @@ pub record AreOptionsOf (row : ProgramRow) (o : ExeOptions) : Type 0 where
   pub twice : o.allows_twice ≡ row.allow_twice
   pub long : o.allows_long ≡ row.allow_group
   pub near : o.allows_near ≡ row.allow_near
-  pub debug : o.keeps_debug ≡ false
+  pub mixed : o.allows_mixed ≡ false
+  pub code : o.unreached.code ≡ false
+  pub debug : o.unreached.debug ≡ true
 
 -- These files and options have this program.
 pub record IsProgramOfFiles (files : List InputFile) (o : ExeOptions) (m : MadeProgram) : Type 0 where
@@ -65,13 +68,13 @@ pub record AreNotWritten (files : List InputFile) (o : ExeOptions) : Type 0 wher
 abbrev pub HaveNoProgram : List InputFile → ExeOptions → Type 0
 HaveNoProgram files o = GiveNone o.ignore_case files ⊎ AreNotWritten files o
 
--- The lines of what is found and allowed: of names with more than one public, of what is too long, of near references into another frame.
+-- The lines of what is found and allowed: of names with more than one public, of what is too long, of near references into another frame; and that of a stack with another length than is asked for.
 abbrev pub text_if : Option (String Global) → List ℕ
 text_if None = []
 text_if (Some t) = string_bytes t
 
 abbrev pub warnings : MadeProgram → List ℕ
-warnings m = text_if m.repeated ++ (text_if m.long ++ text_if m.near)
+warnings m = text_if m.repeated ++ (text_if m.long ++ (text_if m.near ++ text_if m.stack))
 
 -- The result for a program, with the sizes of the program and of the lines, and 1 if it has no stack.
 abbrev pub program_sizes : ℕ → MadeProgram → List ℕ → Answer

@@ -5,7 +5,8 @@ ghost use Rattle.omf_c.specs.Linking.{IsChipAnswered, of_derive, of_image, of_li
 
 use crate::answer::{Answer, NOTHING, fault_answer, hand_out, reach_answer};
 use omf_cmd::RunFault;
-use omf_linker::link::{ImageFault, Task, shown_text};
+use omf_lines::ImageFault;
+use omf_linker::link::{Task, shown_text};
 use omf_linking::LinkFault;
 use omf_linking::locator::LineFault;
 use omf_linking::space::{MemoryFault, Owner};

@@ -1,10 +1,10 @@
 //! DOS programs of files: modules and libraries, as `omf-link exe` and `omf-link com` make them.
 
 ghost use Rattle.std.specs.Prelude.{◌≡◌, ◌⊎◌, ◌++◌, IfErr, IfOk, OnOk, map};
-ghost use Rattle.omf_linker.specs.Exe.Refusing.{IsRefusalFor, is_out_of_memory};
-ghost use Rattle.omf_linker.specs.declared.exe.refusal.Refusal.TheVariants as refusal;
-ghost use Rattle.omf_linker.specs.declared.link.fault.ImageFault.TheVariants as image;
-ghost use Rattle.omf_linker.specs.declared.link.files_fault.FilesFault.TheVariants as files;
+ghost use Rattle.omf_exe.specs.Refusing.{IsRefusalFor, is_out_of_memory};
+ghost use Rattle.omf_exe.specs.declared.refusal.Refusal.TheVariants as refusal;
+ghost use Rattle.omf_lines.specs.declared.fault.ImageFault.TheVariants as image;
+ghost use Rattle.omf_lines.specs.declared.files_fault.FilesFault.TheVariants as files;
 ghost use Rattle.omf_c.specs.Answers.{done};
 ghost use Rattle.omf_c.specs.Programs.{AreOptionsOf, HandsProgram, HaveNoProgram, IsAnsweredOf, IsFilesAnswered, IsProgramOfFiles, ShowsRefusal, TellsRefusal, file_of, kind_of, order_of, stack_of, text_if, warnings};
 
@@ -12,12 +12,11 @@ use crate::answer::{Answer, NOTHING, hand_out};
 use crate::linking::{MEMORY, unlinked};
 use crate::rows::{FileRow, ProgramRow};
 use crate::tables::flag;
-use omf_linker::exe::{
-    ExeOptions, Leftovers, MadeProgram, Order, ProgramFiles, ProgramKind, Refusal,
-};
-use omf_linker::host::fault_text;
-use omf_linker::link::{FilesFault, ImageFault, InputFile};
-use omf_linking::LinkFault;
+use omf_drafting::host::fault_text;
+use omf_exe::{ExeOptions, Leftovers, MadeProgram, Order, ProgramFiles, ProgramKind, Refusal};
+use omf_lines::{FilesFault, ImageFault};
+use omf_linking::{InputFile, LinkFault};
+use omf_trimming::LeftOut;
 use std::alloc::{AllocError, Global};
 
 /// The file that a row gives.
@@ -59,7 +58,7 @@ fn stack_of(size: u16) -> Option<u16>
 }
 
 /// The order that a row asks for.
-fn order_of(order: u16) -> Option<Order>
+fn order_of<'a>(order: u16) -> Option<Order<'a>>
     ensures { result ≡ order_of order }
 {
     match order {
@@ -76,6 +75,7 @@ fn options_of<'a>(alloc: Global, row: &ProgramRow) -> ExeOptions<'a>
     ExeOptions {
         kind: kind_of(row.is_com),
         map: None,
+        symbols: None,
         folders: Vec::new(alloc),
         default_libraries: false,
         left_out: Vec::new(alloc),
@@ -86,7 +86,11 @@ fn options_of<'a>(alloc: Global, row: &ProgramRow) -> ExeOptions<'a>
         allows_twice: row.allow_twice,
         allows_long: row.allow_group,
         allows_near: row.allow_near,
-        keeps_debug: false,
+        allows_mixed: false,
+        unreached: LeftOut {
+            code: false,
+            debug: true,
+        },
     }
 }
 
@@ -122,6 +126,7 @@ fn warnings(alloc: Global, made: &MadeProgram) -> Result<Vec<u8>, AllocError>
     add_if(&mut lines, &made.repeated)?;
     add_if(&mut lines, &made.long)?;
     add_if(&mut lines, &made.near)?;
+    add_if(&mut lines, &made.stack)?;
     Ok(lines)
 }
 

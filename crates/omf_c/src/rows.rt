@@ -281,7 +281,7 @@ pub struct FileRow<'a> {
 #[repr(C)]
 #[derive(Clone, Copy, Drop)]
 pub struct ProgramRow {
-    /// The bytes of a stack that is added; 0 for none.
+    /// The bytes of the stack; 0 for as many as the modules' own.
     pub stack: u16,
     /// 1 is DOS order of segments, 2 the order of the modules; any other is DOS order if a module asks for it.
     pub order: u16,

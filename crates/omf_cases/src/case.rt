@@ -3,8 +3,8 @@
 use crate::fault::LineFault;
 use crate::text::{push_text, text_of};
 use omf_cmd::{Ended, Omf, run_in_memory};
+use omf_drafting::place::Place;
 use omf_linker::link::Link;
-use omf_linker::place::Place;
 use omf_samples::bytes_of;
 use std::alloc::{AllocError, Global};
 

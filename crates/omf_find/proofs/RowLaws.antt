@@ -48,10 +48,6 @@ part_more old new part rest left all e f h = ap (λ t. t ++ rest) e ∙ append_a
 pub no_part_left : {B : Type 0} (old left all : List B) → left ≡ [] → old ++ left ≡ all → old ≡ all
 no_part_left old left all e h = sym (append-nil old) ∙ ap (λ t. old ++ t) (sym e) ∙ h
 
-pub three_parts : {B : Type 0} (old a b c one two three : List B) → one ≡ old ++ a → two ≡ one ++ b → three ≡ two ++ c → three ≡ old ++ (a ++ (b ++ c))
-three_parts old a b c one two three f g h =
-    h ∙ ap (λ t. t ++ c) (g ∙ ap (λ t. t ++ b) f) ∙ append_assoc (old ++ a) b c ∙ append_assoc old a (b ++ c)
-
 -- the rows of records with their places
 abbrev pub listed_rows : Bool → ℕ → Found → List (Place × Rec) → List NameRow
 listed_rows local number f xs = flat_map (λ x. record_rows local number f x.1.kind x.1.contents) xs

@@ -4,7 +4,7 @@ use Rattle.omf_finding.specs.declared.program.Program.{Program}
 use Rattle.omf_find.specs.Marks.{other, packer}
 use Rattle.omf_find.specs.Mz.{IsMz, IsMzFault, header_fault, is_mz}
 use Rattle.omf_find.specs.declared.loading.Loaded.{Loaded}
-use Rattle.omf_find.specs.declared.loading.Kind.TheVariants as kind
+use Rattle.omf_symbols.specs.declared.tool.Kind.TheVariants as kind
 use Rattle.omf_find.specs.declared.loading.LoadFault.{LoadFault}
 use Rattle.omf_find.specs.declared.loading.LoadFault.TheVariants as fault
 use Rattle.omf_find.specs.declared.mz.Mz.{Mz}

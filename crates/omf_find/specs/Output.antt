@@ -2,11 +2,12 @@
 use Rattle.std.specs.Prelude.{ℕ, List, Option, None, unwrap_or}
 use Rattle.omf_finding.specs.declared.findings.Verdict.{Verdict}
 use Rattle.omf_find.specs.Map.{IsMap}
-use Rattle.omf_find.specs.Symbols.{AreSymbols, usual_load}
+use Rattle.omf_symbols.specs.Tools.{usual_load}
+use Rattle.omf_find.specs.Symbols.{AreSymbols}
 use Rattle.omf_find.specs.declared.asked.Output.{Output}
 use Rattle.omf_find.specs.declared.asked.Output.TheVariants as output
 use Rattle.omf_find.specs.declared.fields.Format.TheVariants as format
-use Rattle.omf_find.specs.declared.loading.Kind.{Kind}
+use Rattle.omf_symbols.specs.declared.tool.Kind.{Kind}
 use Rattle.omf_find.specs.declared.near.Nearly.{Nearly}
 use Rattle.omf_find.specs.declared.reading.Gathered.{Gathered}
 

@@ -6,16 +6,8 @@ ghost use Rattle.omf_host.specs.Outputs.{is_standard};
 use crate::fields::Format;
 use omf_check::Profile;
 use omf_host::number;
+use omf_symbols::{Tool, tool_named};
 use std::alloc::{AllocError, Global};
-
-/// The tools for which symbols are written.
-#[derive(Clone, Copy, Debug, PartialEq, Eq)]
-pub enum Tool {
-    Ghidra,
-    Ida,
-    Radare,
-    Nm,
-}
 
 /// What is written.
 #[derive(Clone, Copy, Debug, PartialEq, Eq)]
@@ -122,17 +114,6 @@ fn word_of(argument: &str) -> Word {
     }
 }
 
-/// The tool that an argument names.
-fn tool_of(argument: &str) -> Option<Tool> {
-    match argument {
-        "ghidra" => Some(Tool::Ghidra),
-        "ida" => Some(Tool::Ida),
-        "r2" => Some(Tool::Radare),
-        "nm" => Some(Tool::Nm),
-        _ => None,
-    }
-}
-
 /// The address that an argument is: hexadecimal digits, alone, after `0x` or before an H.
 fn address_of(argument: &str) -> Option<u32> {
     number(argument.as_bytes(), 8)
@@ -168,7 +149,7 @@ fn take_flag(asked: &mut Asked, word: Word) -> bool {
 /// Takes the value of an option. Returns whether it is one.
 fn take_value(asked: &mut Asked, word: Word, value: &str) -> Result<bool, AllocError> {
     match word {
-        Word::Symbols => match tool_of(value) {
+        Word::Symbols => match tool_named(value) {
             Some(tool) => asked.output = Output::Symbols(tool),
             None => return Ok(false),
         },

@@ -9,19 +9,19 @@ ghost use Rattle.omf_find.specs.declared.near.Nearly.{Nearly};
 ghost use Rattle.omf_host.specs.Ending.{IsPut};
 ghost use Rattle.omf_find.specs.Output.{IsOutput, near_of};
 ghost use Rattle.omf_find.specs.Nearly.{AreNearlyIf};
-ghost use Rattle.omf_find.specs.Symbols.{usual_load};
+ghost use Rattle.omf_symbols.specs.Tools.{usual_load};
 
-use crate::asked::{Asked, Output, Tool, read_arguments};
+use crate::asked::{Asked, Output, read_arguments};
 use crate::fields::Format;
 use crate::lines::{fault_line, fault_object, left_out_objects, note_line};
 use crate::linktext::link_text;
-use crate::loading::{Kind, LoadFault, Loaded, load};
+use crate::loading::{LoadFault, Loaded, load};
 use crate::near::{Nearly, Wanted, nearly_of};
 use crate::parts::Parts;
 use crate::reading::Gathered;
 use crate::report::{Shown, map_text};
 use crate::source::Source;
-use crate::symbols::{symbols_text, usual_load};
+use crate::symbols::symbols_text;
 use omf_finding::{FindOptions, Findings, find};
 use omf_frame::Sink;
 use omf_host::{
@@ -29,6 +29,7 @@ use omf_host::{
     out_of_memory, put, put_unread, put_unwritten, question_in, read_input, refuse_clash,
     standard_streams, warn, write_outputs,
 };
+use omf_symbols::{Kind, Tool, usual_load};
 use std::alloc::{AllocError, Global};
 use std::io;
 use std::mem::forget;

@@ -8,15 +8,8 @@ use crate::marks::{Other, Packer, other_of, packer_of};
 use crate::mz::{Mz, MzFault, is_mz, read_mz};
 use crate::part::after;
 use omf_finding::Program;
+use omf_symbols::Kind;
 use std::alloc::{AllocError, Global};
-
-/// What a program's file is.
-#[derive(Clone, Copy, Debug, PartialEq, Eq)]
-pub enum Kind {
-    Mz,
-    Com,
-    Raw,
-}
 
 /// Why a file is not searched.
 #[derive(Clone, Copy, Debug, PartialEq, Eq)]

@@ -1,7 +1,7 @@
 //! `omf-find`: which modules of object files and libraries are in a program, and where.
 //!
 //! The program is an MZ file, whose image is what DOS loads at paragraph 0 (`specs/Mz`), a .COM file or a raw image (`specs/Loaded`). The
-//! modules are searched for by omf_finding. What is found is shown as a map (`specs/Map`), or as symbols for other tools (`specs/Symbols`).
+//! modules are searched for by omf_finding. What is found is shown as a map (`specs/Map`), or as symbols for other tools (`specs/Symbols`, with omf_symbols).
 #![tactic(auto)]
 
 mod asked;

@@ -6,14 +6,16 @@ use omf_host::About;
 pub(crate) const ABOUT: About = About {
     name: "omf-link",
     colored_name: "\x1B[1;36momf-link\x1B[0m",
-    usage: "usage: omf-link exe -o FILE [--map FILE] [--stack BYTES] [--order dos|input]
-           [--max-alloc PARAGRAPHS] [-L DIR ..] [--library-path DIR ..]
+    usage: "usage: omf-link exe -o FILE [--map FILE] [--symbols TOOL=FILE] [--stack BYTES]
+           [--order ORDER] [--max-alloc PARAGRAPHS] [-L DIR ..]
+           [--library-path DIR ..] [--no-default-libraries]
+           [--no-default-library NAME ..] [--allow group|mixed|near|twice ..]
+           [--ignore-case] [--keep-debug] [--eliminate] FILE ..
+       omf-link com -o FILE [--map FILE] [--symbols TOOL=FILE] [--stack BYTES]
+           [--order ORDER] [-L DIR ..] [--library-path DIR ..]
            [--no-default-libraries] [--no-default-library NAME ..]
-           [--allow group|near|twice ..] [--ignore-case] [--keep-debug] FILE ..
-       omf-link com -o FILE [--map FILE] [--stack BYTES] [--order dos|input]
-           [-L DIR ..] [--library-path DIR ..] [--no-default-libraries]
-           [--no-default-library NAME ..] [--allow group|near|twice ..]
-           [--ignore-case] [--keep-debug] FILE ..
+           [--allow group|mixed|near|twice ..] [--ignore-case] [--keep-debug]
+           [--eliminate] FILE ..
        omf-link image [--allow overlap|align|group|frame|near|twice ..]
            [--ignore-case] [-t TEXT] [-o FILE] [FILE ..]
        omf-link map [--ignore-case] [-t TEXT] [-o FILE] [FILE ..]
@@ -47,11 +49,15 @@ pub(crate) const ABOUT: About = About {
                            standard output
   -t TEXT                  the text with the addresses
   --map FILE               exe, com: the map of the program
-  --stack BYTES            exe, com: a stack of BYTES more bytes: decimal, or 4K
+  --symbols TOOL=FILE      exe, com: the publics and their addresses for a tool:
+                           ghidra, ida, r2 or nm
+  --stack BYTES            exe, com: a stack of BYTES bytes, decimal or as 4K;
+                           one more if that is odd
   --max-alloc PARAGRAPHS   exe: the paragraphs of 16 bytes after the image that
                            DOS is asked for at most (LINK's /CPARMAXALLOC)
-  --order dos|input        exe, com: segments in the order of DOS linkers
-                           (LINK's /DOSSEG), or as they come
+  --order ORDER            exe, com: dos: segments in the order of DOS linkers
+                           (LINK's /DOSSEG); input: as they come; a list of
+                           classes as CODE,DATA,BSS: these first, in this order
   -L DIR, --library-path DIR
                            exe, com: a folder for files, and for libraries that
                            modules ask for; the folders of the variable LIB come
@@ -60,14 +66,17 @@ pub(crate) const ABOUT: About = About {
   --no-default-library NAME
                            exe, com: without the library of this name
   --allow KIND             a warning in place of a fault of this kind, for exe
-                           and com: group (more than 64 KB), near (a near call
-                           or jump into another frame), twice (a name that two
+                           and com: group (more than 64 KB), mixed (one segment
+                           of 16-bit and 32-bit parts), near (a near call or
+                           jump into another frame), twice (a name that two
                            modules define and none asks for); for image, bin,
-                           hex and srec also overlap, align and frame
+                           hex and srec also overlap, align and frame, not mixed
   --ignore-case            ignore the case of publics, externals and communals,
                            and show them in lower case
   --keep-debug             exe, com: with the segments of debug information
                            (classes DEBSYM, DEBTYP, DWARF) in memory
+  --eliminate              exe, com: without the segments of code that nothing
+                           reaches from the start and from data
   --base ADDRESS           bin: the address of the first byte; draft: of the
                            first segment (default 10000)
   --size SIZE              bin: the number of bytes, hexadecimal, or as 64K

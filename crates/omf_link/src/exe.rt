@@ -5,11 +5,13 @@ ghost use Rattle.std.specs.Prelude.{◌≡◌, IfSome, Some, is_some, option_map
 use crate::about::ABOUT;
 use crate::folders::Folders;
 use crate::libraries::{Search, Sources};
+use crate::missing::{Missing, lines_of};
+use omf_drafting::asked::{Asked, sorted};
+use omf_drafting::host::write_or_tell;
+use omf_exe::host::tell_refusal;
+use omf_exe::{Call, ExeOptions, Leftovers, MadeProgram, Refusal, call_of};
 use omf_frame::Sink;
-use omf_host::{OutputFile, RunFiles, Status, Streams, misused_by, refuse_clash, warn};
-use omf_linker::asked::{Asked, sorted};
-use omf_linker::exe::{Call, ExeOptions, Leftovers, MadeProgram, Refusal, call_of, missing_lines};
-use omf_linker::host::{tell_refusal, write_or_tell};
+use omf_host::{OutputFile, RunFiles, Status, Streams, misused_by, put_quoted, refuse_clash, warn};
 use std::alloc::AllocError;
 
 /// The warning of a program without a stack.
@@ -19,22 +21,23 @@ const NO_STACK: &str = "no stack: SS:SP is 0:0 from the load address\n";
 fn refuse<K, E: Sink>(
     rt: &HostRuntime,
     refusal: &Refusal,
-    missing: &[Vec<u8>],
+    missing: &[Missing],
     streams: &mut Streams<K, E>,
 ) -> Result<Status, AllocError> {
     let status = tell_refusal(rt.alloc(), streams, refusal)?;
     if let Refusal::Undefined(_) = refusal {
-        let lines = missing_lines(rt.alloc(), missing)?;
+        let lines = lines_of(rt.alloc(), missing)?;
         streams.report(rt.alloc(), lines.as_bytes())?;
     }
     Ok(status)
 }
 
-/// The names of the files of a program and its map.
+/// The names of the files of a program, its map and its symbols.
 #[derive(Clone, Copy)]
 struct Output<'a> {
     name: &'a str,
     map: Option<&'a str>,
+    symbols: Option<&'a str>,
 }
 
 /// The program as an output.
@@ -62,6 +65,63 @@ fn map_file<'a>(made: &'a MadeProgram, name: Option<&'a str>) -> Option<OutputFi
     }
 }
 
+/// The symbols as an output under a name, if they are made.
+fn symbols_file<'a>(made: &'a MadeProgram, name: Option<&'a str>) -> Option<OutputFile<'a>>
+    ensures name { IfSome result (λ f. option_map (λ n. n.now) name.entry ≡ Some f.name.now) }
+    ensures bytes { is_some name.entry ≡ true → option_map (λ f. f.bytes.now) result ≡ option_map (λ m. m.items) made.entry.now.symbols }
+{
+    match name {
+        Some(name) => match &made.symbols {
+            Some(symbols) => Some(OutputFile {
+                name,
+                bytes: symbols,
+            }),
+            None => None,
+        },
+        None => None,
+    }
+}
+
+/// Writes symbols, and then a program and its map. If the symbols are not written, nothing is; else a line shows that they are. Returns `Done`; or
+/// `Failed`, after a line on why, if one could not be written.
+fn write_three<K: Sink, E: Sink>(
+    rt: &HostRuntime,
+    program: OutputFile<'_>,
+    map: OutputFile<'_>,
+    symbols: OutputFile<'_>,
+    streams: &mut Streams<K, E>,
+) -> Result<Status, AllocError> {
+    let status = write_or_tell(rt, symbols, None, streams)?;
+    if status != Status::Done {
+        return Ok(status);
+    }
+    let status = write_or_tell(rt, program, Some(map), streams)?;
+    if status != Status::Done {
+        let mut line = String::new(rt.alloc());
+        put_quoted(&mut line, symbols.name.as_bytes())?;
+        line.push_str(" is written\n")?;
+        streams.report(rt.alloc(), line.as_bytes())?;
+    }
+    Ok(status)
+}
+
+/// Writes a program, and its map and its symbols, if these are asked for. Returns `Done`; or `Failed`, after a line on why, if one could not be written.
+fn write_files<K: Sink, E: Sink>(
+    rt: &HostRuntime,
+    made: &MadeProgram,
+    output: Output<'_>,
+    streams: &mut Streams<K, E>,
+) -> Result<Status, AllocError> {
+    let program = program_file(made, output.name);
+    let Some(symbols) = symbols_file(made, output.symbols) else {
+        return write_or_tell(rt, program, map_file(made, output.map), streams);
+    };
+    match map_file(made, output.map) {
+        Some(map) => write_three(rt, program, map, symbols, streams),
+        None => write_or_tell(rt, program, Some(symbols), streams),
+    }
+}
+
 /// Writes the warnings of a program. Returns `Done`; or `Failed`, if memory runs out for them.
 fn warn_of<K, E: Sink>(
     rt: &HostRuntime,
@@ -69,7 +129,13 @@ fn warn_of<K, E: Sink>(
     streams: &mut Streams<K, E>,
 ) -> Status {
     let mut status = Status::Done;
-    for lines in [&made.repeated, &made.long, &made.near] {
+    for lines in [
+        &made.repeated,
+        &made.mixed,
+        &made.long,
+        &made.near,
+        &made.stack,
+    ] {
         if let Some(lines) = lines {
             let warned = warn(rt.alloc(), streams, lines.as_bytes());
             status = status.worst(warned);
@@ -82,19 +148,35 @@ fn warn_of<K, E: Sink>(
     status
 }
 
-/// Writes a program, and its map if that is asked for. Returns the status.
+/// Writes a program with what else is asked for, and then its warnings. Returns the status.
 fn write_program<K: Sink, E: Sink>(
     rt: &HostRuntime,
     made: &MadeProgram,
     output: Output<'_>,
     streams: &mut Streams<K, E>,
 ) -> Result<Status, AllocError> {
-    let program = program_file(made, output.name);
-    let status = write_or_tell(rt, program, map_file(made, output.map), streams)?;
+    let status = write_files(rt, made, output, streams)?;
     if status != Status::Done {
         return Ok(status);
     }
     Ok(warn_of(rt, made, streams))
+}
+
+/// Refuses one or two outputs that are one of these inputs, or one another. Returns the status then.
+fn refuse_two<'a, K, E: Sink>(
+    rt: &HostRuntime,
+    inputs: &'a [String],
+    output: &'a str,
+    second: Option<&'a str>,
+    streams: &mut Streams<K, E>,
+) -> Result<Option<Status>, AllocError> {
+    let files = RunFiles {
+        inputs,
+        text: None,
+        output,
+        second,
+    };
+    refuse_clash(rt, streams, files)
 }
 
 /// Refuses outputs that are one of these inputs, or one another. Returns the status then.
@@ -104,13 +186,19 @@ fn refuse_outputs<'a, K, E: Sink>(
     output: Output<'a>,
     streams: &mut Streams<K, E>,
 ) -> Result<Option<Status>, AllocError> {
-    let files = RunFiles {
-        inputs,
-        text: None,
-        output: output.name,
-        second: output.map,
+    if let Some(status) = refuse_two(rt, inputs, output.name, output.map, streams)? {
+        return Ok(Some(status));
+    }
+    let Some(symbols) = output.symbols else {
+        return Ok(None);
     };
-    refuse_clash(rt, streams, files)
+    if let Some(status) = refuse_two(rt, inputs, output.name, Some(symbols), streams)? {
+        return Ok(Some(status));
+    }
+    match output.map {
+        Some(map) => refuse_two(rt, inputs, map, Some(symbols), streams),
+        None => Ok(None),
+    }
 }
 
 /// Makes a program of files with these options, and writes it. Nothing is written if it has a fault. Returns the status.
@@ -167,6 +255,7 @@ pub fn on_words<K: Sink, E: Sink>(
     let output = Output {
         name,
         map: options.map,
+        symbols: options.symbols.map(|symbols| symbols.name),
     };
     with_options(rt, &asked, &options, output, streams)
 }

@@ -1,6 +1,6 @@
 //! The folders in which files and libraries are looked for: the current one, those of the options, and those of the variable LIB.
 
-use omf_linker::exe::{ExeOptions, is_named};
+use omf_exe::ExeOptions;
 use std::alloc::AllocError;
 use std::env::VarError;
 use std::io::ErrorKind;
@@ -17,7 +17,7 @@ pub(crate) struct Folders {
 }
 
 /// None for a failure of the system; but out of memory is an error.
-fn unless_failed<T>(found: io::Result<T>) -> Result<Option<T>, AllocError> {
+pub(crate) fn unless_failed<T>(found: io::Result<T>) -> Result<Option<T>, AllocError> {
     match found {
         Ok(found) => Ok(Some(found)),
         Err(error) if error.kind() == ErrorKind::OutOfMemory => Err(AllocError),
@@ -35,7 +35,7 @@ fn library_variable(rt: &HostRuntime) -> Result<String, AllocError> {
 }
 
 /// Whether there is a file of this name, which is no folder.
-fn is_file(rt: &HostRuntime, path: &str) -> Result<bool, AllocError> {
+pub(crate) fn is_file(rt: &HostRuntime, path: &str) -> Result<bool, AllocError> {
     match unless_failed(fs::metadata(rt, path))? {
         Some(found) => Ok(!found.is_dir()),
         None => Ok(false),
@@ -111,31 +111,4 @@ fn with_ending(rt: &HostRuntime, front: &str, name: &str) -> Result<Option<Strin
         }
     }
     Ok(None)
-}
-
-/// The path of the only file in a folder that is named as a library where case does not count. None if there is none, or if there are several.
-pub(crate) fn without_case(
-    rt: &HostRuntime,
-    front: &str,
-    library: &str,
-) -> Result<Option<String>, AllocError> {
-    let folder = if front.is_empty() { "." } else { front };
-    let Some(entries) = unless_failed(fs::read_dir(rt, folder))? else {
-        return Ok(None);
-    };
-    let mut found = None;
-    for entry in entries {
-        let Some(entry) = unless_failed(entry)? else {
-            continue;
-        };
-        let name = entry.file_name();
-        if !is_named(name, library) {
-            continue;
-        }
-        if found.is_some() {
-            return Ok(None);
-        }
-        found = Some(format!(in rt.alloc(); "{front}{name}")?);
-    }
-    Ok(found)
 }

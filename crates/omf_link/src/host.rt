@@ -12,20 +12,21 @@ use crate::about::ABOUT;
 use crate::mapping::kept_files;
 use crate::{exe, lowering};
 use omf_cmd::Fault;
+use omf_drafting::asked::{Asked, sorted};
+use omf_drafting::host::{perform_on_input, read_or_tell, tell_fault};
 use omf_frame::Sink;
 use omf_host::{
     Progress, RunFiles, Status, Streams, end, explain, misused_by, out_of_memory,
     program_and_arguments, question_with_tasks, refuse_clash, standard_streams, warn,
 };
-use omf_linker::asked::{Asked, sorted};
-use omf_linker::host::{perform_on_input, read_or_tell, tell_fault, write_output_or_tell};
-use omf_linker::link::{
-    FilesFault, ImageFault, InputFile, Link, Output, Task, TextFault, case_in, task_of,
-};
+use omf_lines::{FilesFault, ImageFault, TextFault};
+use omf_linker::host::write_output_or_tell;
+use omf_linker::link::{Link, Output, Task, case_in, task_of};
 use omf_linker::seen::{
-    Allowed, Request, SeenText, allowed_in, files_folded, files_seen, input_folded, input_seen,
-    is_looked_at,
+    Request, SeenText, files_folded, files_seen, input_folded, input_seen, is_looked_at,
 };
+use omf_linking::InputFile;
+use omf_warnings::{Allowed, allowed_in};
 use std::alloc::{AllocError, Global};
 use std::mem;
 use std::process::ExitCode;

@@ -2,14 +2,17 @@
 
 ghost use Rattle.std.specs.Prelude.{◌≡◌};
 
-use crate::folders::{Folders, without_case};
+use crate::folders::Folders;
 use crate::host::read_files;
+use crate::listing::{Listing, has_name, to_read};
+use crate::missing::{Missing, Why};
+use omf_exe::host::read_library;
+use omf_exe::{ExeOptions, ProgramFiles, Refusal};
 use omf_frame::Sink;
 use omf_host::Streams;
-use omf_linker::exe::{ExeOptions, ProgramFiles, Refusal, library_files};
-use omf_linker::host::read_library;
-use omf_linker::link::InputFile;
+use omf_linking::InputFile;
 use std::alloc::AllocError;
+use std::collections::BTreeSet;
 use std::mem::replace;
 use std::str;
 
@@ -26,9 +29,13 @@ pub(crate) struct Sources<'a> {
     /// The names of the libraries that were found.
     pub(crate) libraries: Vec<String>,
     /// The names that were looked for.
-    known: Vec<Vec<u8>>,
+    known: BTreeSet<Vec<u8>>,
     /// Those that were not found.
-    pub(crate) missing: Vec<Vec<u8>>,
+    pub(crate) missing: Vec<Missing>,
+    /// The listings of the folders that were searched, in the order of the search.
+    listings: Vec<Listing>,
+    /// The files that were read, and are no libraries.
+    others: BTreeSet<String>,
 }
 
 /// Which libraries are looked for, and where.
@@ -38,14 +45,22 @@ pub(crate) struct Search<'a, 'b> {
     pub(crate) folders: &'a Folders,
 }
 
-/// Whether a name is one of these.
-fn has_name(names: &[String], name: &str) -> bool {
-    for one in names {
-        if one.as_str() == name {
-            return true;
-        }
-    }
-    false
+/// A folder of a search.
+#[derive(Clone, Copy)]
+struct Folder<'a> {
+    /// Its number in the order of the search, from 0.
+    number: usize,
+    /// What comes before the name of a file in it.
+    front: &'a str,
+}
+
+/// What comes of the search for a library.
+#[derive(Drop)]
+enum Sought {
+    /// It is one of the files, or was read.
+    Taken,
+    /// It is not there; with why no file of its name is taken, if there is one.
+    Missing(Option<Why>),
 }
 
 impl<'a> Sources<'a> {
@@ -58,15 +73,15 @@ impl<'a> Sources<'a> {
         let Some(files) = read_files(rt, names, streams)? else {
             return Ok(None);
         };
-        let libraries = Vec::new(rt.alloc());
-        let known = Vec::new(rt.alloc());
-        let missing = Vec::new(rt.alloc());
+        let alloc = rt.alloc();
         Ok(Some(Sources {
             names,
             files,
-            libraries,
-            known,
-            missing,
+            libraries: Vec::new(alloc),
+            known: BTreeSet::new(alloc),
+            missing: Vec::new(alloc),
+            listings: Vec::new(alloc),
+            others: BTreeSet::new(alloc),
         }))
     }
 
@@ -75,10 +90,13 @@ impl<'a> Sources<'a> {
         has_name(self.names, name) || has_name(&self.libraries, name)
     }
 
-    /// Looks for a library under one name of a file. Returns false if there is none.
+    /// Takes a file, if it is a library. Returns false if it is none.
     fn take_file(&mut self, rt: &HostRuntime, name: String) -> Result<bool, AllocError> {
         if self.has_file(name.as_str()) {
             return Ok(true);
+        }
+        if self.others.contains(name.as_str()) {
+            return Ok(false);
         }
         match read_library(rt, name.as_str())? {
             Some(bytes) => {
@@ -86,11 +104,14 @@ impl<'a> Sources<'a> {
                 self.files.push(InputFile::new(name, bytes))?;
                 Ok(true)
             }
-            None => Ok(false),
+            None => {
+                self.others.insert(name)?;
+                Ok(false)
+            }
         }
     }
 
-    /// Looks for a library in a folder under the first of these names that is one. Returns false if there is none.
+    /// Takes the first of these files in a folder that is a library. Returns false if none is one.
     fn take_first(
         &mut self,
         rt: &HostRuntime,
@@ -105,55 +126,83 @@ impl<'a> Sources<'a> {
         Ok(false)
     }
 
-    /// Looks for a library in a folder; where none of its names is one, without case. Returns false if it is not there.
-    fn take_in(&mut self, rt: &HostRuntime, front: &str, name: &str) -> Result<bool, AllocError> {
-        let names = library_files(rt.alloc(), name)?;
-        if self.take_first(rt, front, &names)? {
-            return Ok(true);
+    /// The files in a folder that are named as a library, where case does not count. The folder is listed, unless it was before.
+    fn files_in(
+        &mut self,
+        rt: &HostRuntime,
+        folder: Folder<'_>,
+        library: &str,
+    ) -> Result<Vec<String>, AllocError> {
+        if self.listings.len() <= folder.number {
+            self.listings.push(Listing::of(rt, folder.front)?)?;
         }
-        match without_case(rt, front, name)? {
-            Some(path) => self.take_file(rt, path),
-            None => Ok(false),
+        match self.listings.get(folder.number) {
+            Some(listing) => listing.files(rt, folder.front, library),
+            None => Ok(Vec::new(rt.alloc())),
         }
     }
 
-    /// Looks for a library in folders. Returns false if it is not there, or if its name leads into another folder.
+    /// Looks for a library in a folder.
+    fn take_in(
+        &mut self,
+        rt: &HostRuntime,
+        folder: Folder<'_>,
+        library: &str,
+    ) -> Result<Sought, AllocError> {
+        let files = self.files_in(rt, folder, library)?;
+        let read = to_read(rt.alloc(), library, &files)?;
+        if self.take_first(rt, folder.front, &read)? {
+            return Ok(Sought::Taken);
+        }
+        Ok(Sought::Missing(Why::of(rt, folder.front, &files, &read)?))
+    }
+
+    /// Looks for a library in folders. It is not there if its name leads into another folder.
     fn take(
         &mut self,
         rt: &HostRuntime,
         folders: &Folders,
         name: &[u8],
-    ) -> Result<bool, AllocError> {
+    ) -> Result<Sought, AllocError> {
+        let mut why = None;
         let Ok(name) = str::from_utf8(name) else {
-            return Ok(false);
+            return Ok(Sought::Missing(why));
         };
         if name.contains('/') {
-            return Ok(false);
+            return Ok(Sought::Missing(why));
         }
-        for front in folders.fronts() {
-            if self.take_in(rt, front.as_str(), name)? {
-                return Ok(true);
+        for (number, front) in folders.fronts().iter().enumerate() {
+            let front = front.as_str();
+            match self.take_in(rt, Folder { number, front }, name)? {
+                Sought::Taken => return Ok(Sought::Taken),
+                Sought::Missing(found) => why = why.or(found),
             }
         }
-        Ok(false)
+        Ok(Sought::Missing(why))
     }
 
-    /// Looks for a library, unless the options leave it out.
+    /// Looks for a library, unless it was looked for before, or the options leave it out.
     fn look_for(
         &mut self,
         rt: &HostRuntime,
         search: Search<'_, '_>,
         name: Vec<u8>,
     ) -> Result<(), AllocError> {
+        if self.known.contains(&name) {
+            return Ok(());
+        }
+        self.known.insert(name.clone()?)?;
         let is_left_out = match str::from_utf8(&name) {
             Ok(text) => search.options.leaves_out(text),
             Err(_) => false,
         };
-        if !is_left_out && !self.take(rt, search.folders, &name)? {
-            self.missing.push(name.clone()?)?;
+        if is_left_out {
+            return Ok(());
         }
-        self.known.push(name)?;
-        Ok(())
+        match self.take(rt, search.folders, &name)? {
+            Sought::Taken => Ok(()),
+            Sought::Missing(why) => Ok(self.missing.push(Missing { name, why })?),
+        }
     }
 
     /// Looks for libraries, and returns those that were found.
@@ -192,7 +241,7 @@ impl<'a> Sources<'a> {
             return Ok(Ok(program));
         }
         for _ in 0..ROUNDS {
-            let names = program.sought(rt.alloc(), &self.known)?;
+            let names = program.sought(rt.alloc(), &[])?;
             let more = self.take_all(rt, search, names)?;
             if more.is_empty() {
                 return Ok(Ok(program));

@@ -8,8 +8,10 @@ mod exe;
 mod folders;
 mod host;
 mod libraries;
+mod listing;
 mod lowering;
 mod mapping;
+mod missing;
 
 use std::process::ExitCode;
 

@@ -1,11 +1,12 @@
 //! The task `map` for files: those that are refused are left out, and each module has a line with its file.
 
 use omf_check::Profile;
+use omf_drafting::host::{read_or_tell, tell_fault};
 use omf_frame::Sink;
 use omf_host::{Progress, Status, Streams};
-use omf_linker::host::{read_or_tell, tell_fault};
-use omf_linker::link::{FilesFault, ImageFault, InputFile, Output, file_front};
-use omf_linking::{LinkFault, file_modules};
+use omf_lines::{FilesFault, ImageFault, file_front};
+use omf_linker::link::Output;
+use omf_linking::{InputFile, LinkFault, file_modules};
 use std::alloc::{AllocError, Global};
 use std::fmt::Write;
 

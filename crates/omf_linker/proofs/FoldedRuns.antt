@@ -12,9 +12,9 @@ use Rattle.omf_linking.specs.File.{InputFile}
 use Rattle.omf_linker.specs.Link.Files.{AreLabeled, IsFileRefused}
 use Rattle.omf_linker.specs.Link.Folded.{AreFilesFolded, IsShownFolded, IsShownFoldedAs}
 use Rattle.omf_linker.specs.Link.Shown.{AreShown}
-use Rattle.omf_linker.specs.declared.link.fault.ImageFault.{ImageFault}
-use Rattle.omf_linker.specs.declared.link.files_fault.FilesFault.{FilesFault}
-use Rattle.omf_linker.specs.declared.link.files_fault.FilesFault.TheVariants as fault
+use Rattle.omf_lines.specs.declared.fault.ImageFault.{ImageFault}
+use Rattle.omf_lines.specs.declared.files_fault.FilesFault.{FilesFault}
+use Rattle.omf_lines.specs.declared.files_fault.FilesFault.TheVariants as fault
 use Rattle.omf_linker.specs.declared.link.words.Task.{Task}
 
 pub not-folded : (t : Task) (files : List InputFile) (text : List ℕ) (e : FilesFault) → IsFileRefused files e → AreFilesFolded t files text (Err e)

@@ -6,10 +6,11 @@ use Rattle.omf_check.specs.Module.{Module}
 use Rattle.omf_linking.specs.File.{InputFile}
 use Rattle.omf_linking.specs.Files.{HaveModules, IsFile, IsFirstAtFault}
 use Rattle.omf_linking.specs.declared.fault.LinkFault.{LinkFault}
-use Rattle.omf_linker.specs.Link.Files.{AreLabeled, IsFileNamed, IsFileRefused, module_label, module_labels}
+use Rattle.omf_linker.specs.Link.Files.{AreLabeled, IsFileRefused, module_label, module_labels}
+use Rattle.omf_lines.specs.Files.{IsFileNamed}
 use Rattle.omf_linker.specs.Link.Linked.{any}
 use Rattle.omf_linker.specs.Inner.Gathering.{AreAdded}
-use Rattle.omf_linker.specs.declared.link.files_fault.FilesFault.{FilesFault}
+use Rattle.omf_lines.specs.declared.files_fault.FilesFault.{FilesFault}
 use Rattle.omf_linker.specs.declared.link.labels.LabeledModules.{LabeledModules}
 use Rattle.omf_linker.proofs.LinkFiles.{at_file}
 

@@ -1,17 +1,15 @@
 -- What a task shows of files, from its steps.
-use Rattle.std.proofs.Common.{◌≡◌, ℕ, List, refl, sym, ap, subst, ◌∙◌, inl, inr}
+use Rattle.std.proofs.Common.{◌≡◌, ℕ, List, sym, ap, subst, ◌∙◌, inl, inr}
 use Rattle.std.specs.Prelude.{Result, Ok, Err, string_bytes}
-use Rattle.omf_cmd.specs.Printed.{line}
 use Rattle.omf_linking.specs.File.{InputFile}
 use Rattle.omf_check.specs.Module.{Module, typed_modules}
 use Rattle.omf_linking.specs.Files.{IsFirstAtFault}
 use Rattle.omf_linking.specs.declared.fault.LinkFault.{LinkFault}
-use Rattle.omf_linking.specs.declared.fault.LinkFault.TheVariants as link
-use Rattle.omf_linker.specs.Link.Faults.{link_words}
-use Rattle.omf_linker.specs.Link.Files.{AreFilesShown, AreLabeled, IsFileNamed, IsFileRefused, IsShownAs, file_front, file_line}
+use Rattle.omf_linker.specs.Link.Files.{AreFilesShown, AreLabeled, IsFileRefused, IsShownAs}
+use Rattle.omf_lines.specs.Files.{IsFileNamed, file_front}
 use Rattle.omf_linker.specs.Link.Linked.{any}
-use Rattle.omf_linker.specs.declared.link.files_fault.FilesFault.{FilesFault}
-use Rattle.omf_linker.specs.declared.link.files_fault.FilesFault.TheVariants as fault
+use Rattle.omf_lines.specs.declared.files_fault.FilesFault.{FilesFault}
+use Rattle.omf_lines.specs.declared.files_fault.FilesFault.TheVariants as fault
 use Rattle.omf_linker.specs.declared.link.words.Task.{Task}
 
 -- the first file at fault, by its name
@@ -32,16 +30,3 @@ pub from_modules : (t : Task) (files : List InputFile) (text : List ℕ) (ms : L
 from_modules t files text ms labels (Ok shown) h i = (ms, labels, h, i)
 from_modules t files text ms labels (Err (fault.Link f)) h i = inl (ms, labels, h, i)
 from_modules t files text ms labels (Err (fault.File f front)) h i = absurd i
-
--- the line of any other fault of a file is that of the link fault
-pub rest_of_line : (f : LinkFault) → ((at : ℕ) → f ≡ link.NoText at → ⊥) → line (link_words f) ≡ file_line f
-rest_of_line link.Memory other = refl
-rest_of_line link.Read other = refl
-rest_of_line (link.Refused j why at) other = refl
-rest_of_line (link.NoText at) other = absurd (other at refl)
-rest_of_line link.NoModules other = refl
-rest_of_line (link.Line n why) other = refl
-rest_of_line (link.External f) other = refl
-rest_of_line (link.Reach j f) other = refl
-rest_of_line (link.Starts j k) other = refl
-rest_of_line (link.Space f) other = refl

@@ -5,8 +5,8 @@ use Rattle.std.specs.Str.{bytes_eq}
 use Rattle.clap.specs.Words.{Kinds, Row, Text, fault_of, is_simple_and_free, subcommand_of}
 use Rattle.clap.specs.declared.error.kind.ErrorKind.{ErrorKind}
 use Rattle.clap.proofs.OnLiterals.{clap_on_literals}
-use Rattle.omf_linker.specs.declared.options.AskedOptions.{AskedOptions}
-use Rattle.omf_linker.specs.Options.{AreNamed, NameOnly}
+use Rattle.omf_drafting.specs.declared.options.AskedOptions.{AskedOptions}
+use Rattle.omf_drafting.specs.Options.{AreNamed, NameOnly}
 use Rattle.omf_output.specs.declared.rom.form.Form.{Form}
 use Rattle.omf_linker.specs.Link.FormWords.{IsFormNamed}
 use Rattle.omf_linker.specs.Link.Words.{IsNamedIn, IsOnlyAsked, IsTask, NamesBy, link_app}

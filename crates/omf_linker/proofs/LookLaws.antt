@@ -15,15 +15,16 @@ use Rattle.omf_linking.specs.PlainText.{plain_text}
 use Rattle.omf_linking.specs.Reading.{AreModules}
 use Rattle.omf_linker.specs.Link.Files.{AreLabeled}
 use Rattle.omf_linker.specs.Link.Linked.{any}
-use Rattle.omf_linker.specs.Seen.Lines.{AddsLine, AreLines, HasLines, IsLine, IsNearLine, align_line, frames_line, group_line, overlap_line, selector_line}
+use Rattle.omf_warnings.specs.Lines.{AddsLine, AreLines, HasLines, IsLine, align_line, frames_line, group_line, overlap_line, selector_line}
+use Rattle.omf_lines.specs.Strays.{IsNearLine}
 use Rattle.omf_linker.specs.Seen.Looks.{AreFoundAt, AreLooked, AreLookedFolded, AreLookedFrom, AreLookedIn, AreLookedOf, ArePlaced, Looks}
 use Rattle.omf_linker.specs.declared.link.running.ShownAt.{ShownAt}
 use Rattle.omf_linker.specs.declared.link.words.Task.{Task}
-use Rattle.omf_linker.specs.declared.seen.allowed.Allowed.{Allowed}
+use Rattle.omf_warnings.specs.declared.allowed.Allowed.{Allowed}
 use Rattle.omf_linker.specs.declared.seen.files.SeenLines.{SeenLines}
 use Rattle.omf_linker.specs.declared.seen.files.SeenText.{SeenText}
-use Rattle.omf_linker.specs.declared.seen.finding.Finding.{Finding as Found}
-use Rattle.omf_linker.specs.declared.seen.finding.Finding.TheVariants.{Overlap, Align, Group, Frames, Selector, Near}
+use Rattle.omf_warnings.specs.declared.finding.Finding.{Finding as Found}
+use Rattle.omf_warnings.specs.declared.finding.Finding.TheVariants.{Overlap, Align, Group, Frames, Selector, Near}
 
 -- ---- lines
 

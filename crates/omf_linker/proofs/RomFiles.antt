@@ -7,15 +7,15 @@ use Rattle.omf_records.specs.Values.{Rec}
 use Rattle.omf_linking.specs.declared.fault.LinkFault.{LinkFault}
 use Rattle.omf_linking.specs.declared.space.stretch.Owner.{Owner}
 use Rattle.omf_output.specs.declared.rom.form.Form.{Form}
-use Rattle.omf_linker.specs.Link.Faults.{IsNamed, is_of_modules}
-use Rattle.omf_linker.specs.Link.Named.{HasLines, outside_line}
+use Rattle.omf_lines.specs.Faults.{IsNamed, is_of_modules}
+use Rattle.omf_lines.specs.Named.{HasLines, outside_line}
 use Rattle.omf_linker.specs.Link.Linked.{AreLinkedUp, IsFirstFault}
 use Rattle.omf_linker.proofs.LinkedModules.{together}
 use Rattle.omf_linker.specs.Link.Rom.{IsLinkedFile, IsOwned, IsRom, first_owner, linked_owner}
 use Rattle.omf_output.specs.Rom.Memory.{IsFirstOutside}
 use Rattle.omf_image.specs.Overlay.{byte_at}
-use Rattle.omf_linker.specs.declared.link.fault.ImageFault.{ImageFault}
-use Rattle.omf_linker.specs.declared.link.fault.ImageFault.TheVariants as fault
+use Rattle.omf_lines.specs.declared.fault.ImageFault.{ImageFault}
+use Rattle.omf_lines.specs.declared.fault.ImageFault.TheVariants as fault
 use Rattle.omf_linker.specs.declared.link.linking.LinkedModules.{LinkedModules}
 
 -- linked modules

@@ -1,13 +1,3 @@
-pub mod Aliases
-pub mod AliasRows
-pub mod Asked
-pub mod Options
-pub mod Suiting
-pub mod Drafting
-pub mod Map
 pub mod Link
-pub mod Place
-pub mod Exe
 pub mod Seen
-pub mod Telling
 pub mod Inner

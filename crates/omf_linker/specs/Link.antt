@@ -3,12 +3,6 @@ pub mod Linked
 pub mod Mapped
 pub mod Rom
 pub mod Drafted
-pub mod Unresolved
-pub mod Repeated
-pub mod Near
-pub mod TextLines
-pub mod Named
-pub mod Faults
 pub mod Shown
 pub mod Runs
 pub mod FormWords
@@ -17,3 +11,4 @@ pub mod Files
 pub mod Case
 pub mod Folded
 pub mod Rows
+pub mod Usage

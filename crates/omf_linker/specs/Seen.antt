@@ -1,9 +1,1 @@
-pub mod Overlaps
-pub mod Long
-pub mod Lying
-pub mod Wide
-pub mod Frames
-pub mod RealMode
-pub mod Unseen
-pub mod Lines
 pub mod Looks

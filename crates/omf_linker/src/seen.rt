@@ -1,29 +1,8 @@
-//! What a link text does that may not be meant: segments with addresses in common, addresses that break an
-//! alignment, groups that are too long, parts of one segment in different frames, and near references into another frame.
+//! What the tasks of `omf-link` print about what a link text does that may not be meant: the lines of what `omf_warnings` finds, as faults or
+//! as warnings.
 
-mod allowed;
 mod files;
-mod finding;
 mod folded;
-mod frames;
-mod lines;
-mod long;
-mod real;
-pub mod rows;
-mod span;
-mod spans;
-mod sweep;
-mod wide;
 
-pub use allowed::{Allowed, allowed_in};
 pub use files::{Request, SeenLines, SeenText, files_seen, input_seen, is_looked_at};
-pub use finding::{Finding, Range, first_misaligned, unseen};
 pub use folded::{files_folded, input_folded};
-pub use frames::{Framed, first_split};
-pub(crate) use lines::{put_line, put_range};
-pub use long::first_long;
-pub use real::first_unreal;
-pub use span::{Sharing, Span};
-pub use spans::spans_of;
-pub use sweep::first_overlap;
-pub use wide::{FarMember, first_wide};

@@ -2,6 +2,7 @@
 use Rattle.std.proofs.Common.{◌≡◌, ℕ, ◌+◌, ◌<◌, inl, inr, Bool, true, false, cond, List, [], ◌∷◌, ◌++◌, refl, sym, ap, subst, ◌∙◌, length, append_assoc, append-nil, arith, None, Result, Ok, Err}
 use Rattle.std.specs.Prelude.{IsTrue, not, All, flat_map, fold, Option, Some, ◌&&◌, ◌==◌}
 use Rattle.std.specs.List.{list_all, list_any}
+use Rattle.std.specs.Option.{option_or}
 use Rattle.std.proofs.lemmas.Bool.{eqb-true, eq-eqb, or_cases, or_left, or_right, ltb-true}
 use Rattle.std.proofs.lemmas.Grind.{flat_map-append}
 use Rattle.std.proofs.lemmas.List.Elements.{All-append, All-head, All-tail, All-cons, All-nil}
@@ -26,9 +27,12 @@ use Rattle.omf_check.specs.declared.profile.Profile.{Profile}
 use Rattle.omf_check.proofs.Moving.{item_more}
 use Rattle.omf_check.proofs.WellLaws.{well-read}
 use Rattle.omf_lowering.specs.Comdats.{given_by, made, new_of}
-use Rattle.omf_lowering.specs.Lowering.{Before, IsLowered, IsWideRecord, comdat_of, fault_of, faults_in, growths, growths_in, is_bakpat, is_cextdef, is_comdat, is_nbkpat, is_late, is_segdef, lowered_records, lowering_fault, patches_in, pieces, replaced, replacement, so_far, start, up_to_next}
+use Rattle.omf_lowering.specs.Lowering.{Before, IsLowered, IsWideRecord, comdat_of, fault_of, faults_in, growths, growths_in, is_bakpat, is_cextdef, is_comdat, is_nbkpat, is_late, is_segdef, lowered_records, lowering_fault, named_fault, patches_in, pieces, replaced, replacement, so_far, start, thread_fault, up_to_next}
 use Rattle.omf_lowering.specs.Patches.{patched}
+use Rattle.omf_lowering.specs.Unrolled.{after_records}
+use Rattle.omf_lowering.specs.Values.{Tables}
 use Rattle.omf_lowering.specs.Wide.{is_known, is_right}
+use Rattle.omf_lowering.proofs.StayLaws.{Same, accepted_rolled}
 
 -- each of a list of numbers passes a test, so one of them does
 by_list : (test : ℕ → Bool) (ks : List ℕ) (k : ℕ) → list_all test ks ≡ true → list_any (λ n. n == k) ks ≡ true → test k ≡ true
@@ -93,9 +97,9 @@ second : {A : Type 0} (a : Bool) (x y : A) → a ≡ false → cond a x y ≡ y
 second false x y e = refl
 second true x y e = absurd cc
 
-unfaulty : (r : Result Contents Fault) → fault_list r ≡ [] → fault_of r ≡ None
-unfaulty (Ok c) e = refl
-unfaulty (Err f) e = absurd cc
+unfaulty : (t : Tables) (r : Result Contents Fault) → fault_list r ≡ [] → named_fault t [] r ≡ None
+unfaulty t (Ok c) e = refl
+unfaulty t (Err f) e = absurd cc
 
 abbrev IsTaken : Raw → Type 0
 IsTaken r = IsTrue (is_taken r.kind)
@@ -124,12 +128,14 @@ sound_one : (before : List Raw) (r : Raw) → All IsTaken before → IsTaken r �
 sound_one before r earlier taken spelled =
     let p = plain r.kind taken in
     let b = so_far before in
-    let own : Option Fault = cond (is_taken r.kind) (fault_of (read_body r.kind r.body)) None in
-    let late : is_late b.instances r.kind ≡ false = ap (λ i. is_late i r.kind) (no_instances start before earlier) ∙ and_never (is_segdef r.kind) in
-    fifth (is_cextdef r.kind) (is_bakpat r.kind) (is_nbkpat r.kind) (is_comdat r.kind) _ _ _ (fault_of (comdat_of b r)) (cond (is_late b.instances r.kind) (Some (fault 0 reason.UnsupportedType)) own) p.cextdef p.bakpat p.nbkpat p.comdat
+    let own : Option Fault = cond (is_taken r.kind) (named_fault b.tables b.instances (read_body r.kind r.body)) None in
+    let none : b.instances ≡ [] = no_instances start before earlier in
+    let late : is_late b.instances r.kind ≡ false = ap (λ i. is_late i r.kind) none ∙ and_never (is_segdef r.kind) in
+    fifth (is_cextdef r.kind) (is_bakpat r.kind) (is_nbkpat r.kind) (is_comdat r.kind) _ _ _ (option_or (fault_of (comdat_of b r)) (thread_fault b)) (cond (is_late b.instances r.kind) (Some (fault 0 reason.UnsupportedType)) own) p.cextdef p.bakpat p.nbkpat p.comdat
     ∙ second (is_late b.instances r.kind) (Some (fault 0 reason.UnsupportedType)) own late
-    ∙ ap (λ t. cond t (fault_of (read_body r.kind r.body)) None) taken
-    ∙ unfaulty (read_body r.kind r.body) (are_typed r (typed r) refl spelled).1
+    ∙ ap (λ t. cond t (named_fault b.tables b.instances (read_body r.kind r.body)) None) taken
+    ∙ ap (λ i. named_fault b.tables i (read_body r.kind r.body)) none
+    ∙ unfaulty b.tables (read_body r.kind r.body) (are_typed r (typed r) refl spelled).1
 
 sound_all : (before xs : List Raw) → All IsTaken before → All IsTaken xs → All IsSpelled xs → with_before (λ b r. faults_in (lowering_fault b r)) before xs ≡ []
 sound_all before [] earlier taken spelled = refl
@@ -203,6 +209,7 @@ accepted profile limits input records a =
     let bytes : a.bytes ≡ flat_map raw_bytes (front ++ end ∷ []) = w.framed.spelled ∙ ap (flat_map raw_bytes) is in
     let parts : flat_map raw_bytes (front ++ end ∷ []) ≡ flat_map raw_bytes front ++ raw_bytes end =
     flat_map-append raw_bytes front (end ∷ []) ∙ ap (λ e. flat_map raw_bytes front ++ e) (append-nil (raw_bytes end)) in
+    let rolled : Same profile limits records = accepted_rolled profile limits input records a in
     record {
       before = front;
       end = end;
@@ -217,5 +224,7 @@ accepted profile limits input records a =
       last = wide_one end (All-last IsRecord front end each) (All-last IsTaken front end taken);
       ends = l.3;
       sound = sound_one front end (All-front IsTaken front (end ∷ []) taken) (All-last IsTaken front end taken) (All-last IsSpelled front end spelled);
-      lowered = bytes ∙ ap (flat_map raw_bytes) (sym (same_records (front ++ end ∷ []) taken));
+      after = rolled.last;
+      unrolled = ap after_records (same_records (front ++ end ∷ []) taken ∙ sym is) ∙ rolled.is;
+      lowered = bytes ∙ ap (flat_map raw_bytes) (sym is ∙ sym rolled.same);
     }

@@ -1,20 +1,25 @@
 -- A record without a framing fault is at the front of its bytes, and the records so far with one more.
-use Rattle.std.proofs.Common.{◌≡◌, ℕ, ◌+◌, ◌*◌, ◌-◌, ◌/◌, ◌%◌, ◌<◌, ◌≤◌, Bool, true, false, cond, ltb, eqb, List, [], ◌∷◌, ◌++◌, Option, Some, None, refl, sym, ap, subst, ◌∙◌, length, take, drop, arith, length-append, append_assoc, append-nil}
-use Rattle.std.specs.Prelude.{slice_index, IsTrue, not, flat_map}
+use Rattle.std.proofs.Common.{◌≡◌, ◌⊎◌, inl, inr, ℕ, ◌+◌, ◌*◌, ◌-◌, ◌/◌, ◌%◌, ◌<◌, ◌≤◌, Bool, true, false, cond, ltb, eqb, List, [], ◌∷◌, ◌++◌, Option, Some, None, refl, sym, ap, subst, ◌∙◌, length, take, drop, arith, length-append, append_assoc, append-nil}
+use Rattle.std.specs.Prelude.{slice_index, IsTrue, not, flat_map, nat_lt, ◌||◌}
 use Rattle.std.specs.Option.{option_or}
-use Rattle.std.proofs.lemmas.Bool.{ltb-false, eqb-false, lt-ltb, le-ltb}
+use Rattle.std.proofs.lemmas.Bool.{ltb-false, ltb-true, eqb-false, lt-ltb, le-ltb}
 use Rattle.std.proofs.lemmas.Grind.{flat_map-append}
 use Rattle.std.proofs.lemmas.List.{length-take, take_more, take-append-drop}
 use Rattle.std.proofs.lemmas.List.Elements.{All-append, All-nil}
 use Rattle.omf_frame.specs.Bytes.{AreBytes}
 use Rattle.omf_frame.specs.Framing.{Raw, raw_bytes, after_front, front_record, is_end}
+use Rattle.omf_frame.specs.declared.fault.Place.{Place}
 use Rattle.omf_frame.specs.declared.fault.Reason.TheVariants as reason
 use Rattle.omf_frame.proofs.ModuleLaws.{all_one}
 use Rattle.omf_records.specs.Layout.{fault}
 use Rattle.omf_check.specs.Rules.{item_limit}
 use Rattle.omf_lowering.specs.Wide.{framing_fault, is_known, is_right}
-use Rattle.omf_lowering.specs.Inner.State.{State, IsOpen, IsRead, IsStop, added, refusal, state_of}
-use Rattle.omf_lowering.specs.Lowering.{BeginsWith, IsWideRecord, IsRefused, IsLoweringFault, fault_by, faults, faults_in, lowering_fault}
+use Rattle.omf_lowering.specs.Inner.Rolling.{IsBytesOf, IsHalt, IsHaltOf}
+use Rattle.omf_lowering.specs.Inner.State.{State, IsOpen, IsRead, IsStop, added, excess, refusal, state_of}
+use Rattle.omf_lowering.specs.Lowering.{BeginsWith, HasFault, HasFixupFault, IsLowered, IsNotUnrolled, IsOrigin, IsWideRecord, IsLoweringFault, fault_by, faults, faults_in, lowered_records, lowering_fault}
+use Rattle.omf_lowering.specs.Patches.{patched}
+use Rattle.omf_lowering.specs.Unrolled.{after_records}
+use Rattle.omf_lowering.specs.declared.fault.LoweringFault.{LoweringFault}
 use Rattle.omf_lowering.specs.declared.fault.Stop.{Stop}
 use Rattle.omf_lowering.specs.declared.fault.Stop.TheVariants as stop
 use Rattle.omf_lowering.proofs.StateLaws.{faults-more, state-more}
@@ -135,7 +140,7 @@ pub stopped_at : (input rest : List ℕ) (number start : ℕ) (s : State) (why :
 stopped_at input rest number start s stop.Memory o few at is = tt
 stopped_at input rest number start s (stop.At e) o few at is =
     let below : ltb (length o.before) item_limit ≡ true = lt-ltb (length o.before) item_limit (subst (λ n. n < item_limit) o.count few) in
-    record {
+    let own : HasFault input e.reason (record { number = number; start = start; within = e.within }) = record {
       before = o.before;
       rest = rest;
       begins = o.begins;
@@ -143,17 +148,94 @@ stopped_at input rest number start s (stop.At e) o few at is =
       start = at ∙ offset_of input rest o.before o.begins;
       fault = ap (λ b. cond b (option_or (framing_fault rest) (lowering_fault o.before (front_record rest))) (Some (fault 0 reason.TooMany))) below
           ∙ ap (option_or (framing_fault rest)) (sym (fault_by_state s o.before (front_record rest) o.state)) ∙ is;
-    }
+    } in
+    inl own
 
 pub too_many : (input rest : List ℕ) (number start : ℕ) (s : State) → IsOpen input rest number s → item_limit ≤ number → start ≡ length input - length rest
-    → IsRefused input reason.TooMany (record { number = number; start = start; within = 0 })
-too_many input rest number start s o many at =
+    → number ≡ item_limit → IsLoweringFault input (excess start)
+too_many input rest number start s o many at full =
     let above : ltb (length o.before) item_limit ≡ false = le-ltb (length o.before) item_limit (subst (λ n. item_limit ≤ n) o.count many) in
-    record {
+    let own : HasFault input reason.TooMany (record { number = item_limit; start = start; within = 0 }) = record {
       before = o.before;
       rest = rest;
       begins = o.begins;
-      number = o.count;
+      number = sym full ∙ o.count;
       start = at ∙ offset_of input rest o.before o.begins;
       fault = ap (λ b. cond b (option_or (framing_fault rest) (lowering_fault o.before (front_record rest))) (Some (fault 0 reason.TooMany))) above;
-    }
+    } in
+    inl own
+
+-- the record that gives a lowered record with a number
+pub origin_found : (input rest after : List ℕ) (number start record_number : ℕ) (s t : State) → IsOpen input rest number s → number < item_limit → start ≡ length input - length rest → rest ≡ raw_bytes (front_record rest) ++ after
+    → IsWideRecord (front_record rest) → t ≡ added s (front_record rest) → length s.before.records ≤ record_number → (record_number < length t.before.records) ⊎ (is_end (front_record rest).kind ≡ true)
+    → IsOrigin input record_number (record { number = number; start = start; within = 0 })
+origin_found input rest after number start record_number s t o few at parts wide is from to = record {
+  before = o.before;
+  origin = front_record rest;
+  rest = after;
+  begins = subst (BeginsWith input o.before) parts o.begins;
+  wide = wide;
+  from = subst (λ (u : State). length u.before.records ≤ record_number) o.state from;
+  to = end_or (subst (λ (u : State). (record_number < length u.before.records) ⊎ (is_end (front_record rest).kind ≡ true)) (is ∙ ap (λ u. added u (front_record rest)) o.state ∙ sym (state-more o.before (front_record rest))) to);
+  numbered = o.count;
+  started = at ∙ offset_of input rest o.before o.begins;
+}
+  where
+    end_or : {A : Type 0} → A ⊎ (is_end (front_record rest).kind ≡ true) → A ⊎ IsTrue (is_end (front_record rest).kind)
+    end_or (inl a) = inl a
+    end_or (inr e) = inr (true_is _ e)
+
+pub reached_cases : (ends : Bool) (n m : ℕ) → (ends || nat_lt n m) ≡ true → (n < m) ⊎ (ends ≡ true)
+reached_cases true n m e = inr refl
+reached_cases false n m e = inl (ltb-true n m e)
+
+pub not_reached : (ends : Bool) (n m : ℕ) → (ends || nat_lt n m) ≡ false → (ends ≡ false) × (m ≤ n)
+not_reached true n m e = absurd cc
+not_reached false n m e = (refl, ltb-false n m e)
+
+-- ---- the lowered records, unrolled
+
+pub moved : (input : List ℕ) (number within : ℕ) (p : Place) → IsOrigin input number p → IsOrigin input number (record { number = p.number; start = p.start; within = within })
+moved input number within p o = record { before = o.before; origin = o.origin; rest = o.rest; begins = o.begins; wide = o.wide; from = o.from; to = o.to; numbered = o.numbered; started = o.started }
+
+-- the records with all values added
+abbrev finished : State → List Raw
+finished s = patched (patched s.before.records s.patches) s.growths
+
+all_lowered : (input rest : List ℕ) (s : State) (rs : List Raw) (r : IsRead input rest s) → rs ≡ finished s → rs ≡ lowered_records (r.before ++ r.end ∷ [])
+all_lowered input rest s rs r is = is ∙ ap finished r.state
+
+pub lowered_by : (input rest out : List ℕ) (s : State) (rs : List Raw) → IsRead input rest s → rs ≡ patched (patched s.before.records s.patches) s.growths → IsBytesOf rs out → IsLowered input out rest
+lowered_by input rest out s rs r is b = record {
+  before = r.before;
+  end = r.end;
+  begins = r.begins;
+  few = r.few;
+  last = r.last;
+  ends = r.ends;
+  sound = r.sound;
+  after = b.after;
+  unrolled = ap after_records (sym (all_lowered input rest s rs r is)) ∙ b.unrolled;
+  lowered = b.bytes;
+}
+
+pub halted_by : (input rest : List ℕ) (s : State) (rs : List Raw) (number : ℕ) (why : Stop) (f : LoweringFault) → IsRead input rest s → rs ≡ patched (patched s.before.records s.patches) s.growths
+    → IsHalt rs number why → IsHaltOf input number why f → IsLoweringFault input f
+halted_by input rest s rs number stop.Memory f r is halt of = of
+halted_by input rest s rs number (stop.At e) f r is halt (inl own) = own
+halted_by input rest s rs number (stop.At e) f r is halt (inr (place, fault_is, within, origin)) =
+    let given : IsNotUnrolled input e.reason place = record {
+      before = r.before;
+      end = r.end;
+      rest = rest;
+      begins = r.begins;
+      few = r.few;
+      last = r.last;
+      ends = r.ends;
+      sound = r.sound;
+      number = number;
+      fault = subst (HasFixupFault (lowered_records (r.before ++ r.end ∷ [])) number) (ap (λ w. fault w e.reason) (sym within))
+          (subst (λ l. HasFixupFault l number e) (all_lowered input rest s rs r is) halt);
+      origin = origin;
+    } in
+    subst (IsLoweringFault input) (sym fault_is) (inr given)

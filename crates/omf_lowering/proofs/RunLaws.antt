@@ -1,5 +1,5 @@
 -- The walk over an input gives its records, or its first fault.
-use Rattle.std.proofs.Common.{◌≡◌, ℕ, suc, ◌+◌, ◌*◌, ◌-◌, ◌/◌, ◌%◌, ◌<◌, ◌≤◌, Bool, true, false, cond, ltb, eqb, List, [], ◌∷◌, ◌++◌, Option, Some, None, refl, sym, ap, subst, ◌∙◌, length, take, arith, length-append, append_assoc, append-nil}
+use Rattle.std.proofs.Common.{◌≡◌, inl, inr, Result, Ok, Err, ℕ, suc, ◌+◌, ◌*◌, ◌-◌, ◌/◌, ◌%◌, ◌<◌, ◌≤◌, Bool, true, false, cond, ltb, eqb, List, [], ◌∷◌, ◌++◌, Option, Some, None, refl, sym, ap, subst, ◌∙◌, length, take, arith, length-append, append_assoc, append-nil}
 use Rattle.std.specs.Prelude.{slice_index, IsTrue, not, All, flat_map}
 use Rattle.std.specs.Option.{option_or}
 use Rattle.std.proofs.lemmas.Bool.{le-ltb, lt-ltb, ne_eqb}
@@ -17,31 +17,14 @@ use Rattle.omf_frame.proofs.FramingLaws.{stated, after_raw}
 use Rattle.omf_records.specs.Layout.{fault}
 use Rattle.omf_check.specs.Rules.{item_limit}
 use Rattle.omf_lowering.specs.Inner.Run.{Walked, Done, Stopped, decided, walked}
-use Rattle.omf_lowering.specs.Lowering.{BeginsWith, IsLowered, IsRefused, IsWideRecord, fault_at, faults_in, lowered_records, lowering_fault}
+use Rattle.omf_lowering.specs.Lowering.{BeginsWith, HasFault, HasFixupFault, IsLowered, IsNotUnrolled, IsOrigin, IsRefused, IsWideRecord, fault_at, faults_in, lowered_records, lowering_fault}
+use Rattle.omf_lowering.specs.Unrolled.{Before as Unrolled, after_records}
 use Rattle.omf_lowering.specs.Wide.{framing_fault, is_known, is_right}
+use Rattle.omf_lowering.proofs.WideLaws.{after_is, front_is, small}
+use Rattle.omf_lowering.proofs.OriginLaws.{origin_once}
+use Rattle.omf_lowering.proofs.RollLaws.{fault_once, fault_or_not}
 
--- A record at the front of bytes.
 module _ (r : Raw) (wide : IsWideRecord r) (rest : List ℕ) where
-  small : length r.body + 1 < 65536
-  small = let short = wide.short in omega arith
-
-  after_is : after_front (raw_bytes r ++ rest) ≡ rest
-  after_is = after_raw r small rest
-
-  record_of : ℕ → List ℕ → Raw
-  record_of n bytes = record { kind = r.kind; body = take (n - 1) bytes; checksum = slice_index bytes (n - 1) }
-
-  front_is : front_record (raw_bytes r ++ rest) ≡ r
-  unfolding record_of
-  front_is =
-      let one_less : length r.body + 1 - 1 ≡ length r.body = omega arith in
-      let bytes : List ℕ = r.body ++ (r.checksum ∷ rest) in
-      ap (λ n. record_of n ((r.body ++ r.checksum ∷ []) ++ rest)) (stated r small)
-      ∙ ap (record_of (length r.body + 1)) (append_assoc r.body (r.checksum ∷ []) rest)
-      ∙ ap (λ n. record { kind = r.kind; body = take n bytes; checksum = slice_index bytes n }) one_less
-      ∙ ap (λ b. record { kind = r.kind; body = b; checksum = slice_index bytes (length r.body) }) (take_at r.body (r.checksum ∷ rest) (length r.body) refl)
-      ∙ ap (λ s. record { kind = r.kind; body = r.body; checksum = s }) (get_or-append_seam r.body r.checksum rest 0)
-
   tests : Bool → Bool → Bool → Bool → Fault → Fault → Fault → Fault → Option Fault
   tests known cut empty right f g h i = cond known (cond cut (Some f) (cond empty (Some g) (cond right None (Some h)))) (Some i)
 
@@ -58,11 +41,11 @@ module _ (r : Raw) (wide : IsWideRecord r) (rest : List ℕ) where
   framed =
       let bytes : List ℕ = (r.body ++ r.checksum ∷ []) ++ rest in
       let n : ℕ = (length r.body + 1) % 256 + 256 * ((length r.body + 1) / 256) in
-      let is : n ≡ length r.body + 1 = stated r small in
+      let is : n ≡ length r.body + 1 = stated r (small r wide rest) in
       let size : length bytes ≡ length r.body + 1 + length rest = omega (arith, length-append (r.body ++ r.checksum ∷ []) rest, length-append r.body (r.checksum ∷ [])) in
       let long : ltb (length bytes) n ≡ false = le-ltb (length bytes) n (omega (arith, is, size)) in
       let some : eqb n 0 ≡ false = ne_eqb n 0 (λ z. omega (arith, z, is)) in
-      let right : is_right (front_record (raw_bytes r ++ rest)) ≡ true = ap is_right front_is ∙ wide.right in
+      let right : is_right (front_record (raw_bytes r ++ rest)) ≡ true = ap is_right (front_is r wide rest) ∙ wide.right in
       all_pass (is_known r.kind) (ltb (length bytes) n) (eqb n 0) (is_right (front_record (raw_bytes r ++ rest))) _ _ _ _ wide.known long some right
 
   sound_at : (before : List Raw) → length before < item_limit → lowering_fault before r ≡ None → fault_at before (raw_bytes r ++ rest) ≡ None
@@ -70,7 +53,7 @@ module _ (r : Raw) (wide : IsWideRecord r) (rest : List ℕ) where
       let below : ltb (length before) item_limit ≡ true = lt-ltb (length before) item_limit few in
       ap (λ b. cond b (option_or (framing_fault (raw_bytes r ++ rest)) (lowering_fault before (front_record (raw_bytes r ++ rest)))) (Some (fault 0 reason.TooMany))) below
       ∙ ap (λ f. option_or f (lowering_fault before (front_record (raw_bytes r ++ rest)))) framed
-      ∙ ap (lowering_fault before) front_is ∙ sound
+      ∙ ap (lowering_fault before) (front_is r wide rest) ∙ sound
 
 nothing_in : (f : Option Fault) (more : List Fault) → faults_in f ++ more ≡ [] → (f ≡ None) × (more ≡ [])
 nothing_in None more e = (refl, e)
@@ -113,43 +96,72 @@ walk (x ∷ xs) n before rest each sound none few =
 walk_begun : (input rest : List ℕ) (before : List Raw) (n : ℕ) → BeginsWith input before rest → walked (length before + n) [] input ≡ walked n before rest
 walk_begun input rest before n b = ap (walked (length before + n) []) b.spelled ∙ walk before n [] rest b.each b.sound b.no_end (subst (λ k. k ≤ item_limit) (sym (zero_more (length before))) b.count)
 
-module _ (input out rest : List ℕ) (l : IsLowered input out rest) where
-  pub walk_lowered : (n : ℕ) → walked (length l.before + suc n) [] input ≡ Done (l.before ++ l.end ∷ [])
-  walk_lowered n =
-      let bytes : List ℕ = raw_bytes l.end ++ rest in
-      let front : front_record bytes ≡ l.end = front_is l.end l.last rest in
-      walk_begun input bytes l.before (suc n) l.begins
-      ∙ step (fault_at l.before bytes) (is_end (front_record bytes).kind) l.before _ _ (sound_at l.end l.last rest l.before l.few l.sound) (ap (λ (r : Raw). is_end r.kind) front ∙ l.ends)
-      ∙ ap (λ r. Done (l.before ++ r ∷ [])) front
-    where
-      step : (o : Option Fault) (b : Bool) (before all : List Raw) (others : Walked) → o ≡ None → b ≡ true → decided o b before all others ≡ Done all
-      step None true before all others e f = refl
-      step None false before all others e f = absurd cc
-      step (Some g) b before all others e f = absurd cc
+-- an input begins with records up to a MODEND
+record IsEnded (input : List ℕ) (before : List Raw) (end : Raw) (rest : List ℕ) : Type 0 where
+  begins : BeginsWith input before (raw_bytes end ++ rest)
+  few : length before < item_limit
+  last : IsWideRecord end
+  ends : IsTrue (is_end end.kind)
+  sound : lowering_fault before end ≡ None
 
-module _ (input : List ℕ) (why : Reason) (at : Place) (l : IsRefused input why at) where
-  pub walk_refused : (n : ℕ) → walked (length l.before + suc n) [] input ≡ Stopped l.before (record { within = at.within; reason = why })
-  walk_refused n =
-      walk_begun input l.rest l.before (suc n) l.begins
-      ∙ ap (λ o. decided o (is_end (front_record l.rest).kind) l.before (l.before ++ front_record l.rest ∷ []) (walked n (l.before ++ front_record l.rest ∷ []) (after_front l.rest))) l.fault
+ended_by : (input out rest : List ℕ) (l : IsLowered input out rest) → IsEnded input l.before l.end rest
+ended_by input out rest l = record { begins = l.begins; few = l.few; last = l.last; ends = l.ends; sound = l.sound }
+
+ended_too : (input : List ℕ) (why : Reason) (at : Place) (l : IsNotUnrolled input why at) → IsEnded input l.before l.end l.rest
+ended_too input why at l = record { begins = l.begins; few = l.few; last = l.last; ends = l.ends; sound = l.sound }
+
+walk_ended : (input : List ℕ) (before : List Raw) (end : Raw) (rest : List ℕ) → IsEnded input before end rest → (n : ℕ) → walked (length before + suc n) [] input ≡ Done (before ++ end ∷ [])
+walk_ended input before end rest l n =
+    let bytes : List ℕ = raw_bytes end ++ rest in
+    let front : front_record bytes ≡ end = front_is end l.last rest in
+    walk_begun input bytes before (suc n) l.begins
+    ∙ step (fault_at before bytes) (is_end (front_record bytes).kind) before _ _ (sound_at end l.last rest before l.few l.sound) (ap (λ (r : Raw). is_end r.kind) front ∙ l.ends)
+    ∙ ap (λ r. Done (before ++ r ∷ [])) front
+  where
+    step : (o : Option Fault) (b : Bool) (before all : List Raw) (others : Walked) → o ≡ None → b ≡ true → decided o b before all others ≡ Done all
+    step None true before all others e f = refl
+    step None false before all others e f = absurd cc
+    step (Some g) b before all others e f = absurd cc
+
+walk_refused : (input : List ℕ) (why : Reason) (at : Place) (l : HasFault input why at) (n : ℕ) → walked (length l.before + suc n) [] input ≡ Stopped l.before (record { within = at.within; reason = why })
+walk_refused input why at l n =
+    walk_begun input l.rest l.before (suc n) l.begins
+    ∙ ap (λ o. decided o (is_end (front_record l.rest).kind) l.before (l.before ++ front_record l.rest ∷ []) (walked n (l.before ++ front_record l.rest ∷ []) (after_front l.rest))) l.fault
 
 same_sum : (a b : ℕ) → a + suc b ≡ b + suc a
 same_sum a b = omega arith
 
+done_once : (xs ys : List Raw) → Done xs ≡ Done ys → xs ≡ ys
+done_once xs ys e = cc
+
+same_records : (input : List ℕ) (xs ys : List Raw) (x y : Raw) (rest other : List ℕ) → IsEnded input xs x rest → IsEnded input ys y other → xs ++ x ∷ [] ≡ ys ++ y ∷ []
+same_records input xs ys x y rest other k l =
+    done_once (xs ++ x ∷ []) (ys ++ y ∷ [])
+    (sym (walk_ended input xs x rest k (length ys)) ∙ ap (λ n. walked n [] input) (same_sum (length xs) (length ys)) ∙ walk_ended input ys y other l (length xs))
+
+not_both : (input : List ℕ) (xs : List Raw) (x : Raw) (rest : List ℕ) (why : Reason) (at : Place) → IsEnded input xs x rest → HasFault input why at → ⊥
+not_both input xs x rest why at k l =
+    let same : Done (xs ++ x ∷ []) ≡ Stopped l.before (record { within = at.within; reason = why }) =
+    sym (walk_ended input xs x rest k (length l.before)) ∙ ap (λ n. walked n [] input) (same_sum (length xs) (length l.before)) ∙ walk_refused input why at l (length xs) in
+    absurd cc
+
 -- all bytes of an input, with those of the MODEND beside those of the records before it
-all_bytes : (input out rest : List ℕ) (l : IsLowered input out rest) → flat_map raw_bytes (l.before ++ l.end ∷ []) ++ rest ≡ input
-all_bytes input out rest l =
-    ap (λ b. b ++ rest) (flat_map-append raw_bytes l.before (l.end ∷ []) ∙ ap (λ e. flat_map raw_bytes l.before ++ e) (append-nil (raw_bytes l.end)))
-    ∙ append_assoc (flat_map raw_bytes l.before) (raw_bytes l.end) rest ∙ sym l.begins.spelled
+all_bytes : (input : List ℕ) (before : List Raw) (end : Raw) (rest : List ℕ) → IsEnded input before end rest → flat_map raw_bytes (before ++ end ∷ []) ++ rest ≡ input
+all_bytes input before end rest l =
+    ap (λ b. b ++ rest) (flat_map-append raw_bytes before (end ∷ []) ∙ ap (λ e. flat_map raw_bytes before ++ e) (append-nil (raw_bytes end)))
+    ∙ append_assoc (flat_map raw_bytes before) (raw_bytes end) rest ∙ sym l.begins.spelled
+
+same_ok : (q : Result Unrolled Fault) (a b : Unrolled) → q ≡ Ok a → q ≡ Ok b → a ≡ b
+same_ok (Ok u) a b e f = cc
+same_ok (Err g) a b e f = absurd cc
 
 pub lowered_once : (input a b rest other : List ℕ) → IsLowered input a rest → IsLowered input b other → (a ≡ b) × (rest ≡ other)
 lowered_once input a b rest other k l =
-    let same : Done (k.before ++ k.end ∷ []) ≡ Done (l.before ++ l.end ∷ []) =
-    sym (walk_lowered input a rest k (length l.before)) ∙ ap (λ n. walked n [] input) (same_sum (length k.before) (length l.before)) ∙ walk_lowered input b other l (length k.before) in
-    let records : k.before ++ k.end ∷ [] ≡ l.before ++ l.end ∷ [] = cc in (
-      k.lowered ∙ ap (λ rs. flat_map raw_bytes (lowered_records rs)) records ∙ sym l.lowered,
+    let records : k.before ++ k.end ∷ [] ≡ l.before ++ l.end ∷ [] = same_records input k.before l.before k.end l.end rest other (ended_by input a rest k) (ended_by input b other l) in
+    let after : k.after ≡ l.after = same_ok (after_records (lowered_records (k.before ++ k.end ∷ []))) k.after l.after k.unrolled (ap (λ rs. after_records (lowered_records rs)) records ∙ l.unrolled) in (
+      k.lowered ∙ ap (λ (u : Unrolled). flat_map raw_bytes u.records) after ∙ sym l.lowered,
       append_cancel_left (flat_map raw_bytes (k.before ++ k.end ∷ [])) rest other
-          (all_bytes input a rest k ∙ sym (all_bytes input b other l) ∙ ap (λ rs. flat_map raw_bytes rs ++ other) (sym records)),
+          (all_bytes input k.before k.end rest (ended_by input a rest k) ∙ sym (all_bytes input l.before l.end other (ended_by input b other l)) ∙ ap (λ rs. flat_map raw_bytes rs ++ other) (sym records)),
     )
 
 -- a module has at least one byte
@@ -159,16 +171,16 @@ rest_is_shorter input out rest l =
     omega (arith, size, length-append (flat_map raw_bytes l.before) (raw_bytes l.end ++ rest), length-append (raw_bytes l.end) rest)
 
 pub never_both : (input out rest : List ℕ) (why : Reason) (at : Place) → IsLowered input out rest → IsRefused input why at → ⊥
-never_both input out rest why at k l =
-    let same : Done (k.before ++ k.end ∷ []) ≡ Stopped l.before (record { within = at.within; reason = why }) =
-    sym (walk_lowered input out rest k (length l.before)) ∙ ap (λ n. walked n [] input) (same_sum (length k.before) (length l.before)) ∙ walk_refused input why at l (length k.before) in
-    absurd cc
+never_both input out rest why at k (inl l) = not_both input k.before k.end rest why at (ended_by input out rest k) l
+never_both input out rest why at k (inr l) =
+    let records : k.before ++ k.end ∷ [] ≡ l.before ++ l.end ∷ [] = same_records input k.before l.before k.end l.end rest l.rest (ended_by input out rest k) (ended_too input why at l) in
+    fault_or_not (lowered_records (l.before ++ l.end ∷ [])) l.number (record { within = at.within; reason = why }) k.after l.fault (ap (λ rs. after_records (lowered_records rs)) (sym records) ∙ k.unrolled)
 
 same_place : (p q : Place) → p.number ≡ q.number → p.start ≡ q.start → p.within ≡ q.within → p ≡ q
 same_place p q number start within i = record { number = number i; start = start i; within = within i }
 
-pub refused_once : (input : List ℕ) (why other : Reason) (at there : Place) → IsRefused input why at → IsRefused input other there → (why ≡ other) × (at ≡ there)
-refused_once input why other at there k l =
+own_once : (input : List ℕ) (why other : Reason) (at there : Place) → HasFault input why at → HasFault input other there → (why ≡ other) × (at ≡ there)
+own_once input why other at there k l =
     let same : Stopped k.before (record { within = at.within; reason = why }) ≡ Stopped l.before (record { within = there.within; reason = other }) =
     sym (walk_refused input why at k (length l.before)) ∙ ap (λ n. walked n [] input) (same_sum (length k.before) (length l.before)) ∙ walk_refused input other there l (length k.before) in
     let before : k.before ≡ l.before = cc in
@@ -177,3 +189,17 @@ refused_once input why other at there k l =
     let start : at.start ≡ there.start = k.start ∙ ap (λ rs. length (flat_map raw_bytes rs)) before ∙ sym l.start in
     let within : at.within ≡ there.within = ap (λ (f : Fault). f.within) given in
     (ap (λ (f : Fault). f.reason) given, same_place at there number start within)
+
+fixup_once : (input : List ℕ) (why other : Reason) (at there : Place) → IsNotUnrolled input why at → IsNotUnrolled input other there → (why ≡ other) × (at ≡ there)
+fixup_once input why other at there k l =
+    let records : k.before ++ k.end ∷ [] ≡ l.before ++ l.end ∷ [] = same_records input k.before l.before k.end l.end k.rest l.rest (ended_too input why at k) (ended_too input other there l) in
+    let first = subst (λ rs. HasFixupFault (lowered_records rs) k.number (record { within = at.within; reason = why })) records k.fault in
+    let same = fault_once (lowered_records (l.before ++ l.end ∷ [])) k.number l.number (record { within = at.within; reason = why }) (record { within = there.within; reason = other }) first l.fault in
+    let origin : (at.number ≡ there.number) × (at.start ≡ there.start) = origin_once input l.number at there (subst (λ n. IsOrigin input n at) same.0 k.origin) l.origin in
+    (ap (λ (f : Fault). f.reason) same.1, same_place at there origin.0 origin.1 (ap (λ (f : Fault). f.within) same.1))
+
+pub refused_once : (input : List ℕ) (why other : Reason) (at there : Place) → IsRefused input why at → IsRefused input other there → (why ≡ other) × (at ≡ there)
+refused_once input why other at there (inl k) (inl l) = own_once input why other at there k l
+refused_once input why other at there (inl k) (inr l) = absurd (not_both input l.before l.end l.rest why at (ended_too input other there l) k)
+refused_once input why other at there (inr k) (inl l) = absurd (not_both input k.before k.end k.rest other there (ended_too input why at k) l)
+refused_once input why other at there (inr k) (inr l) = fixup_once input why other at there k l

@@ -18,6 +18,7 @@ use Rattle.omf_records.specs.Inner.Reading.{typed}
 use Rattle.omf_records.specs.Inner.Reads.{and_then}
 use Rattle.omf_check.specs.Tables.{defined_names, entry}
 use Rattle.omf_lowering.specs.Layouts.{Backpatches, NamedBackpatches}
+use Rattle.omf_lowering.specs.Marks.{mark_contents}
 -- computed: readings_meet_layouts of omf_lowering.
 use Rattle.omf_lowering.specs.Inner.Readers.{nbkpat_whole}
 use Rattle.omf_lowering.specs.Patches.{placed, size_or_none}
@@ -158,7 +159,7 @@ data_record kind r = raw_of (data_kind kind r.item.flags) (data_bytes kind (reco
 -- The COMENT of a COMDAT: of class DCH, one of those for user-defined comments, and not to be removed. It keeps how a linker selects among COMDATs of the name
 -- (TIS OMF 1.1, "COMENT"; this profile's rule).
 abbrev pub mark : Resolved → Raw
-mark r = raw_of 0x88 (0x80 ∷ 0xDC ∷ codes "COMDAT" ++ selection r.item.attributes ∷ [])
+mark r = raw_of 0x88 (mark_contents (selection r.item.attributes))
 
 -- The records that replace a COMDAT.
 abbrev pub made : ℕ → Resolved → List Raw

@@ -1,5 +1,7 @@
 pub mod FileState
 pub mod Readers
+pub mod Rolling
 pub mod Run
+pub mod Spreading
 pub mod State
-pub mod Choosing
+pub mod Turns

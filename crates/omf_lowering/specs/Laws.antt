@@ -1,10 +1,11 @@
 -- Laws of the definitions, each the contract of a function of the same name.
-use Rattle.std.specs.Prelude.{◌≡◌, ℕ, ◌+◌, ◌-◌, ◌≤◌, List, length, All, Some, true, slice_get}
+use Rattle.std.specs.Prelude.{◌≡◌, ℕ, ◌+◌, ◌-◌, ◌≤◌, List, length, take, drop, All, Some, true, slice_get}
 use Rattle.omf_frame.specs.Bytes.{AreBytes, is_one_of}
 use Rattle.omf_frame.specs.Types.{ledata}
 use Rattle.omf_frame.specs.Framing.{Raw}
 use Rattle.omf_frame.specs.declared.fault.Place.{Place}
 use Rattle.omf_frame.specs.declared.fault.Reason.{Reason}
+use Rattle.omf_image.specs.Blocks.{Blocks, blocks, blocks_bytes}
 use Rattle.omf_image.specs.declared.limits.Limits.{Limits}
 use Rattle.omf_image.specs.Parts.{add_part}
 -- computed: readings_meet_layouts and contents_are_typed_once of omf_records.
@@ -19,6 +20,10 @@ use Rattle.omf_lowering.specs.Inner.Readers.{cextdef_whole, bakpat_whole, comdat
 use Rattle.std.specs.Prelude.{Bool}
 use Rattle.omf_lowering.specs.Lowering.{IsLowered, IsRefused, patches, replaced}
 use Rattle.omf_lowering.specs.Patches.{with_value, size_of}
+-- computed: copies_are_copies of omf_lowering.
+use Rattle.omf_lowering.specs.Inner.Spreading.{contents_in}
+use Rattle.omf_lowering.specs.Unrolled.{copies_of}
+use Rattle.omf_lowering.specs.declared.location.Location.{Location}
 use Rattle.omf_lowering.specs.declared.values.Patch.{Patch}
 
 -- Reading the contents of a CEXTDEF, a BAKPAT, a COMDAT, an NBKPAT or a LINNUM gives the one value that they encode, or else the least of their faults.
@@ -57,3 +62,8 @@ abbrev pub DataAreAdded : Type 0
 DataAreAdded = (r : Raw) (d : DataItem) (p : Patch) → AreBytes r.body → (typed r).contents ≡ Plain d → is_one_of ledata r.kind ≡ true
     → length r.body - length d.bytes ≤ p.at → p.at + size_of p.part ≤ length r.body
     → (typed (with_value p r)).contents ≡ Plain (record d { bytes = add_part d.bytes (p.at - (length r.body - length d.bytes)) (size_of p.part) p.value })
+
+-- The expanded data of blocks have, at each copy of a location, the bytes that the blocks have at the location.
+abbrev pub CopiesAreCopies : Type 0
+CopiesAreCopies = (width : ℕ) (limits : Limits) (bytes : List ℕ) (trees : Blocks) → (blocks width limits.nesting).Spells 0 bytes trees → (l : Location) (copies : List ℕ) → copies_of (contents_in width limits.nesting bytes) l ≡ Some copies
+    → All (λ x. (x + l.size ≤ length (blocks_bytes trees)) × (take l.size (drop x (blocks_bytes trees)) ≡ take l.size (drop l.offset bytes))) copies

@@ -1,5 +1,6 @@
 -- The lowering of a module: which records replace which.
-use Rattle.std.specs.Prelude.{◌≡◌, ℕ, ◌<◌, ◌≤◌, List, [], ◌∷◌, ◌++◌, length, map, flat_map, All, Bool, not, ◌==◌, ◌&&◌, nat_lt, fold, Option, Some, None, Result, Ok, Err, IsTrue, if◌then◌else◌, ⊤}
+use Rattle.std.specs.Prelude.{◌≡◌, ◌⊎◌, ℕ, ◌<◌, ◌≤◌, List, [], ◌∷◌, ◌++◌, length, map, flat_map, All, Bool, not, ◌==◌, ◌&&◌, nat_lt, fold, Option, Some, None, Result, Ok, Err, IsTrue, if◌then◌else◌, ⊤}
+use Rattle.std.specs.List.{list_any}
 use Rattle.std.specs.Option.{option_or}
 use Rattle.omf_frame.specs.Bytes.{is_one_of, with_before}
 use Rattle.omf_frame.specs.Fault.{Fault}
@@ -14,12 +15,15 @@ use Rattle.omf_records.specs.Layout.{fault}
 -- computed: readings_meet_layouts of omf_records.
 use Rattle.omf_records.specs.Inner.Reading.{read_body}
 use Rattle.omf_records.specs.Inner.Reads.{and_then, or_none}
-use Rattle.omf_records.specs.Values.{is_wide}
+use Rattle.omf_records.specs.Values.{Contents, is_wide}
 use Rattle.omf_lowering.specs.Comdats.{defined_by, given_by, growth, made, named_patches_by, new_of, resolved}
 use Rattle.omf_lowering.specs.Externals.{externals_by, extdef}
 -- computed: readings_meet_layouts of omf_lowering.
-use Rattle.omf_lowering.specs.Inner.Readers.{comdat_whole}
-use Rattle.omf_lowering.specs.Patches.{pieces_from, patches_by, patched}
+use Rattle.omf_lowering.specs.Inner.Readers.{bakpat_whole, comdat_whole}
+use Rattle.omf_lowering.specs.Layouts.{Backpatches}
+use Rattle.omf_lowering.specs.Patches.{pieces_from, patches_by, patched, placed}
+use Rattle.omf_lowering.specs.Segments.{names_thread_past, segment_fault, segments_named}
+use Rattle.omf_lowering.specs.Unrolled.{Before as Unrolled, after_record, after_records}
 use Rattle.omf_lowering.specs.Values.{Instance, Resolved, Tables}
 use Rattle.omf_lowering.specs.Wide.{framing_fault, is_known, is_right}
 use Rattle.omf_lowering.specs.declared.fault.LoweringFault.{LoweringFault}
@@ -126,16 +130,33 @@ fault_of (Err e) = Some e
 abbrev pub is_late : List Instance → ℕ → Bool
 is_late instances kind = is_segdef kind && not (length instances == 0)
 
--- The fault of a record, by what is before it and the data before it: of a CEXTDEF, of a BAKPAT, of an NBKPAT, of a COMDAT, of a SEGDEF after a COMDAT, or of the layout of a
--- record that this profile reads.
+-- The fault of a record that this profile reads: of its layout, or else of a segment that it names.
+abbrev pub named_fault : Tables → List Instance → Result Contents Fault → Option Fault
+named_fault t instances (Ok c) = segment_fault t instances (segments_named c)
+named_fault t instances (Err e) = Some e
+
+-- The fault of a BAKPAT: of its layout, or else of its segment, or else of a location.
+abbrev pub own_fault : Tables → List Instance → List Piece → Backpatches → Option Fault
+own_fault t instances data_before b = option_or (segment_fault t instances (b.segment ∷ [])) (fault_of (placed data_before b))
+
+abbrev pub own_fault_in : Tables → List Instance → List Piece → Result Backpatches Fault → Option Fault
+own_fault_in t instances data_before (Ok b) = own_fault t instances data_before b
+own_fault_in t instances data_before (Err e) = Some e
+
+-- The first COMDAT has a fault if a THREAD before it names a segment past those of the module: a fixup after it may use the THREAD.
+abbrev pub thread_fault : Before → Option Fault
+thread_fault b = if (length b.instances == 0) && list_any (names_thread_past (length b.tables.segments)) b.records then Some (fault 0 reason.UndefinedSegment) else None
+
+-- The fault of a record, by what is before it and the data before it: of a CEXTDEF, of a BAKPAT, of an NBKPAT, of a COMDAT or of a THREAD before it, of a SEGDEF after a COMDAT, or of
+-- a record that this profile reads.
 abbrev pub fault_by : Before → List Piece → Raw → Option Fault
 fault_by b data_before r =
     if is_cextdef r.kind then fault_of (externals_by b.tables.names r.body)
-    else if is_bakpat r.kind then fault_of (patches_by data_before r.kind r.body)
+    else if is_bakpat r.kind then own_fault_in b.tables b.instances data_before ((bakpat_whole (is_wide r.kind)).read 3 r.body)
     else if is_nbkpat r.kind then fault_of (named_patches_by b.tables b.instances data_before r.kind r.body)
-    else if is_comdat r.kind then fault_of (comdat_of b r)
+    else if is_comdat r.kind then option_or (fault_of (comdat_of b r)) (thread_fault b)
     else if is_late b.instances r.kind then Some (fault 0 reason.UnsupportedType)
-    else if is_taken r.kind then fault_of (read_body r.kind r.body)
+    else if is_taken r.kind then named_fault b.tables b.instances (read_body r.kind r.body)
     else None
 
 abbrev pub lowering_fault : List Raw → Raw → Option Fault
@@ -163,7 +184,7 @@ pub record BeginsWith (input : List ℕ) (rs : List Raw) (rest : List ℕ) : Typ
   pub sound : faults rs ≡ []
   pub no_end : All (λ r. IsTrue (not (is_end r.kind))) rs
 
--- An input begins with records up to a MODEND, none of which has a fault, these are the bytes of the lowered ones, and the rest follows.
+-- An input begins with records up to a MODEND, none of which has a fault, these are the bytes of the lowered ones with their LIDATAs that have fixups unrolled, and the rest follows.
 pub record IsLowered (input out rest : List ℕ) : Type 0 where
   pub before : List Raw
   pub end : Raw
@@ -172,7 +193,9 @@ pub record IsLowered (input out rest : List ℕ) : Type 0 where
   pub last : IsWideRecord end
   pub ends : IsTrue (is_end end.kind)
   pub sound : lowering_fault before end ≡ None
-  pub lowered : out ≡ flat_map raw_bytes (lowered_records (before ++ end ∷ []))
+  pub after : Unrolled
+  pub unrolled : after_records (lowered_records (before ++ end ∷ [])) ≡ Ok after
+  pub lowered : out ≡ flat_map raw_bytes after.records
 
 -- The first fault of the record at the front of the rest: there are too many before it (this profile's rule), or it has one of framing, or else of its
 -- contents.
@@ -181,14 +204,55 @@ fault_at before rest =
     if nat_lt (length before) item_limit then option_or (framing_fault rest) (lowering_fault before (front_record rest))
     else Some (fault 0 reason.TooMany)
 
--- An input is refused for its first record with a fault, and this is the fault, with the number and the offset of the record.
-pub record IsRefused (input : List ℕ) (why : Reason) (place : Place) : Type 0 where
+-- An input has a first record with a fault, and this is the fault, with the number and the offset of the record.
+pub record HasFault (input : List ℕ) (why : Reason) (place : Place) : Type 0 where
   pub before : List Raw
   pub rest : List ℕ
   pub begins : BeginsWith input before rest
   pub number : place.number ≡ length before
   pub start : place.start ≡ length (flat_map raw_bytes before)
   pub fault : fault_at before rest ≡ Some (record { within = place.within; reason = why })
+
+-- The record of an input which gives the lowered record with a number: after it there are more lowered records than this number, and not before it. (The MODEND gives the last one.)
+pub record IsOrigin (input : List ℕ) (number : ℕ) (place : Place) : Type 0 where
+  pub before : List Raw
+  pub origin : Raw
+  pub rest : List ℕ
+  pub begins : BeginsWith input before (raw_bytes origin ++ rest)
+  pub wide : IsWideRecord origin
+  pub from : length (replaced before) ≤ number
+  pub to : (number < length (replaced (before ++ origin ∷ []))) ⊎ IsTrue (is_end origin.kind)
+  pub numbered : place.number ≡ length before
+  pub started : place.start ≡ length (flat_map raw_bytes before)
+
+-- Some records have a first one with a fault of unrolling, and this is its number and its fault.
+pub record HasFixupFault (rs : List Raw) (number : ℕ) (f : Fault) : Type 0 where
+  pub done : List Raw
+  pub next : Raw
+  pub left : List Raw
+  pub split : rs ≡ done ++ next ∷ left
+  pub counted : number ≡ length done
+  pub after : Unrolled
+  pub unrolled : after_records done ≡ Ok after
+  pub fault : after_record after next ≡ Err f
+
+-- An input begins with records up to a MODEND, none of which has a fault of its own; of the lowered ones a FIXUPP has one of unrolling, and this is the fault, at the record of the input.
+pub record IsNotUnrolled (input : List ℕ) (why : Reason) (place : Place) : Type 0 where
+  pub before : List Raw
+  pub end : Raw
+  pub rest : List ℕ
+  pub begins : BeginsWith input before (raw_bytes end ++ rest)
+  pub few : length before < item_limit
+  pub last : IsWideRecord end
+  pub ends : IsTrue (is_end end.kind)
+  pub sound : lowering_fault before end ≡ None
+  pub number : ℕ
+  pub fault : HasFixupFault (lowered_records (before ++ end ∷ [])) number (record { within = place.within; reason = why })
+  pub origin : IsOrigin input number place
+
+-- An input is refused for its first record with a fault of its own, or else for the first fixup that cannot be unrolled.
+abbrev pub IsRefused : List ℕ → Reason → Place → Type 0
+IsRefused input why place = HasFault input why place ⊎ IsNotUnrolled input why place
 
 -- The cause of a fault. Memory may run out at any time.
 abbrev pub IsLoweringFault : List ℕ → LoweringFault → Type 0

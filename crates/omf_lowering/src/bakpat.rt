@@ -5,13 +5,14 @@ ghost use Rattle.omf_records.specs.Inner.Reads.{or_none};
 ghost use Rattle.omf_lowering.specs.Inner.Readers.{bakpat_whole, nbkpat_whole, read_to, type_reader};
 ghost use Rattle.omf_lowering.specs.Inner.State.{GivesAll, IsStop};
 ghost use Rattle.omf_lowering.specs.Comdats.{backpatches_by, named_patches};
-ghost use Rattle.omf_lowering.specs.Lowering.{fault_of};
-ghost use Rattle.omf_lowering.specs.Patches.{has_all, has_byte_of, holder, patch_at, patches_by, placed, size_of};
+ghost use Rattle.omf_lowering.specs.Lowering.{fault_of, own_fault};
+ghost use Rattle.omf_lowering.specs.Patches.{has_all, has_byte_of, holder, patch_at, placed, size_of};
 
 use crate::entries::{Entry, entries};
 use crate::fault::Stop;
 use crate::fields::{byte_at, fault_at, number_at, placed_index_at};
 use crate::instance::{Instance, segment_at};
+use crate::segments::segment_fault;
 use crate::tables::Tables;
 use crate::values::{Backpatch, Patch, Piece};
 use omf_frame::{Index, Reason};
@@ -22,7 +23,7 @@ use std::marker::Model;
 
 /// The contents of a BAKPAT: the index of its segment, the type of its locations, and its backpatches.
 #[derive(Drop)]
-struct Backpatches {
+pub(crate) struct Backpatches {
     segment: At<Index>,
     part: Part,
     items: Vec<At<Backpatch>>,
@@ -74,7 +75,7 @@ impl Entry for Backpatch {
 }
 
 /// The contents of a BAKPAT.
-fn backpatches_in(alloc: Global, wide: bool, body: &[u8]) -> Result<Backpatches, Stop>
+pub(crate) fn backpatches_in(alloc: Global, wide: bool, body: &[u8]) -> Result<Backpatches, Stop>
     requires { length body.now ≤ 65534 }
     ensures { GivesAll (λ b. record { segment = b.segment; part = b.part; items = b.items.items }) result ((bakpat_whole wide).read 3 body.now) }
 {
@@ -215,21 +216,22 @@ fn push_patches(patches: &mut Vec<Patch>, pieces: &[Piece], given: &Backpatches)
     Ok(())
 }
 
-/// Appends the values of a BAKPAT of this type and with these contents, by the data before it.
+/// Appends the values of a BAKPAT, by the COMDATs and the data before it.
 pub(crate) fn lower_patches(
-    alloc: Global,
     patches: &mut Vec<Patch>,
     pieces: &[Piece],
-    kind: u8,
-    body: &[u8],
+    tables: &Tables<'_>,
+    instances: &[Instance<'_>],
+    given: &Backpatches,
 ) -> Result<(), Stop>
-    requires { length body.now ≤ 65534 }
-    ensures ok { OnOk result (patches.new.items ≡ patches.old.items ++ or_none (patches_by pieces.now kind body.now)) }
-    ensures sound { OnOk result (fault_of (patches_by pieces.now kind body.now) ≡ None) }
-    ensures err { IfErr result (λ stop. IsStop stop (fault_of (patches_by pieces.now kind body.now))) }
+    ensures ok { OnOk result (patches.new.items ≡ patches.old.items ++ or_none (placed pieces.now (record { segment = given.now.segment; part = given.now.part; items = given.now.items.items }))) }
+    ensures sound { OnOk result (own_fault tables.now instances.now pieces.now (record { segment = given.now.segment; part = given.now.part; items = given.now.items.items }) ≡ None) }
+    ensures err { IfErr result (λ stop. IsStop stop (own_fault tables.now instances.now pieces.now (record { segment = given.now.segment; part = given.now.part; items = given.now.items.items }))) }
 {
-    let given = backpatches_in(alloc, kind % 2 == 1, body)?;
-    push_patches(patches, pieces, &given)
+    match segment_fault(tables, instances, &given.segment) {
+        Some(fault) => Err(Stop::At(fault)),
+        None => push_patches(patches, pieces, given),
+    }
 }
 
 /// The backpatches of an NBKPAT, as of a BAKPAT for the segment of its COMDAT.

@@ -17,7 +17,10 @@ pub enum LoweringFault {
     Memory,
     /// The first record at fault has this fault at this place: of framing (NoEnd, Cut, UnknownType, EmptyRecord, Checksum), of layout (8 to 18),
     /// UndefinedName in a CEXTDEF; in a BAKPAT or an NBKPAT NoDataRecord, FixupOnIterated or OutsideRecord; in a COMDAT or an NBKPAT UnsupportedType, UndefinedName,
-    /// UndefinedSegment, UndefinedGroup, OutsideSegment or TooMany; UnsupportedType of a SEGDEF after a COMDAT.
+    /// UndefinedSegment, UndefinedGroup, OutsideSegment or TooMany; UnsupportedType of a SEGDEF after a COMDAT; UndefinedSegment where a record names a
+    /// segment past the SEGDEFs, and a COMDAT precedes it or, of a THREAD, follows. If no record has one, it is that of the first fixup after an LIDATA that
+    /// cannot be unrolled: OutsideRecord if no innermost block has all bytes of its location, FixupOnIterated if another fixup of the same data has one of
+    /// them, TooMany if the records become more than 1,048,576.
     #[error("a record cannot be lowered")]
     Refused {
         /// Why the record is refused.

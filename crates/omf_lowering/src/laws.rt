@@ -1,6 +1,6 @@
 //! Laws of the definitions, for all inputs.
 
-ghost use Rattle.omf_lowering.specs.Laws.{AcceptedStay, AnswersAreUnique, DataAreAdded, ReadingsMeetLayouts, ValuesFit};
+ghost use Rattle.omf_lowering.specs.Laws.{AcceptedStay, AnswersAreUnique, CopiesAreCopies, DataAreAdded, ReadingsMeetLayouts, ValuesFit};
 
 /// Reading the contents of a CEXTDEF, a BAKPAT, a COMDAT, an NBKPAT or a LINNUM gives the one value that they encode, or else the least of their faults.
 pub fn readings_meet_layouts()
@@ -25,4 +25,9 @@ pub fn values_fit()
 /// An LEDATA with a value added has the same segment and offset, and the value is added to its data.
 pub fn data_are_added()
     ensures { DataAreAdded }
+{}
+
+/// The expanded data of blocks have, at each copy of a location, the bytes that the blocks have at the location.
+pub fn copies_are_copies()
+    ensures { CopiesAreCopies }
 {}

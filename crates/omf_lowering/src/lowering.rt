@@ -1,16 +1,19 @@
 //! The lowering of a module.
 
-ghost use Rattle.std.specs.Prelude.{◌≡◌, ◌++◌, IfErr, IfOk, None, OnOk};
+ghost use Rattle.std.specs.Prelude.{◌≡◌, ◌++◌, ◌||◌, nat_lt, IfErr, IfOk, None, OnOk};
 ghost use Rattle.omf_frame.specs.Framing.{front_record, is_end, raw_bytes};
 ghost use Rattle.std.specs.Option.{option_or};
-ghost use Rattle.omf_lowering.specs.Inner.State.{IsRead, IsStop, added, refusal};
-ghost use Rattle.omf_lowering.specs.Lowering.{IsLowered, IsLoweringFault, IsWideRecord, fault_by};
+ghost use Rattle.omf_lowering.specs.Inner.Rolling.{IsFaultOf, IsHaltOf};
+ghost use Rattle.omf_lowering.specs.Inner.State.{IsRead, IsStop, added, excess, refusal};
+ghost use Rattle.omf_lowering.specs.Lowering.{IsLowered, IsLoweringFault, IsOrigin, IsWideRecord, fault_by};
 ghost use Rattle.omf_lowering.specs.Wide.{framing_fault};
 
 use crate::fault::{LoweringFault, Stop};
 use crate::record::front_of;
+use crate::unroll::{Halt, unrolled};
 use crate::work::Work;
 use omf_frame::{Place, Reason};
+use omf_records::LayoutFault;
 use std::alloc::Global;
 
 /// The most records of a module.
@@ -63,6 +66,20 @@ fn refused(stop: Stop, number: u32, start: usize) -> LoweringFault
     }
 }
 
+/// The fault that records are too many, at an offset in the input.
+fn too_many(start: usize) -> LoweringFault
+    ensures { result ≡ excess start }
+{
+    LoweringFault::Refused {
+        reason: Reason::TooMany,
+        place: Place {
+            number: RECORD_LIMIT,
+            start: start as u64,
+            within: 0,
+        },
+    }
+}
+
 /// The records of a module, up to its MODEND, and the bytes after it.
 fn read_all<'a>(alloc: Global, bytes: &'a [u8]) -> Result<(Work<'a>, &'a [u8]), LoweringFault>
     ensures ok { IfOk result (λ r. IsRead bytes.entry.now r.1.now r.0) }
@@ -77,14 +94,75 @@ fn read_all<'a>(alloc: Global, bytes: &'a [u8]) -> Result<(Work<'a>, &'a [u8]), 
             Err(stop) => return Err(refused(stop, number, bytes.len().saturating_sub(rest.len()))),
         }
     }
-    Err(LoweringFault::Refused {
-        reason: Reason::TooMany,
-        place: Place {
-            number: RECORD_LIMIT,
-            start: bytes.len().saturating_sub(rest.len()) as u64,
-            within: 0,
+    Err(too_many(bytes.len().saturating_sub(rest.len())))
+}
+
+/// The place of a record.
+fn place(number: u32, start: usize) -> Place
+    ensures { result ≡ record { number = number; start = start; within = 0 } }
+{
+    Place {
+        number,
+        start: start as u64,
+        within: 0,
+    }
+}
+
+/// Whether a lowered record with this number is among the first `count`, or the module has ended.
+fn is_reached(ends: bool, wanted: usize, count: usize) -> bool
+    ensures { result ≡ (ends || nat_lt wanted count) }
+{
+    ends || wanted < count
+}
+
+/// The place of the record that gives the lowered record with this number, from 0; of the MODEND, if no record before it does.
+fn origin(alloc: Global, bytes: &[u8], wanted: usize) -> Result<Place, LoweringFault>
+    ensures ok { IfOk result (IsOrigin bytes.now wanted) }
+    ensures err { IfErr result (IsLoweringFault bytes.now) }
+{
+    let mut work = Work::new(alloc);
+    let mut rest = bytes;
+    for number in 0..RECORD_LIMIT {
+        let start = bytes.len().saturating_sub(rest.len());
+        match take_front(alloc, &mut work, rest) {
+            Ok((ends, after)) => {
+                if is_reached(ends, wanted, work.count()) {
+                    return Ok(place(number, start));
+                }
+                rest = after;
+            }
+            Err(stop) => return Err(refused(stop, number, start)),
+        }
+    }
+    Err(too_many(bytes.len().saturating_sub(rest.len())))
+}
+
+/// The fault of a record of the lowered module with this number: at the record of the input that gives it.
+fn fixup_fault(alloc: Global, bytes: &[u8], wanted: usize, fault: &LayoutFault) -> LoweringFault
+    ensures { IsFaultOf bytes.now wanted fault.now result }
+{
+    match origin(alloc, bytes, wanted) {
+        Ok(place) => LoweringFault::Refused {
+            reason: fault.reason,
+            place: Place {
+                number: place.number,
+                start: place.start,
+                within: fault.within,
+            },
         },
-    })
+        Err(fault) => fault,
+    }
+}
+
+/// The fault for which records are not unrolled.
+fn halted(alloc: Global, bytes: &[u8], halt: Halt) -> LoweringFault
+    ensures { IsHaltOf bytes.now halt.number halt.stop result }
+{
+    let Halt { number, stop } = halt;
+    match stop {
+        Stop::Memory => LoweringFault::Memory,
+        Stop::At(fault) => fixup_fault(alloc, bytes, number, &fault),
+    }
 }
 
 /// A module of this profile, and the bytes after the lowered module in the input.
@@ -97,8 +175,9 @@ pub struct LoweredModule<'a> {
 /// The first module of `bytes`, lowered: as a module of this profile that means the same (TIS OMF 1.1). Each CEXTDEF becomes EXTDEFs with the names
 /// that it refers to, so that each external keeps its index. The values of each BAKPAT and NBKPAT are added to the data of the LEDATAs before it, and
 /// the record is left out. Each COMDAT becomes a segment of its own, a piece of its base, with a public name and the data; one that is continued becomes more data of
-/// that segment. Every other record is kept as it is, also one that `check` refuses: so the result is for `check` to judge. A module that `check` accepts
-/// is its own lowering (law `accepted_stay`). The bytes after the module are not read, but returned.
+/// that segment. Then each fixup after an LIDATA becomes, for each copy of its location, an LEDATA of the location's bytes and a FIXUPP. Every other record
+/// is kept as it is, also one that `check` refuses: so the result is for `check` to judge. A module that `check` accepts is its own lowering (law
+/// `accepted_stay`). The bytes after the module are not read, but returned.
 ///
 /// # Errors
 ///
@@ -111,8 +190,9 @@ pub fn lowered<'a>(alloc: Global, bytes: &'a [u8]) -> Result<LoweredModule<'a>, 
         Ok(read) => read,
         Err(fault) => return Err(fault),
     };
-    match work.finish(alloc) {
+    let records = work.finish();
+    match unrolled(alloc, &records) {
         Ok(bytes) => Ok(LoweredModule { bytes, rest }),
-        Err(_) => Err(LoweringFault::Memory),
+        Err(halt) => Err(halted(alloc, bytes, halt)),
     }
 }

@@ -7,6 +7,7 @@ ghost use Rattle.omf_lowering.specs.Comdats.{attribute_of, data_kind, data_recor
 
 use crate::comdat::{Base, is_continued, is_iterated, is_local};
 use crate::instance::Resolved;
+use crate::marks::mark_contents;
 use crate::record::Record;
 use omf_frame::{Field, Index, Le16, Le32};
 use std::alloc::{AllocError, Global};
@@ -61,16 +62,11 @@ fn pubdef(alloc: Global, of: &Resolved<'_>) -> Result<Record, AllocError>
     Ok(Record::made(kind, body))
 }
 
-/// What the mark of a COMDAT begins with: its type byte and class, and a text.
-const MARK: &[u8] = b"\x80\xDCCOMDAT";
-
 /// The COMENT that keeps how a linker selects among COMDATs of the name.
 fn mark(alloc: Global, of: &Resolved<'_>) -> Result<Record, AllocError>
     ensures { IfOk result (λ r. r ≡ mark of.now) }
 {
-    let mut body = Vec::new(alloc);
-    body.extend_from_slice(MARK)?;
-    body.push(of.item.attributes / 16)?;
+    let body = mark_contents(alloc, of.item.attributes / 16)?;
     Ok(Record::made(0x88, body))
 }
 

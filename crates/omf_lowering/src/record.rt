@@ -2,6 +2,7 @@
 
 ghost use Rattle.std.specs.Prelude.{◌≡◌, ◌≤◌, ◌++◌, length, IfOk, IfErr, OnOk, Some, None};
 ghost use Rattle.omf_frame.specs.Framing.{Raw, raw_bytes, raw_of, front_record, after_front};
+ghost use Rattle.omf_lowering.specs.Inner.State.{seen};
 ghost use Rattle.omf_lowering.specs.Patches.{with_value};
 ghost use Rattle.omf_lowering.specs.Wide.{framing_fault, is_known, is_right, length_fault};
 
@@ -23,7 +24,7 @@ pub(crate) struct Front<'a> {
 
 /// A record: its type byte, its contents and its checksum byte.
 #[derive(Drop)]
-pub(crate) struct Record {
+pub struct Record {
     pub kind: u8,
     pub body: Vec<u8>,
     checksum: u8,
@@ -141,7 +142,7 @@ impl Record {
     }
 
     /// The record with these contents, and the computed checksum byte.
-    pub(crate) fn made(kind: u8, body: Vec<u8>) -> Record
+    pub fn made(kind: u8, body: Vec<u8>) -> Record
         requires { length body.items ≤ 65534 }
         ensures { result ≡ raw_of kind body.items }
     {
@@ -150,6 +151,19 @@ impl Record {
             kind,
             body,
             checksum: sum,
+        }
+    }
+
+    /// The record, as one at the front of its own bytes.
+    pub(crate) fn as_front(&self) -> Front<'_>
+        ensures seen { seen result ≡ self.now }
+        ensures short { length result.body.now ≤ 65534 }
+    {
+        Front {
+            kind: self.kind,
+            body: &self.body,
+            checksum: self.checksum,
+            rest: &[],
         }
     }
 
@@ -169,7 +183,7 @@ impl Record {
     }
 
     /// Appends the bytes of the record.
-    pub(crate) fn put(&self, out: &mut Vec<u8>) -> Result<(), AllocError>
+    pub fn put(&self, out: &mut Vec<u8>) -> Result<(), AllocError>
         ensures { OnOk result (out.new.items ≡ out.old.items ++ raw_bytes self.now) }
     {
         let [low, high] = ((self.body.len() + 1) as u16).to_le_bytes();

@@ -8,6 +8,8 @@ ghost use Rattle.omf_frame.specs.declared.fault.Reason.TheVariants as reason;
 ghost use Rattle.omf_lowering.specs.Lowering.{fault_at};
 ghost use Rattle.omf_lowering.specs.Rows.{Refuses, base, f, f_data, f_mark, f_public, f_segment, front, g, g_made, lowers, two_bytes, word};
 
+pub mod unrolled;
+
 /// An external of a CEXTDEF has the name that its index has in the table of names.
 pub fn externals()
     ensures one { lowers (H ++ N ++ hex (codes "BC 03 00 02 00 3F") ++ M) ≡ H ++ N ++ hex (codes "8C 04 00 01 54 00 1B") ++ M }
@@ -145,6 +147,20 @@ pub fn comdat_references()
     ensures twice { Refuses (base ++ f) f 11 reason.UnsupportedType }
     ensures unbegun { Refuses base (hex (codes "C2 0D 00 01 10 02 00 00 00 00 01 03 B8 00 00 62")) 11 reason.UnsupportedType }
     ensures late { Refuses (base ++ f) (hex (codes "98 07 00 28 04 00 02 01 01 31")) 0 reason.UnsupportedType }
+{}
+
+/// After a COMDAT no index names its segment: of data, a public, a group's member, a frame, a target, a start, a backpatch, or a THREAD before it.
+pub fn comdat_segments()
+    ensures data { Refuses (base ++ f) (hex (codes "A0 05 00 02 00 00 90 C9")) 3 reason.UndefinedSegment }
+    ensures public { Refuses (base ++ f) (hex (codes "90 08 00 00 02 01 66 00 00 00 FF")) 4 reason.UndefinedSegment }
+    ensures member { Refuses (base ++ f) (hex (codes "9A 04 00 02 FF 02 5F")) 5 reason.UndefinedSegment }
+    ensures frame { Refuses (base ++ f) (hex (codes "9C 06 00 C4 01 04 02 01 92")) 6 reason.UndefinedSegment }
+    ensures target { Refuses (base ++ f) (hex (codes "9C 06 00 C4 01 04 01 02 92")) 7 reason.UndefinedSegment }
+    ensures start { Refuses (base ++ f) (hex (codes "8A 07 00 C1 00 02 01 00 00 AB")) 5 reason.UndefinedSegment }
+    ensures backpatch { Refuses (base ++ f) (hex (codes "B2 07 00 02 01 00 00 00 00 44")) 3 reason.UndefinedSegment }
+    ensures thread { Refuses (base ++ hex (codes "9C 03 00 00 02 5F")) f 0 reason.UndefinedSegment }
+    ensures own { fault_at (records_in (base ++ f)) (hex (codes "A0 05 00 01 00 00 90 CA")) ≡ None }
+    ensures unmarked { fault_at (records_in base) (hex (codes "A0 05 00 02 00 00 90 C9")) ≡ None }
 {}
 
 /// The values of an NBKPAT are added to the data of the COMDAT with its name, and of those that continue it.

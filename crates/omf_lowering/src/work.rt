@@ -1,7 +1,7 @@
 //! The records so far, and what later records need of them.
 
-ghost use Rattle.std.specs.Prelude.{◌≡◌, ◌≤◌, ◌++◌, [], None, ◌∷◌, IfErr, IfOk, OnOk, false, true, length, flat_map, IsTrue, map};
-ghost use Rattle.omf_frame.specs.Framing.{is_taken, raw_bytes};
+ghost use Rattle.std.specs.Prelude.{◌≡◌, ◌≤◌, ◌++◌, [], None, ◌∷◌, IfErr, IfOk, OnOk, false, true, length, IsTrue, map};
+ghost use Rattle.omf_frame.specs.Framing.{is_taken};
 ghost use Rattle.omf_records.specs.Inner.Reading.{read_body};
 ghost use Rattle.omf_records.specs.Inner.Reads.{and_then, or_none};
 ghost use Rattle.omf_records.specs.Values.{is_wide};
@@ -9,10 +9,10 @@ ghost use Rattle.omf_lowering.specs.Comdats.{defined_by, growth, new_of, resolve
 ghost use Rattle.omf_lowering.specs.Externals.{extdef, externals_by};
 ghost use Rattle.omf_lowering.specs.Inner.Readers.{comdat_whole};
 ghost use Rattle.omf_lowering.specs.Inner.State.{State, IsStop, added, seen, state_of};
-ghost use Rattle.omf_lowering.specs.Lowering.{fault_by, fault_of, is_bakpat, is_cextdef, is_comdat, is_late, is_nbkpat};
+ghost use Rattle.omf_lowering.specs.Lowering.{fault_by, fault_of, is_bakpat, is_cextdef, is_comdat, is_late, is_nbkpat, named_fault};
 ghost use Rattle.omf_lowering.specs.Patches.{patched, piece_in, pieces_from, with_patch};
 
-use crate::bakpat::{lower_named, lower_patches, named_in};
+use crate::bakpat::{backpatches_in, lower_named, lower_patches, named_in};
 use crate::cextdef::lower_externals;
 use crate::comdat::{comdat_in, is_continued};
 use crate::fault::Stop;
@@ -20,6 +20,7 @@ use crate::instance::{Instance, Resolved, resolve};
 use crate::made::made;
 use crate::pieces::{is_taken, past, piece_of, push_piece};
 use crate::record::{Front, Record};
+use crate::segments::{segments_fault, thread_fault};
 use crate::tables::Tables;
 use crate::values::{Patch, Piece};
 use omf_frame::{RawRecord, Reason};
@@ -50,6 +51,7 @@ impl<'a> Model for Work<'a> {
 /// Reads the contents of a record of this profile, which will have a number: appends what it defines, and its data.
 fn read<'a>(
     tables: &mut Tables<'a>,
+    instances: &[Instance<'a>],
     pieces: &mut Vec<Piece>,
     number: usize,
     front: &Front<'a>,
@@ -58,8 +60,8 @@ fn read<'a>(
     requires short { length front.now.body.now ≤ 65534 }
     ensures tables { OnOk result (tables.new ≡ defined_by tables.old (seen front.now)) }
     ensures pieces { OnOk result (pieces.new.items ≡ pieces.old.items ++ piece_in number (seen front.now)) }
-    ensures sound { OnOk result (fault_of (read_body front.now.kind front.now.body.now) ≡ None) }
-    ensures err { IfErr result (λ stop. IsStop stop (fault_of (read_body front.now.kind front.now.body.now))) }
+    ensures sound { OnOk result (named_fault tables.old instances.now (read_body front.now.kind front.now.body.now) ≡ None) }
+    ensures err { IfErr result (λ stop. IsStop stop (named_fault tables.old instances.now (read_body front.now.kind front.now.body.now))) }
 {
     let raw = RawRecord {
         kind: front.kind,
@@ -71,6 +73,9 @@ fn read<'a>(
         Ok(rec) => rec,
         Err(fault) => return Err(Stop::At(fault)),
     };
+    if let Some(fault) = segments_fault(tables, instances, &rec) {
+        return Err(Stop::At(fault));
+    }
     if let Some(piece) = piece_of(number, front.body.len() as u32, &rec) {
         pieces.push(piece)?;
     }
@@ -204,7 +209,13 @@ impl<'a> Work<'a> {
         }
         if is_taken(front.kind) {
             let number = self.records.len();
-            read(&mut self.tables, &mut self.pieces, number, front)?;
+            read(
+                &mut self.tables,
+                &self.instances,
+                &mut self.pieces,
+                number,
+                front,
+            )?;
         }
         let record = Record::copied(alloc, front.kind, front.body, front.checksum)?;
         Ok(self.records.push(record)?)
@@ -223,10 +234,31 @@ impl<'a> Work<'a> {
             Ok(of) => of,
             Err(fault) => return Err(Stop::At(fault)),
         };
+        if let Some(fault) = thread_fault(&self.tables, &self.instances, &self.records) {
+            return Err(Stop::At(fault));
+        }
         push_growth(&mut self.growths, &self.pieces, &of)?;
         let replacing = made(alloc, front.kind, &of)?;
         append_all(&mut self.records, &mut self.pieces, replacing)?;
         Ok(push_instance(&mut self.instances, of)?)
+    }
+
+    /// Takes a BAKPAT.
+    fn take_patches(&mut self, alloc: Global, front: &Front<'a>) -> Result<(), Stop>
+        requires bakpat { is_bakpat front.now.kind ≡ true }
+        requires short { length front.now.body.now ≤ 65534 }
+        ensures ok { OnOk result (self.new ≡ added self.old (seen front.now)) }
+        ensures sound { OnOk result (fault_by self.old.before self.old.data_before (seen front.now) ≡ None) }
+        ensures err { IfErr result (λ stop. IsStop stop (fault_by self.old.before self.old.data_before (seen front.now))) }
+    {
+        let given = backpatches_in(alloc, front.kind % 2 == 1, front.body)?;
+        lower_patches(
+            &mut self.patches,
+            &self.pieces,
+            &self.tables,
+            &self.instances,
+            &given,
+        )
     }
 
     /// Takes an NBKPAT.
@@ -256,22 +288,23 @@ impl<'a> Work<'a> {
     {
         match front.kind {
             0xBC => append_externals(alloc, &mut self.records, &self.tables, front.body),
-            0xB2 | 0xB3 => lower_patches(
-                alloc,
-                &mut self.patches,
-                &self.pieces,
-                front.kind,
-                front.body,
-            ),
+            0xB2 | 0xB3 => self.take_patches(alloc, front),
             0xC8 | 0xC9 => self.take_named(alloc, front),
             0xC2 | 0xC3 => self.take_comdat(alloc, front),
             _ => self.keep(alloc, front),
         }
     }
 
-    /// The bytes of the records, with all values added.
-    pub(crate) fn finish(self, alloc: Global) -> Result<Vec<u8>, AllocError>
-        ensures { IfOk result (λ out. out.items ≡ flat_map raw_bytes (patched (patched self.entry.before.records self.entry.patches) self.entry.growths)) }
+    /// The number of the records that replace those so far.
+    pub(crate) fn count(&self) -> usize
+        ensures { result ≡ length self.now.before.records }
+    {
+        self.records.len()
+    }
+
+    /// The records, with all values added.
+    pub(crate) fn finish(self) -> Vec<Record>
+        ensures { result.items ≡ patched (patched self.entry.before.records self.entry.patches) self.entry.growths }
     {
         let Work {
             patches,
@@ -281,9 +314,7 @@ impl<'a> Work<'a> {
         } = self;
         add_all(&mut records, &patches);
         add_all(&mut records, &growths);
-        let mut out = Vec::new(alloc);
-        put_all(&mut out, &records)?;
-        Ok(out)
+        records
     }
 }
 
@@ -303,14 +334,4 @@ fn add_all(records: &mut Vec<Record>, patches: &[Patch])
     for patch in patches {
         add_one(records, patch);
     }
-}
-
-/// Appends the bytes of records.
-fn put_all(out: &mut Vec<u8>, records: &[Record]) -> Result<(), AllocError>
-    ensures { OnOk result (out.new.items ≡ out.old.items ++ flat_map raw_bytes records.now) }
-{
-    for record in records {
-        record.put(out)?;
-    }
-    Ok(())
 }

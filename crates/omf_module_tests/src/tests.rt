@@ -34,6 +34,7 @@ mod reading;
 mod samples;
 mod sessions;
 mod texts;
+mod trimming;
 mod verdicts;
 
 /// The module of these records; `None` if it is refused, or memory runs out.

@@ -1,14 +1,14 @@
 //! The program on the arguments, the file, the standard input, the standard output and the standard error of its process.
 
+use omf_drafting::asked::{Asked, sorted};
+use omf_drafting::host::{perform, perform_on_input, read_or_tell};
+use omf_drafting::options::AskedOptions;
+use omf_drafting::place::{Place, options_of};
 use omf_frame::{Bytes, Sink};
 use omf_host::{
     About, Status, Streams, end, explain, misused_by, out_of_memory, program_and_arguments,
     question_in, standard_streams,
 };
-use omf_linker::asked::{Asked, sorted};
-use omf_linker::host::{perform, perform_on_input, read_or_tell};
-use omf_linker::options::AskedOptions;
-use omf_linker::place::{Place, options_of};
 use std::alloc::AllocError;
 use std::process::ExitCode;
 

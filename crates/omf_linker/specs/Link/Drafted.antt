@@ -5,11 +5,11 @@ use Rattle.omf_placement.specs.Placement.{Places}
 use Rattle.omf_layout.specs.Layout.{Laid}
 use Rattle.omf_layout.specs.declared.options.Options.{Options}
 use Rattle.omf_layout.specs.Several.Placing.{arranged_places}
-use Rattle.omf_linker.specs.Drafting.Reading.{IsReadBack}
-use Rattle.omf_linker.specs.Drafting.Text.{drafted}
+use Rattle.omf_drafting.specs.Reading.{IsReadBack}
+use Rattle.omf_drafting.specs.Text.{drafted}
 use Rattle.omf_linking.specs.declared.fault.LinkFault.TheVariants as link
-use Rattle.omf_linker.specs.declared.link.fault.ImageFault.{ImageFault}
-use Rattle.omf_linker.specs.declared.link.fault.ImageFault.TheVariants as fault
+use Rattle.omf_lines.specs.declared.fault.ImageFault.{ImageFault}
+use Rattle.omf_lines.specs.declared.fault.ImageFault.TheVariants as fault
 
 -- A text is the draft for modules with these options. Read again, it gives the modules the places of their segments and groups.
 pub record IsDraft (o : Options) (ms : List (List Rec)) (text : List ℕ) : Type 0 where

@@ -10,10 +10,10 @@ use Rattle.omf_linking.specs.PlainText.{plain_text}
 use Rattle.omf_linker.specs.Link.Files.{AreLabeled, IsFileRefused}
 use Rattle.omf_linker.specs.Link.Linked.{any}
 use Rattle.omf_linker.specs.Link.Shown.{AreShown, IsNoModule}
-use Rattle.omf_linker.specs.declared.link.fault.ImageFault.{ImageFault}
-use Rattle.omf_linker.specs.declared.link.fault.ImageFault.TheVariants as image
-use Rattle.omf_linker.specs.declared.link.files_fault.FilesFault.{FilesFault}
-use Rattle.omf_linker.specs.declared.link.files_fault.FilesFault.TheVariants as fault
+use Rattle.omf_lines.specs.declared.fault.ImageFault.{ImageFault}
+use Rattle.omf_lines.specs.declared.fault.ImageFault.TheVariants as image
+use Rattle.omf_lines.specs.declared.files_fault.FilesFault.{FilesFault}
+use Rattle.omf_lines.specs.declared.files_fault.FilesFault.TheVariants as fault
 use Rattle.omf_linker.specs.declared.link.words.Task.{Task}
 
 -- The result of a task for these modules, by their labels, and this text, all folded.

@@ -10,7 +10,7 @@ use Rattle.omf_output.specs.declared.rom.hex.HexBase.{HexBase}
 use Rattle.omf_output.specs.declared.rom.hex.HexBase.TheVariants.{Linear, Segment}
 use Rattle.omf_output.specs.declared.rom.srec.SAddress.{SAddress}
 use Rattle.omf_output.specs.declared.rom.srec.SAddress.TheVariants.{Bits16, Bits24, Bits32}
-use Rattle.omf_linker.specs.Options.{base_id, value_rule}
+use Rattle.omf_drafting.specs.Options.{base_id, value_rule}
 
 -- ---- a chip
 

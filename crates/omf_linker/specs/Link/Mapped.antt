@@ -5,9 +5,9 @@ use Rattle.omf_linking.specs.Locator.Sparse.{Sparse, sparse}
 use Rattle.omf_linking.specs.declared.fault.LinkFault.{LinkFault}
 use Rattle.omf_linking.specs.declared.fault.LinkFault.TheVariants as link
 use Rattle.omf_linking.specs.declared.locator.fault.LocatorFault.TheVariants as locator
-use Rattle.omf_linker.specs.Link.Unresolved.{unresolved_text}
-use Rattle.omf_linker.specs.Map.Addresses.{addressed_by}
-use Rattle.omf_linker.specs.Map.MapText.{map_text}
+use Rattle.omf_externals.specs.Unresolved.{unresolved_text}
+use Rattle.omf_map.specs.Addresses.{addressed_by}
+use Rattle.omf_map.specs.MapText.{map_text}
 
 -- A line of the text is at fault. Out of memory is possible at any time.
 abbrev pub IsUnread : List (List Rec) → List ℕ → LinkFault → Type 0

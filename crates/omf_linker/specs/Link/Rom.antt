@@ -9,12 +9,12 @@ use Rattle.omf_linking.specs.declared.fault.LinkFault.TheVariants as link
 use Rattle.omf_linking.specs.declared.space.stretch.Owner.{Owner}
 use Rattle.omf_output.specs.Rom.Memory.{IsFileOr, IsFirstOutside}
 use Rattle.omf_output.specs.declared.rom.form.Form.{Form}
-use Rattle.omf_linker.specs.Link.Faults.{is_of_modules}
+use Rattle.omf_lines.specs.Faults.{is_of_modules}
 use Rattle.omf_linker.specs.Link.Linked.{AreTogether, IsFirstFault}
-use Rattle.omf_linker.specs.Link.Named.{HasLines, outside_line}
-use Rattle.omf_linker.specs.declared.link.fault.ImageFault.{ImageFault}
+use Rattle.omf_lines.specs.Named.{HasLines, outside_line}
+use Rattle.omf_lines.specs.declared.fault.ImageFault.{ImageFault}
 use Rattle.omf_linker.specs.declared.link.linking.LinkedModules.{LinkedModules}
-use Rattle.omf_linker.specs.declared.link.fault.ImageFault.TheVariants as fault
+use Rattle.omf_lines.specs.declared.fault.ImageFault.TheVariants as fault
 
 -- The first segment with a byte at an address.
 abbrev pub first_owner : List SegmentAt → ℕ → Option Owner

@@ -1,17 +1,7 @@
 -- Definitions for the worked examples.
-use Rattle.std.specs.Prelude.{ℕ, List, [], ◌∷◌, ◌++◌, map, Option, codes}
-use Rattle.omf_records.specs.Values.{Rec}
-use Rattle.omf_reloc.specs.Modules.{module_of, using}
-use Rattle.omf_reloc.specs.declared.fault.ReachFault.{ReachFault}
+use Rattle.std.specs.Prelude.{ℕ, List, Option}
 use Rattle.omf_image.specs.Inner.Joined.{runs_of}
 use Rattle.omf_image.specs.Overlay.{Laid, byte_at}
-use Rattle.omf_linking.specs.declared.fault.LinkFault.{LinkFault}
-use Rattle.omf_linking.specs.declared.space.stretch.Owner.{Owner}
-use Rattle.omf_placement.specs.Entries.{in_words}
-use Rattle.omf_linker.specs.Link.Faults.{link_words}
-use Rattle.omf_linker.specs.Link.Named.{reach_text}
-use Rattle.omf_linker.specs.Link.Unresolved.{label_of, unresolved_text}
-use Rattle.omf_linker.specs.declared.spot.Spot.{Spot}
 use Rattle.omf_linker.specs.Link.MemoryText.{image_text, memory_text}
 
 -- bytes at an address
@@ -25,30 +15,3 @@ text_of laid = memory_text (byte_at laid 0) (runs_of laid 0)
 -- the same, with a start address
 abbrev pub started_text : List Laid → Option (ℕ × ℕ) → List ℕ
 started_text laid start = image_text (byte_at laid 0) (runs_of laid 0) start
-
--- the line of a fault
-abbrev pub line_of : LinkFault → List ℕ
-line_of f = in_words (link_words f)
-
--- a segment of a module
-abbrev pub segment_of : ℕ → ℕ → Owner
-segment_of j i = record { «module» = j; segment = i }
-
--- the lines of the names of modules, by their bytes
-abbrev pub names_of : List (List ℕ) → List ℕ
-names_of ms = unresolved_text [] (map module_of ms) []
-
--- the segment with this index, and an offset in it
-abbrev pub spot_of : ℕ → ℕ → Spot
-spot_of i x = record { segment = i; offset = x }
-
--- two modules, the first of which has a label
-abbrev pub two_modules : List (List Rec)
-two_modules = map module_of (using ∷ using ∷ [])
-
-abbrev pub one_label : List (List ℕ)
-one_label = codes "file \"a.obj\" module 1" ∷ []
-
--- the line of a fault of a placement of one of these
-abbrev pub reach_shown : ℕ → ReachFault → List ℕ
-reach_shown j f = label_of one_label j ++ reach_text two_modules j f ++ 10 ∷ []

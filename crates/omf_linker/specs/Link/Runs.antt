@@ -6,8 +6,8 @@ use Rattle.omf_linking.specs.Reading.{IsPartRead}
 use Rattle.omf_linking.specs.declared.fault.LinkFault.TheVariants as link
 use Rattle.omf_cmd.specs.Runs.{HasGivenUp, IsUnbroken, PrintsOr}
 use Rattle.omf_linker.specs.Link.Shown.{IsShownOf}
-use Rattle.omf_linker.specs.declared.link.fault.ImageFault.{ImageFault}
-use Rattle.omf_linker.specs.declared.link.fault.ImageFault.TheVariants as fault
+use Rattle.omf_lines.specs.declared.fault.ImageFault.{ImageFault}
+use Rattle.omf_lines.specs.declared.fault.ImageFault.TheVariants as fault
 use Rattle.omf_linker.specs.declared.link.words.Task.{Task}
 
 -- The result of a task for an input that is read to its end.

@@ -7,14 +7,14 @@ use Rattle.omf_linking.specs.Reading.{AreModules}
 use Rattle.omf_linking.specs.declared.fault.LinkFault.{LinkFault}
 use Rattle.omf_linking.specs.declared.fault.LinkFault.TheVariants as link
 use Rattle.omf_linker.specs.Link.Drafted.{IsDrafted}
-use Rattle.omf_linker.specs.Link.Faults.{is_of_modules}
+use Rattle.omf_lines.specs.Faults.{is_of_modules}
 use Rattle.omf_linker.specs.Link.Linked.{any, IsLinked}
 use Rattle.omf_linker.specs.Link.Mapped.{IsMapped}
 use Rattle.omf_linker.specs.Link.Rom.{IsRom}
-use Rattle.omf_linker.specs.Link.Named.{HasLines}
-use Rattle.omf_linker.specs.Suiting.{options_for}
-use Rattle.omf_linker.specs.declared.link.fault.ImageFault.{ImageFault}
-use Rattle.omf_linker.specs.declared.link.fault.ImageFault.TheVariants as fault
+use Rattle.omf_lines.specs.Named.{HasLines}
+use Rattle.omf_drafting.specs.Suiting.{options_for}
+use Rattle.omf_lines.specs.declared.fault.ImageFault.{ImageFault}
+use Rattle.omf_lines.specs.declared.fault.ImageFault.TheVariants as fault
 use Rattle.omf_linker.specs.declared.link.words.Task.{Task}
 use Rattle.omf_linker.specs.declared.link.words.Task.TheVariants as task
 

@@ -1,8 +1,8 @@
 -- What the arguments of `omf-link` ask for (a rule of this profile), stated over clap's own definitions.
 use Rattle.std.specs.Prelude.{◌≡◌, ◌⊎◌, List, [], Option, Some, None, IfSome, codes}
 use Rattle.clap.specs.Words.{App, Row, Text, fault_of, new_app, subcommand_of, with_subcommand}
-use Rattle.omf_linker.specs.declared.options.AskedOptions.{AskedOptions}
-use Rattle.omf_linker.specs.Options.{AreNamed, NameOnly, with_options}
+use Rattle.omf_drafting.specs.declared.options.AskedOptions.{AskedOptions}
+use Rattle.omf_drafting.specs.Options.{AreNamed, NameOnly, with_options}
 use Rattle.omf_linker.specs.Link.FormWords.{IsFormNamed, with_addresses, with_chip}
 use Rattle.omf_linker.specs.declared.link.words.Task.{Task}
 use Rattle.omf_linker.specs.declared.link.words.Task.TheVariants as task

@@ -1,6 +1,6 @@
 -- What a task of `omf-link` prints about what its link text does unseen (this profile's rule). Only what puts modules into memory is looked at: an image, or a file
 -- for a chip.
-use Rattle.std.specs.Prelude.{◌≡◌, ⊤, ℕ, Bool, not, List, [], ◌++◌, filter, Option, Some, None, Ok, true, false, string_bytes, if◌then◌else◌}
+use Rattle.std.specs.Prelude.{◌≡◌, ⊤, ℕ, Bool, not, List, [], filter, Option, Some, None, Ok, true, false, string_bytes, if◌then◌else◌}
 use Rattle.std.specs.List.{AllZip}
 use Rattle.omf_check.specs.Module.{Module, typed_modules}
 use Rattle.omf_placement.specs.Placement.{Places}
@@ -13,25 +13,16 @@ use Rattle.omf_linking.specs.Placing.{linked}
 use Rattle.omf_linking.specs.Reading.{AreModules}
 use Rattle.omf_linker.specs.Link.Files.{AreLabeled}
 use Rattle.omf_linker.specs.Link.Linked.{any}
-use Rattle.omf_linker.specs.Link.Repeated.{IsRepeatedText}
-use Rattle.omf_linker.specs.Link.Unresolved.{all_rows}
-use Rattle.omf_linker.specs.Seen.Lines.{AreLines, HasLines}
-use Rattle.omf_linker.specs.Seen.Unseen.{AreUnseen}
+use Rattle.omf_externals.specs.Repeated.{IsRepeatedText}
+use Rattle.omf_externals.specs.Unresolved.{all_rows}
+use Rattle.omf_warnings.specs.Lines.{HasLines}
+use Rattle.omf_warnings.specs.Unseen.{AreUnseen}
 use Rattle.omf_linker.specs.declared.link.words.Task.{Task}
 use Rattle.omf_linker.specs.declared.link.words.Task.TheVariants as task
-use Rattle.omf_linker.specs.declared.seen.allowed.Allowed.{Allowed}
+use Rattle.omf_warnings.specs.declared.allowed.Allowed.{Allowed}
 use Rattle.omf_linker.specs.declared.seen.files.SeenLines.{SeenLines}
-use Rattle.omf_linker.specs.declared.seen.finding.Finding.{Finding as Found}
-use Rattle.omf_linker.specs.declared.seen.finding.Finding.TheVariants.{Overlap, Align, Group, Frames, Selector, Near}
-
--- What is found is of a kind that is allowed.
-abbrev pub is_allowed : Allowed → Found → Bool
-is_allowed a (Overlap first second) = a.overlap
-is_allowed a (Align o address n) = a.align
-is_allowed a (Group far) = a.group
-is_allowed a (Frames first other) = a.frame
-is_allowed a (Selector framed) = a.frame
-is_allowed a (Near stray) = a.near
+use Rattle.omf_warnings.specs.declared.finding.Finding.{Finding as Found}
+use Rattle.omf_warnings.specs.Allowing.{is_allowed}
 
 -- What counts as a warning, or as a fault.
 abbrev pub counts : Allowed → Bool → Found → Bool

@@ -9,8 +9,8 @@ ghost use Rattle.omf_output.specs.declared.rom.form.Form.TheVariants.{Binary, He
 ghost use Rattle.omf_output.specs.declared.rom.hex.HexBase.{HexBase as Base};
 ghost use Rattle.omf_output.specs.declared.rom.srec.SAddress.{SAddress as Width};
 
-use crate::options::valued;
 use clap::{ArgMatches, Command};
+use omf_drafting::options::valued;
 use omf_host::{number, size};
 use omf_output::rom::{Chip, Form, HexBase, SAddress};
 use std::alloc::{AllocError, Global};

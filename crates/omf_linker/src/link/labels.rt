@@ -4,10 +4,9 @@ ghost use Rattle.std.specs.Prelude.{◌≡◌, ◌++◌, ◌<◌, ◌^◌, IfErr
 ghost use Rattle.omf_linker.specs.Inner.Gathering.{IsAdded};
 ghost use Rattle.omf_linker.specs.Link.Files.{AreLabeled, IsFileRefused, module_label, module_labels};
 
-use crate::exe::move_all;
-use crate::link::files::{file_front, in_file};
-use crate::link::files_fault::FilesFault;
 use omf_check::{Checked, Profile};
+use omf_externals::move_all;
+use omf_lines::{FilesFault, file_front, in_file};
 use omf_linking::{InputFile, LinkFault, file_modules};
 use std::alloc::{AllocError, Global};
 use std::fmt::Write;

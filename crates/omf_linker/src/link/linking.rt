@@ -8,11 +8,11 @@ ghost use Rattle.omf_linker.specs.Link.Linked.{AreLinked, IsLinked};
 ghost use Rattle.omf_linker.specs.Link.Mapped.{IsMapped};
 
 use crate::link::output::Output;
-use crate::link::unresolved::unresolved_text;
-use crate::map::given_text;
 use omf_check::Checked;
+use omf_externals::unresolved_text;
 use omf_linking::locator::sparse_places;
 use omf_linking::{LinkFault, LinkedPlaces, Together, laid_together, link};
+use omf_map::given_text;
 use omf_placement::Placement;
 use std::alloc::Global;
 

@@ -1,15 +1,15 @@
 //! The program `omf-link`.
 
-ghost use Rattle.omf_linker.specs.Link.Faults.{usage};
+ghost use Rattle.omf_linker.specs.Link.Usage.{usage};
 ghost use Rattle.omf_linker.specs.Link.Runs.{IsRun};
 ghost use Rattle.omf_linker.specs.Link.Words.{IsFound};
 
-use crate::link::fault::ImageFault;
 use crate::link::running::run_task;
 use crate::link::words;
 use crate::link::words::task_of;
 use omf_cmd::Program;
 use omf_frame::{Sink, Source};
+use omf_lines::ImageFault;
 use std::alloc::{AllocError, Global};
 
 /// The program `omf-link`.
@@ -43,6 +43,6 @@ impl Program for Link {
     }
 
     fn usage() -> &'static [u8] {
-        b"usage: omf-link exe -o FILE [--map FILE] [--stack BYTES] [--order dos|input]\n           [--max-alloc PARAGRAPHS] [-L DIR ..] [--library-path DIR ..]\n           [--no-default-libraries] [--no-default-library NAME ..]\n           [--allow group|near|twice ..] [--ignore-case] [--keep-debug] FILE ..\n       omf-link com -o FILE [--map FILE] [--stack BYTES] [--order dos|input]\n           [-L DIR ..] [--library-path DIR ..] [--no-default-libraries]\n           [--no-default-library NAME ..] [--allow group|near|twice ..]\n           [--ignore-case] [--keep-debug] FILE ..\n       omf-link image [--allow overlap|align|group|frame|near|twice ..]\n           [--ignore-case] [-t TEXT] [-o FILE] [FILE ..]\n       omf-link map [--ignore-case] [-t TEXT] [-o FILE] [FILE ..]\n       omf-link bin --base ADDRESS --size SIZE [--fill BYTE]\n           [--allow overlap|align|group|frame|near|twice ..]\n           [--ignore-case] [-t TEXT] [-o FILE] [FILE ..]\n       omf-link hex [--addresses linear|segment]\n           [--allow overlap|align|group|frame|near|twice ..]\n           [--ignore-case] [-t TEXT] [-o FILE] [FILE ..]\n       omf-link srec [--addresses 16|24|32]\n           [--allow overlap|align|group|frame|near|twice ..]\n           [--ignore-case] [-t TEXT] [-o FILE] [FILE ..]\n       omf-link draft [--base ADDRESS] [--real | --flat SELECTOR]\n           [--ignore-case] [-o FILE] [FILE ..]\n"
+        b"usage: omf-link exe -o FILE [--map FILE] [--symbols TOOL=FILE] [--stack BYTES]\n           [--order ORDER] [--max-alloc PARAGRAPHS] [-L DIR ..]\n           [--library-path DIR ..] [--no-default-libraries]\n           [--no-default-library NAME ..] [--allow group|mixed|near|twice ..]\n           [--ignore-case] [--keep-debug] [--eliminate] FILE ..\n       omf-link com -o FILE [--map FILE] [--symbols TOOL=FILE] [--stack BYTES]\n           [--order ORDER] [-L DIR ..] [--library-path DIR ..]\n           [--no-default-libraries] [--no-default-library NAME ..]\n           [--allow group|mixed|near|twice ..] [--ignore-case] [--keep-debug]\n           [--eliminate] FILE ..\n       omf-link image [--allow overlap|align|group|frame|near|twice ..]\n           [--ignore-case] [-t TEXT] [-o FILE] [FILE ..]\n       omf-link map [--ignore-case] [-t TEXT] [-o FILE] [FILE ..]\n       omf-link bin --base ADDRESS --size SIZE [--fill BYTE]\n           [--allow overlap|align|group|frame|near|twice ..]\n           [--ignore-case] [-t TEXT] [-o FILE] [FILE ..]\n       omf-link hex [--addresses linear|segment]\n           [--allow overlap|align|group|frame|near|twice ..]\n           [--ignore-case] [-t TEXT] [-o FILE] [FILE ..]\n       omf-link srec [--addresses 16|24|32]\n           [--allow overlap|align|group|frame|near|twice ..]\n           [--ignore-case] [-t TEXT] [-o FILE] [FILE ..]\n       omf-link draft [--base ADDRESS] [--real | --flat SELECTOR]\n           [--ignore-case] [-o FILE] [FILE ..]\n"
     }
 }

@@ -8,11 +8,9 @@ ghost use Rattle.omf_linking.specs.Space.Segments.{segment_at, segments_at, shar
 ghost use Rattle.omf_linking.specs.Together.{segments_of};
 ghost use Rattle.omf_linker.specs.Link.Rom.{IsLinkedFile, IsOutside, IsOwned, IsRom, first_owner};
 
-use crate::lines::{Labeled, outside_line};
-use crate::link::fault::ImageFault;
 use crate::link::linking::{LinkedModules, linked_modules};
-use crate::link::naming::named;
 use omf_check::Checked;
+use omf_lines::{ImageFault, Labeled, named, outside_line};
 use omf_linking::space::{Owner, PlacedSegment};
 use omf_linking::{LinkFault, relocate_all, segments_of};
 use omf_output::rom::{FileFault, Form, memory_file};

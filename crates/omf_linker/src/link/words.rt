@@ -3,18 +3,18 @@
 ghost use Rattle.std.specs.Prelude.{◌≡◌, List, codes, map, string_bytes, IfOk, IfSome, Some, None, true, false};
 ghost use Rattle.std.specs.Str.{bytes_eq};
 ghost use Rattle.clap.specs.Words.{Row, Text, app_of, found_of, rows_of, subcommand_rows_of};
-ghost use Rattle.omf_linker.specs.declared.options.AskedOptions.{AskedOptions as At};
+ghost use Rattle.omf_drafting.specs.declared.options.AskedOptions.{AskedOptions as At};
 ghost use Rattle.omf_output.specs.declared.rom.form.Form.{Form as AskedForm};
-ghost use Rattle.omf_linker.specs.Options.{AreNamed, NameOnly};
+ghost use Rattle.omf_drafting.specs.Options.{AreNamed, NameOnly};
 ghost use Rattle.omf_linker.specs.Link.FormWords.{IsFormNamed};
 ghost use Rattle.omf_linker.specs.Link.Words.{IsFound, IsNamedIn, IsTask, NamesBy, link_app};
 ghost use Rattle.omf_linker.specs.declared.link.words.Task.{Task as Asked};
 ghost use Rattle.omf_linker.specs.declared.link.words.Task.TheVariants.{Image, Map, Draft, Rom};
 
 use crate::link::form_words::{form_named, with_addresses, with_chip};
-use crate::options::{AskedOptions, options_in, with_options};
 use clap::{ArgMatches, Command};
 use omf_cmd::read_words;
+use omf_drafting::options::{AskedOptions, options_in, with_options};
 use omf_output::rom::Form;
 use std::alloc::{AllocError, Global};
 

@@ -5,19 +5,16 @@ ghost use Rattle.omf_check.specs.Module.{typed_modules};
 ghost use Rattle.omf_records.specs.Inner.Seen.{map_ok};
 ghost use Rattle.omf_linker.specs.Link.Files.{AreFilesShown, IsShownAs};
 ghost use Rattle.omf_linker.specs.Link.Shown.{AreShown, IsShownOf};
-ghost use Rattle.omf_linker.specs.Seen.Lines.{HasLines};
+ghost use Rattle.omf_warnings.specs.Lines.{HasLines};
 ghost use Rattle.omf_linker.specs.Seen.Looks.{AreFound, AreFoundAt, AreLookedFrom, AreLookedIn, AreLookedOf, counts, counts_twice, repeated_by};
 
-use crate::lines::Labeled;
-use crate::link::{
-    FilesFault, ImageFault, InputFile, LabeledModules, Output, ShownAt, Task, parted,
-    repeated_text, shown_at,
-};
-use crate::seen::allowed::Allowed;
-use crate::seen::finding::{Finding, unseen};
-use crate::seen::lines::put_line;
+use crate::link::{LabeledModules, Output, ShownAt, Task, parted, shown_at};
 use omf_check::Checked;
+use omf_externals::repeated_text;
+use omf_lines::{FilesFault, ImageFault, Labeled};
+use omf_linking::InputFile;
 use omf_placement::Placement;
+use omf_warnings::{Allowed, Finding, put_line, unseen};
 use std::alloc::{AllocError, Global};
 
 /// The output of a task, and a line for each thing that the link text does unseen.

@@ -9,12 +9,12 @@ ghost use Rattle.omf_linking.specs.PlainText.{plain_text};
 ghost use Rattle.omf_linker.specs.Link.Folded.{AreFilesFolded, IsFoldedOf, IsShownFolded, IsShownFoldedAs};
 ghost use Rattle.omf_linker.specs.Seen.Looks.{AreLookedFolded, AreLookedFrom, AreLookedOf};
 
-use crate::lines::Labeled;
-use crate::link::{FilesFault, ImageFault, InputFile, LabeledModules, Task, parted};
-use crate::seen::allowed::Allowed;
+use crate::link::{LabeledModules, Task, parted};
 use crate::seen::files::{Request, SeenText, modules_seen};
 use omf_check::Checked;
-use omf_linking::{LinkFault, folded_all, folded_text, plain_text};
+use omf_lines::{FilesFault, ImageFault, Labeled};
+use omf_linking::{InputFile, LinkFault, folded_all, folded_text, plain_text};
+use omf_warnings::Allowed;
 use std::alloc::{AllocError, Global};
 
 /// Modules and a link text with names in lower case.

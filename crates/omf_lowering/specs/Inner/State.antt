@@ -1,6 +1,7 @@
 -- What a lowering has of the records so far, and the results of its functions.
 use Rattle.std.specs.Prelude.{◌≡◌, ◌<◌, IsTrue, ⊤, ℕ, List, [], ◌∷◌, ◌++◌, length, Option, Some, None, Result, Ok, Err}
 use Rattle.omf_frame.specs.Fault.{Fault}
+use Rattle.omf_frame.specs.declared.fault.Reason.TheVariants as reason
 use Rattle.omf_check.specs.Rules.{item_limit}
 use Rattle.omf_frame.specs.Framing.{Raw, is_end, raw_bytes}
 use Rattle.omf_lowering.specs.Patches.{pieces_from}
@@ -53,6 +54,10 @@ IsStop (stop.At e) f = f ≡ Some e
 abbrev pub refusal : Stop → ℕ → ℕ → LoweringFault
 refusal stop.Memory number start = lowering.Memory
 refusal (stop.At e) number start = lowering.Refused e.reason (record { number = number; start = start; within = e.within })
+
+-- The fault that records are too many, at an offset in the input.
+abbrev pub excess : ℕ → LoweringFault
+excess start = lowering.Refused reason.TooMany (record { number = item_limit; start = start; within = 0 })
 
 -- A function gave, seen by view, what a reading gives, unless memory ran out.
 abbrev pub GivesAll : {X Y : Type 0} → (X → Y) → Result X Stop → Result Y Fault → Type 0

@@ -3,8 +3,9 @@
 use super::verdicts::ANY;
 use omf_check::{Checked, check};
 use omf_frame::{Bytes, Place, Reason};
-use omf_lowering::{FileFault, LoweringFault, chosen, lowered, lowered_file};
+use omf_lowering::{FileFault, LoweringFault, lowered, lowered_file};
 use omf_samples::{DATA, END, FIXUP, HEADER, NAMES, SEGMENT, joined};
+use omf_trimming::chosen;
 use std::alloc::Global;
 
 type Rows = &'static [&'static str];
@@ -484,7 +485,7 @@ fn modules_of(alloc: Global, rows: &[Rows]) -> Option<Vec<Checked>> {
 }
 
 /// Whether modules have the bytes of these records.
-fn have_bytes(alloc: Global, modules: &[Checked], wanted: &[Rows]) -> bool {
+pub(super) fn have_bytes(alloc: Global, modules: &[Checked], wanted: &[Rows]) -> bool {
     for (module, rows) in modules.iter().zip(wanted.iter()) {
         let Ok(bytes) = joined(alloc, *rows) else {
             return false;

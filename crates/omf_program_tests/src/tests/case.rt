@@ -2,10 +2,13 @@
 
 use super::exe::made_of;
 use omf_cmd::{Fault, Gathered};
-use omf_linker::exe::{ExeOptions, ProgramKind};
-use omf_linker::link::{FilesFault, InputFile, Task};
-use omf_linker::seen::{Allowed, Request, SeenText, files_folded, files_seen, input_folded};
+use omf_exe::{ExeOptions, ProgramKind};
+use omf_lines::FilesFault;
+use omf_linker::link::Task;
+use omf_linker::seen::{Request, SeenText, files_folded, files_seen, input_folded};
+use omf_linking::InputFile;
 use omf_samples::{bytes_of, joined};
+use omf_warnings::Allowed;
 use std::alloc::Global;
 
 /// A module with the segment "T" that asks for _MAIN.

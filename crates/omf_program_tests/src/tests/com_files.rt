@@ -2,7 +2,7 @@
 
 use super::exe::{file_of, made_of};
 use omf_cmd::{Fault, Gathered};
-use omf_linker::exe::{ExeOptions, ProgramKind};
+use omf_exe::{ExeOptions, ProgramKind};
 use omf_samples::bytes_of;
 use std::alloc::Global;
 

@@ -2,8 +2,8 @@
 
 use super::modules::{ANY, bytes_of};
 use omf_check::Checked;
+use omf_drafting::link_draft;
 use omf_layout::{Frames, LayoutFault, Options};
-use omf_linker::drafting::link_draft;
 use omf_linking::{LinkFault, modules_in};
 use omf_samples::END;
 use std::alloc::Global;

@@ -1,8 +1,8 @@
 //! Runs of `omf-link exe` over files.
 
 use omf_cmd::{Fault, Gathered};
-use omf_linker::exe::{ExeOptions, Leftovers, MadeProgram, ProgramFiles, ProgramKind, Refusal};
-use omf_linker::link::InputFile;
+use omf_exe::{ExeOptions, Leftovers, MadeProgram, ProgramFiles, ProgramKind, Refusal};
+use omf_linking::InputFile;
 use omf_samples::bytes_of;
 use std::alloc::Global;
 

@@ -1,49 +1,65 @@
 //! The options of `omf-link exe` and `com`, and the libraries that its modules ask for.
 
-use omf_linker::asked::{Asked, sorted};
-use omf_linker::exe::{
-    Call, ExeOptions, Order, ProgramFiles, ProgramKind, call_of, library_files, missing_lines,
+use omf_drafting::asked::{Asked, sorted};
+use omf_exe::{
+    Call, ExeOptions, Order, ProgramFiles, ProgramKind, SymbolsFile, call_of, library_files,
+    missing_lines,
 };
-use omf_linker::link::InputFile;
+use omf_linking::InputFile;
 use omf_samples::bytes_of;
+use omf_symbols::Tool;
 use std::alloc::{AllocError, Global};
+
+/// The order that is to be read.
+enum AskedOrder {
+    None,
+    Dos,
+    Input,
+    Classes(&'static [&'static [u8]]),
+}
 
 /// Options as they are to be read.
 struct Read {
     map: Option<&'static str>,
+    symbols: Option<SymbolsFile<'static>>,
     folders: &'static [&'static str],
     default_libraries: bool,
     left_out: &'static [&'static str],
     ignore_case: bool,
     stack: Option<u16>,
     max_alloc: Option<u16>,
-    order: Option<Order>,
+    order: AskedOrder,
     allows_twice: bool,
     allows_long: bool,
     allows_near: bool,
+    allows_mixed: bool,
     keeps_debug: bool,
+    eliminates: bool,
 }
 
 /// No options.
 const NONE: Read = Read {
     map: None,
+    symbols: None,
     folders: &[],
     default_libraries: true,
     left_out: &[],
     ignore_case: false,
     stack: None,
     max_alloc: None,
-    order: None,
+    order: AskedOrder::None,
     allows_twice: false,
     allows_long: false,
     allows_near: false,
+    allows_mixed: false,
     keeps_debug: false,
+    eliminates: false,
 };
 
 /// Arguments, separated by spaces, and the options that they give.
 type Case = (&'static str, Option<Read>);
 
-static CASES: [Case; 46] = [
+static CASES: [Case; 58] = [
     ("", Some(NONE)),
     (
         "--map a.map",
@@ -52,6 +68,31 @@ static CASES: [Case; 46] = [
             ..NONE
         }),
     ),
+    (
+        "--symbols ghidra=a=b",
+        Some(Read {
+            symbols: Some(SymbolsFile {
+                tool: Tool::Ghidra,
+                name: "a=b",
+            }),
+            ..NONE
+        }),
+    ),
+    (
+        "--symbols r2=a.r2",
+        Some(Read {
+            symbols: Some(SymbolsFile {
+                tool: Tool::Radare,
+                name: "a.r2",
+            }),
+            ..NONE
+        }),
+    ),
+    ("--symbols nm", None),
+    ("--symbols nm=", None),
+    ("--symbols gdb=a", None),
+    ("--symbols", None),
+    ("--symbols nm=a --symbols ida=a", None),
     (
         "--library-path b --library-path a --no-default-libraries",
         Some(Read {
@@ -120,20 +161,28 @@ static CASES: [Case; 46] = [
         }),
     ),
     ("--keep-debug yes", None),
+    (
+        "--eliminate --keep-debug",
+        Some(Read {
+            keeps_debug: true,
+            eliminates: true,
+            ..NONE
+        }),
+    ),
     ("--max-alloc 65536", None),
     ("--max-alloc", None),
     ("--max-alloc 1 --max-alloc 1", None),
     (
         "--order dos",
         Some(Read {
-            order: Some(Order::Dos),
+            order: AskedOrder::Dos,
             ..NONE
         }),
     ),
     (
         "--order input",
         Some(Read {
-            order: Some(Order::Input),
+            order: AskedOrder::Input,
             ..NONE
         }),
     ),
@@ -167,10 +216,24 @@ static CASES: [Case; 46] = [
         }),
     ),
     (
+        "--order CODE,DATA",
+        Some(Read {
+            order: AskedOrder::Classes(&[b"CODE", b"DATA"]),
+            ..NONE
+        }),
+    ),
+    (
+        "--allow mixed",
+        Some(Read {
+            allows_mixed: true,
+            ..NONE
+        }),
+    ),
+    (
         "--map a.map --allow twice --order dos",
         Some(Read {
             map: Some("a.map"),
-            order: Some(Order::Dos),
+            order: AskedOrder::Dos,
             allows_twice: true,
             ..NONE
         }),
@@ -207,6 +270,8 @@ static CASES: [Case; 46] = [
     ("--stack 0x", None),
     ("--order", None),
     ("--order DOS", None),
+    ("--order A,", None),
+    ("--order A,,B", None),
     ("--order dos --order dos", None),
     ("--allow", None),
     ("--allow overlap", None),
@@ -229,20 +294,34 @@ fn arguments_of(alloc: Global, text: &str) -> Result<Vec<String>, AllocError> {
     Ok(arguments)
 }
 
+/// Whether an order is the one that is to be read.
+fn is_order(order: &Option<Order<'_>>, asked: &AskedOrder) -> bool {
+    match (order, asked) {
+        (None, AskedOrder::None) => true,
+        (Some(Order::Dos), AskedOrder::Dos) => true,
+        (Some(Order::Input), AskedOrder::Input) => true,
+        (Some(Order::Classes(classes)), AskedOrder::Classes(asked)) => classes.as_slice() == *asked,
+        _ => false,
+    }
+}
+
 /// Whether options are read as they are to be.
 fn are_read(options: &ExeOptions<'_>, read: &Read) -> bool {
     options.map == read.map
+        && options.symbols == read.symbols
         && options.folders.as_slice() == read.folders
         && options.default_libraries == read.default_libraries
         && options.left_out.as_slice() == read.left_out
         && options.ignore_case == read.ignore_case
         && options.stack == read.stack
         && options.max_alloc == read.max_alloc
-        && options.order == read.order
+        && is_order(&options.order, &read.order)
         && options.allows_twice == read.allows_twice
         && options.allows_long == read.allows_long
         && options.allows_near == read.allows_near
-        && options.keeps_debug == read.keeps_debug
+        && options.allows_mixed == read.allows_mixed
+        && options.unreached.debug != read.keeps_debug
+        && options.unreached.code == read.eliminates
 }
 
 /// Whether arguments give the options of a case.

@@ -1,9 +1,12 @@
 //! Runs of `omf-link` over files.
 
 use omf_cmd::{Fault, Gathered};
-use omf_linker::link::{FilesFault, InputFile, Task};
-use omf_linker::seen::{Allowed, Request, SeenText, files_seen};
+use omf_lines::FilesFault;
+use omf_linker::link::Task;
+use omf_linker::seen::{Request, SeenText, files_seen};
+use omf_linking::InputFile;
 use omf_samples::bytes_of;
+use omf_warnings::Allowed;
 use std::alloc::Global;
 
 /// A module with one segment of the two bytes CCH and DDH: 37 bytes.

@@ -2,8 +2,8 @@
 
 use super::exe::{file_of, made_of};
 use omf_cmd::{Fault, Gathered};
-use omf_linker::exe::{ExeOptions, MadeProgram, Order, ProgramKind, Refusal};
-use omf_linker::link::InputFile;
+use omf_exe::{ExeOptions, MadeProgram, Order, ProgramKind, Refusal};
+use omf_linking::InputFile;
 use std::alloc::Global;
 
 /// A main module: BSS of 2 bytes and DATA of 1 in DGROUP, both at even addresses, and after them CODE of 1 byte. It asks for _edata; and by a comment for
@@ -37,29 +37,42 @@ const MAP: &str = "module 1 \"order\"\n\
 /// The line in the order of the files.
 const UNDEFINED: &str = "undefined \"_edata\": file \"a.obj\" module 1\n";
 
-/// A module, the order that the options name, and the map or the line.
-static CASES: [(&str, Option<Order>, &str); 5] = [
-    (ASKS, None, MAP),
-    (ASKS, Some(Order::Dos), MAP),
-    (ASKS, Some(Order::Input), UNDEFINED),
-    (SILENT, Some(Order::Dos), MAP),
-    (SILENT, None, UNDEFINED),
+/// What the options name.
+#[derive(Clone, Copy)]
+enum Named {
+    Nothing,
+    Dos,
+    Input,
+}
+
+/// The order of the options.
+fn order_of(named: Named) -> Option<Order<'static>> {
+    match named {
+        Named::Nothing => None,
+        Named::Dos => Some(Order::Dos),
+        Named::Input => Some(Order::Input),
+    }
+}
+
+/// A module, what the options name, and the map or the line.
+static CASES: [(&str, Named, &str); 5] = [
+    (ASKS, Named::Nothing, MAP),
+    (ASKS, Named::Dos, MAP),
+    (ASKS, Named::Input, UNDEFINED),
+    (SILENT, Named::Dos, MAP),
+    (SILENT, Named::Nothing, UNDEFINED),
 ];
 
 /// A program of files in this order, with its map.
-fn in_order(
-    alloc: Global,
-    files: Vec<InputFile>,
-    order: Option<Order>,
-) -> Result<MadeProgram, Refusal> {
+fn in_order(alloc: Global, files: Vec<InputFile>, order: Named) -> Result<MadeProgram, Refusal> {
     let mut options = ExeOptions::new(alloc, ProgramKind::Exe);
     options.map = Some("a.map");
-    options.order = order;
+    options.order = order_of(order);
     made_of(alloc, files, &options)
 }
 
 /// Whether a program of files in this order has this map, or this line.
-fn is_right(alloc: Global, files: Vec<InputFile>, order: Option<Order>, text: &str) -> bool {
+fn is_right(alloc: Global, files: Vec<InputFile>, order: Named, text: &str) -> bool {
     match in_order(alloc, files, order) {
         Ok(made) => made
             .map

@@ -2,8 +2,8 @@
 
 use super::exe::{file_of, made_of};
 use omf_cmd::{Fault, Gathered};
-use omf_linker::exe::{ExeOptions, MadeProgram, ProgramKind, Refusal};
-use omf_linker::link::InputFile;
+use omf_exe::{ExeOptions, MadeProgram, ProgramKind, Refusal};
+use omf_linking::InputFile;
 use omf_samples::bytes_of;
 use std::alloc::Global;
 

@@ -1,8 +1,10 @@
 //! What a link text does unseen: addresses in common, wrong alignments, different frames, and the option `--allow`.
 
-use omf_linker::link::{InputFile, Task};
-use omf_linker::seen::{Allowed, Request, SeenText, allowed_in, files_seen};
+use omf_linker::link::Task;
+use omf_linker::seen::{Request, SeenText, files_seen};
+use omf_linking::InputFile;
 use omf_samples::bytes_of;
+use omf_warnings::{Allowed, allowed_in};
 use std::alloc::Global;
 
 /// A module with one segment "T" of the two bytes CCH and DDH.

@@ -2,9 +2,9 @@
 
 use super::modules::{Plan, bytes_of, pair, pair_by_name, plans};
 use omf_cmd::{Gathered, Omf, run_on};
+use omf_drafting::place::Place;
 use omf_frame::{Bytes, Sink, Source};
 use omf_linker::link::Link;
-use omf_linker::place::Place;
 use std::alloc::{AllocError, Global};
 
 /// A program.

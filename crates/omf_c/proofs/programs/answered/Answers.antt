@@ -1,8 +1,8 @@
 use Rattle.std.proofs.Common.{◌≡◌, ℕ, List}
 use Rattle.std.specs.Prelude.{◌⊎◌}
 use Rattle.omf_linking.specs.File.{InputFile}
-use Rattle.omf_linker.specs.declared.exe.made.MadeProgram.{MadeProgram}
-use Rattle.omf_linker.specs.declared.exe.options.ExeOptions.{ExeOptions}
+use Rattle.omf_exe.specs.declared.made.MadeProgram.{MadeProgram}
+use Rattle.omf_exe.specs.declared.options.ExeOptions.{ExeOptions}
 use Rattle.omf_c.specs.Answers.{done}
 use Rattle.omf_c.specs.Programs.{HandsProgram, IsAnsweredOf, IsProgramOfFiles, warnings}
 use Rattle.omf_c.specs.declared.answer.Answer.{Answer}

@@ -3,7 +3,7 @@ use Rattle.std.specs.Prelude.{option_and_then}
 use Rattle.clap.proofs.WalkLemmas.{first_value-rows}
 use Rattle.clap.specs.Words.{first_of, found_of, rows_of}
 use Rattle.omf_output.specs.declared.rom.form.Chip.{Chip}
-use Rattle.omf_linker.specs.Options.{base_id}
+use Rattle.omf_drafting.specs.Options.{base_id}
 use Rattle.omf_linker.specs.Link.FormWords.{address_named, fill_id, fill_named, size_id, size_named}
 use Rattle.omf_linker.proofs.link.form_words.chip_in.Goals as goal
 

@@ -2,9 +2,9 @@ use Rattle.std.proofs.Common.{◌++◌, ◌∙◌, List, ap, ap₂, map, string_
 use Rattle.std.proofs.lemmas.Result.{err_from_is_err_and}
 use Rattle.omf_check.specs.Module.{typed_modules}
 use Rattle.omf_linking.specs.Locator.Sparse.{Sparse}
-use Rattle.omf_linker.specs.Link.Unresolved.{unresolved_text}
-use Rattle.omf_linker.specs.Map.Addresses.{addressed_by}
-use Rattle.omf_linker.specs.Map.MapText.{map_text}
+use Rattle.omf_externals.specs.Unresolved.{unresolved_text}
+use Rattle.omf_map.specs.Addresses.{addressed_by}
+use Rattle.omf_map.specs.MapText.{map_text}
 use Rattle.omf_linker.proofs.LinkRuns.{not_mapped}
 use Rattle.omf_linker.proofs.link.linking.modules_map.Goals as goal
 

@@ -3,7 +3,7 @@ use Rattle.clap.specs.Words.{App, Shape, with_subcommand}
 use Rattle.omf_cmd.proofs.Parsed.{ok_also}
 use Rattle.omf_linker.proofs.ArgLaws.{no_globals}
 use Rattle.omf_linker.specs.Link.FormWords.{with_addresses, with_chip}
-use Rattle.omf_linker.specs.Options.{with_options}
+use Rattle.omf_drafting.specs.Options.{with_options}
 use Rattle.omf_linker.proofs.link.words.program.Goals as goal
 
 pub returns : goal.returns

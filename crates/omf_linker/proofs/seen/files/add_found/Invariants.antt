@@ -1,7 +1,7 @@
 use Rattle.std.proofs.Common.{ℕ, List, drop, map}
 use Rattle.std.specs.Prelude.{filter, string_bytes}
 use Rattle.omf_check.specs.Module.{typed_modules}
-use Rattle.omf_linker.specs.Seen.Lines.{HasLines}
+use Rattle.omf_warnings.specs.Lines.{HasLines}
 use Rattle.omf_linker.specs.Seen.Looks.{counts}
 use Rattle.omf_linker.proofs.seen.files.add_found.Given as goal
 

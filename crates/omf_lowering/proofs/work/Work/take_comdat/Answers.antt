@@ -22,5 +22,5 @@ returns-clause-ok c =
     added_comdat old r of c.requires.comdat is c.push_instance.new.instances.items c.append_all.new.records.items c.append_all.new.pieces.items c.push_growth.new.growths.items
     c.in_ok-push_instance.ensures
     (record { items = c.in_ok-replacing.replacing.items; is = c.in_ok-replacing.ensures; records = c.in_ok-append_all.ensures.records; pieces = c.in_ok-append_all.ensures.pieces })
-    (c.in_ok-push_growth.ensures ∙ ap (λ ps. w.growths.items ++ growth ps of) c.deref-2.ensures.value)
+    (c.in_ok-push_growth.ensures ∙ ap (λ ps. w.growths.items ++ growth ps of) c.deref-4.ensures.value)
     ∙ ap (λ s. added s r) c.self.view_is

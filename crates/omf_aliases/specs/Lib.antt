@@ -1,0 +1,3 @@
+pub mod AliasRows
+pub mod Aliases
+pub mod Inner

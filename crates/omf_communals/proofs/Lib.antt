@@ -1,0 +1,5 @@
+pub mod ExternalLaws
+pub mod FieldSteps
+pub mod ModuleLaws
+pub mod StayLaws
+pub mod WalkLaws

@@ -1,0 +1,5 @@
+pub mod Typdef
+pub mod Communals
+pub mod Laws
+pub mod Rows
+pub mod Inner

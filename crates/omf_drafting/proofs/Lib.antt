@@ -1,0 +1,11 @@
+pub mod AskedLaws
+pub mod DraftLaws
+pub mod EntryLaws
+pub mod FitLaws
+pub mod KeyLines
+pub mod PlaceRuns
+pub mod PlaceWords
+pub mod PlacesLaws
+pub mod SeenLaws
+pub mod SuitingLaws
+pub mod TellingLaws

@@ -1,0 +1,10 @@
+pub mod Asked
+pub mod Fit
+pub mod Laws
+pub mod Options
+pub mod Place
+pub mod Reading
+pub mod Rows
+pub mod Suiting
+pub mod Telling
+pub mod Text

@@ -1,0 +1,14 @@
+pub mod AddingLaws
+pub mod CommunalFinds
+pub mod ExeLaws
+pub mod InputLaws
+pub mod JoiningLaws
+pub mod MakingLaws
+pub mod MapAddresses
+pub mod MemberFolds
+pub mod MovedMembers
+pub mod OriginLaws
+pub mod RefusingLaws
+pub mod StartLaws
+pub mod TakenLaws
+pub mod TwiceLaws

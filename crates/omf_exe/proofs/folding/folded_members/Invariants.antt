@@ -1,0 +1,13 @@
+use Rattle.std.proofs.Common.{◌≡◌, List, ◌++◌, length}
+use Rattle.std.specs.List.{AllZip}
+use Rattle.std.specs.Vec.Iter.{into_iter_items, into_iter_len}
+use Rattle.omf_library.specs.declared.judged.LibraryMember.{LibraryMember}
+use Rattle.omf_exe.specs.Input.{IsMemberFolded}
+use Rattle.omf_exe.proofs.folding.folded_members.Given as goal
+
+-- the members so far were folded, and the others are left
+abbrev pub invariant-loop-member : goal.invariant-loop-member
+invariant-loop-member l = record {
+  size : into_iter_len l.member-iterator ≡ length (into_iter_items l.member-iterator);
+  held : (later : List LibraryMember) → AllZip IsMemberFolded (into_iter_items l.member-iterator) later → AllZip IsMemberFolded l.fn.members.items (l.all.items ++ later);
+}

@@ -1,0 +1,16 @@
+pub mod Adding
+pub mod Input
+pub mod Laws
+pub mod Libraries
+pub mod Listing
+pub mod Lowered
+pub mod WithCommunals
+pub mod Making
+pub mod Ordering
+pub mod Origins
+pub mod Program
+pub mod Refusing
+pub mod Sharing
+pub mod Taken
+pub mod Inner
+pub mod Stack

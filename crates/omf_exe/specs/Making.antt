@@ -1,0 +1,148 @@
+-- What is written of a DOS program, from the bytes of its files on (this profile's rule).
+use Rattle.std.specs.Prelude.{◌≡◌, ◌⊎◌, ⊤, ◌++◌, ℕ, List, [], ◌∷◌, Bool, true, false, not, Option, Some, None, codes, is_some, option_map, string_bytes, unwrap_or}
+use Rattle.std.specs.Global.{Vec}
+use Rattle.omf_check.specs.Module.{Module, typed_modules}
+use Rattle.omf_linking.specs.File.{InputFile}
+use Rattle.omf_output.specs.Exe.Loading.{word}
+use Rattle.omf_aliases.specs.Aliases.{AreFollowed}
+use Rattle.omf_exe.specs.Adding.{AreAdded}
+use Rattle.omf_exe.specs.Input.{AreOfFiles, AreOfFolded}
+use Rattle.omf_exe.specs.Listing.{list_text}
+use Rattle.omf_exe.specs.Origins.{AreAllWith, AreFrom}
+use Rattle.omf_exe.specs.Program.{AreSymbolsOf, IsBetweenOf, IsComOf, IsLongOf, IsMapOf, IsMixedOf, IsNearOf, IsProgramOf, ProgramModules}
+use Rattle.omf_exe.specs.Refusing.{AreNoComProgram, AreNoProgram, AreNotAdded, AreNotFollowed, AreUnplaced, Finds, GiveNoFolded, GiveNoModules, HaveNamesTwice, IsNotAllowed}
+use Rattle.omf_exe.specs.Stack.{other_stack, stack_line}
+use Rattle.omf_trimming.specs.Choice.{AreChosen}
+use Rattle.omf_trimming.specs.Trimmed.{AreTrimmed}
+use Rattle.omf_map.specs.Far.{far}
+use Rattle.omf_symbols.specs.Tools.{usual_load}
+use Rattle.omf_symbols.specs.declared.tool.Kind.{Kind}
+use Rattle.omf_symbols.specs.declared.tool.Kind.TheVariants as file_kinds
+use Rattle.omf_exe.specs.declared.input.Origin.{Origin}
+use Rattle.omf_exe.specs.declared.made.MadeProgram.{MadeProgram}
+use Rattle.omf_exe.specs.declared.options.ExeOptions.{ExeOptions}
+use Rattle.omf_exe.specs.declared.options.ProgramKind.{ProgramKind}
+use Rattle.omf_exe.specs.declared.options.SymbolsFile.{SymbolsFile}
+use Rattle.omf_exe.specs.declared.options.ProgramKind.TheVariants.{Exe, Com}
+
+-- The files of a program, and the modules that they give, with their origins. Names may be compared without case.
+pub record ProgramFiles : Type 0 where
+  pub files : List InputFile
+  pub ignores_case : Bool
+  pub modules : List Module
+  pub from : List (Option Origin)
+
+-- Modules are those of files.
+abbrev pub AreOf : Bool → List InputFile → List Module → Type 0
+AreOf true files ms = AreOfFolded files ms
+AreOf false files ms = AreOfFiles files ms
+
+-- Why files give no modules.
+abbrev pub GiveNone : Bool → List InputFile → Type 0
+GiveNone true files = GiveNoFolded files
+GiveNone false files = GiveNoModules files
+
+-- The paragraphs after its image that an .EXE file asks DOS for at most: all that there are, unless the options have a number.
+abbrev pub maximum : ExeOptions → ℕ
+maximum options = unwrap_or options.max_alloc 0xFFFF
+
+-- The bytes of the program of modules, and whether an .EXE file lacks a stack; or why there are none.
+abbrev pub AreBytesOf : ProgramKind → ℕ → List Module → List ℕ → Bool → Type 0
+AreBytesOf Exe most ms bytes lacks_stack = IsProgramOf most ms bytes (not lacks_stack)
+AreBytesOf Com most ms bytes lacks_stack = IsComOf ms bytes × (lacks_stack ≡ false)
+
+abbrev pub HaveNoBytes : ProgramKind → List Module → Type 0
+HaveNoBytes Exe ms = AreNoProgram ms
+HaveNoBytes Com ms = AreNoComProgram ms
+
+-- The stack of an .EXE file is alone.
+abbrev pub IsAlone : ProgramKind → List Module → Type 0
+IsAlone Exe ms = IsBetweenOf ms None
+IsAlone Com ms = ⊤
+
+-- What is found is allowed.
+abbrev pub IsAllowed : Bool → Bool → Type 0
+IsAllowed is_allowed is_found = is_allowed ≡ false → is_found ≡ false
+
+-- The map of modules of files: the list of the modules, and after it the map of the program.
+pub record IsListedMap (files : List InputFile) (p : ProgramModules) (map : List ℕ) : Type 0 where
+  pub text : List ℕ
+  pub listed : map ≡ list_text files p.from (typed_modules p.modules) ++ text
+  pub mapped : IsMapOf p.modules text
+
+-- Where a program starts and its stack is, by the header of an .EXE file (its offsets: Loading of omf_output).
+abbrev pub header_lines : List ℕ → List ℕ
+header_lines bytes = codes "start " ++ far (word bytes 22) (word bytes 20) ++ 10 ∷ codes "stack " ++ far (word bytes 14) (word bytes 16) ++ 10 ∷ []
+
+abbrev pub start_lines : ProgramKind → List ℕ → List ℕ
+start_lines Exe bytes = header_lines bytes
+start_lines Com bytes = []
+
+-- The map of a program with these bytes, if it is asked for: that map, and after it where an .EXE file starts.
+abbrev pub IsMapIf : ProgramKind → Bool → List InputFile → ProgramModules → List ℕ → Option (Vec ℕ) → Type 0
+IsMapIf kind false files p bytes map = map ≡ None
+IsMapIf kind true files p bytes None = ⊥
+IsMapIf kind true files p bytes (Some map) = (listed : List ℕ) × IsListedMap files p listed × (map.items ≡ listed ++ start_lines kind bytes)
+
+-- The symbols of a program, if they are asked for: where the tool usually loads it.
+abbrev pub file_kind : ProgramKind → Kind
+file_kind Exe = file_kinds.Mz
+file_kind Com = file_kinds.Com
+
+abbrev pub AreSymbolsIf : ProgramKind → Option SymbolsFile → List Module → Option (Vec ℕ) → Type 0
+AreSymbolsIf kind None ms text = text ≡ None
+AreSymbolsIf kind (Some asked) ms None = ⊥
+AreSymbolsIf kind (Some asked) ms (Some text) = AreSymbolsOf asked.tool (usual_load asked.tool (file_kind kind)) ms text.items
+
+-- What is written of modules of files.
+pub record IsMadeOf (options : ExeOptions) (files : List InputFile) (p : ProgramModules) (made : MadeProgram) : Type 0 where
+  pub program : AreBytesOf options.kind (maximum options) p.modules made.bytes.items made.lacks_stack
+  pub map : IsMapIf options.kind (is_some options.map) files p made.bytes.items made.map
+  pub symbols : AreSymbolsIf options.kind options.symbols p.modules made.symbols
+  pub alone : IsAlone options.kind p.modules
+  pub long : Finds (IsLongOf p.modules) (is_some made.long) × IsAllowed options.allows_long (is_some made.long)
+  pub mixed : Finds (IsMixedOf p.modules) (is_some made.mixed) × IsAllowed options.allows_mixed (is_some made.mixed)
+  pub near : Finds (IsNearOf p.modules) (is_some made.near) × IsAllowed options.allows_near (is_some made.near)
+  pub twice : HaveNamesTwice p.modules (is_some made.repeated) × IsAllowed options.allows_twice (is_some made.repeated)
+  pub stack : option_map string_bytes made.stack ≡ option_map stack_line (other_stack options.kind options.stack made.bytes.items)
+
+-- What is written of files: of their modules with one COMDAT of each name, those that are added, and the defaults that aliases give to externals, without what nothing refers to of
+-- the segments that may be left out.
+pub record IsMade (options : ExeOptions) (p : ProgramFiles) (made : MadeProgram) : Type 0 where
+  pub given : AreOf p.ignores_case p.files p.modules
+  pub origins : AreFrom p.ignores_case p.files p.modules p.from
+  pub chosen : List Module
+  pub choice : AreChosen p.modules chosen
+  pub all : ProgramModules
+  pub added : AreAllWith options.kind options.stack options.order chosen p.from all
+  pub whole : List Module
+  pub followed : AreFollowed all.modules whole
+  pub linked : List Module
+  pub trimmed : AreTrimmed options.unreached whole linked
+  pub made_of : IsMadeOf options p.files (record { modules = linked; from = all.from }) made
+
+-- Why nothing is written of modules: there is no program of them; they have no places; or a look finds what is not allowed.
+abbrev pub IsLookFault : ExeOptions → List Module → Type 0
+IsLookFault options ms =
+    IsNotAllowed (IsMixedOf ms) options.allows_mixed ms ⊎ (IsNotAllowed (IsLongOf ms) options.allows_long ms ⊎ (IsNotAllowed (IsNearOf ms) options.allows_near ms ⊎ ((options.kind ≡ Exe) × IsNotAllowed (IsBetweenOf ms) false ms)))
+
+abbrev pub IsNotMadeOf : ExeOptions → List Module → Type 0
+IsNotMadeOf options ms = HaveNoBytes options.kind ms ⊎ (IsLookFault options ms ⊎ (AreUnplaced ms ⊎ ((options.allows_twice ≡ false) × HaveNamesTwice ms true)))
+
+-- Why nothing is written of modules: their aliases are not followed; or nothing is written of those with the defaults.
+pub record IsNotMadeWith (options : ExeOptions) (all : List Module) : Type 0 where
+  pub whole : List Module
+  pub followed : AreFollowed all whole
+  pub linked : List Module
+  pub trimmed : AreTrimmed options.unreached whole linked
+  pub why : IsNotMadeOf options linked
+
+abbrev pub IsNotLinkedOf : ExeOptions → List Module → Type 0
+IsNotLinkedOf options all = AreNotFollowed all ⊎ IsNotMadeWith options all
+
+-- Why nothing is written of files.
+pub record IsNotMade (options : ExeOptions) (p : ProgramFiles) : Type 0 where
+  pub given : AreOf p.ignores_case p.files p.modules
+  pub chosen : List Module
+  pub choice : AreChosen p.modules chosen
+  pub why : AreNotAdded options.kind options.stack options.order chosen ⊎ ((all : List Module) × AreAdded options.kind options.stack options.order chosen all × IsNotLinkedOf options all)

@@ -1,0 +1,45 @@
+//! DOS programs (.EXE and .COM) of modules and of members of libraries: the files of `omf-link exe` and `omf-link com`.
+#![tactic(auto)]
+
+mod added;
+mod asked;
+mod candidates;
+mod defaults;
+mod fault;
+mod files;
+mod folding;
+pub mod host;
+mod input;
+mod joining;
+pub mod laws;
+mod length;
+mod lines;
+mod listing;
+mod lowered;
+mod made;
+mod making;
+mod memory;
+mod options;
+mod ordering;
+mod program;
+mod program_files;
+mod refusal;
+mod refused;
+mod sharing;
+mod with_communals;
+
+pub use asked::{Call, call_of};
+pub use candidates::{is_named, library_files};
+pub use defaults::{missing_lines, sought};
+pub use fault::{ComProgramFault, PlacingFault, ProgramFault};
+pub use joining::{Joined, JoiningFault, join_needed};
+pub use made::MadeProgram;
+pub use making::{
+    between_of, com_linked, long_of, map_linked, near_linked, program_linked, program_of,
+    symbols_linked,
+};
+pub use options::{ExeOptions, Order, ProgramKind, SymbolsFile};
+pub use ordering::{OrderingFault, order_of};
+pub use program_files::{Leftovers, ProgramFiles};
+pub use refusal::Refusal;
+pub use sharing::{SharingFault, shared_module};

@@ -1,0 +1,520 @@
+//! Lines of faults of programs, by the names of files, modules and segments.
+
+ghost use Rattle.std.specs.Prelude.{◌≡◌, ◌++◌, IfOk, IfSome, codes, decimal, is_some, string_bytes};
+ghost use Rattle.omf_frame.specs.Bytes.{AddsText};
+ghost use Rattle.omf_check.specs.Module.{recs_of};
+ghost use Rattle.omf_exe.specs.Listing.{file_text, origin_at, title_text};
+ghost use Rattle.omf_exe.specs.Refusing.{AreTwiceLines, HaveNamesTwice};
+
+use crate::fault::{ComProgramFault, PlacingFault, ProgramFault};
+use crate::input::Origin;
+use crate::ordering::OrderingFault;
+use crate::sharing::SharingFault;
+use omf_aliases::FollowingFault;
+use omf_check::{Checked, entry_of};
+use omf_cmd::{RunFault, fault_line};
+use omf_combining::CodePart;
+use omf_externals::{put_own, repeated_text, unresolved_text};
+use omf_frame::Place;
+use omf_layout::own::{CommunalReason, CommunalsFault, OrderFault};
+use omf_library::LibraryFault;
+use omf_lines::{Labeled, high_line, put_owner, put_part, put_stray, reach_line, starts_line};
+use omf_linking::InputFile;
+use omf_linking::locator::module_name;
+use omf_linking::space::Owner;
+use omf_output::exe::{ComFault, ExeFault, FarAddress};
+use omf_output::near::Stray;
+use omf_output::stacks::Interval;
+use omf_placement::DeriveFault;
+use omf_reloc::{Cause, ReachFault};
+use omf_text::print_quoted;
+use omf_warnings::{FarMember, Finding, Range, put_line, put_range};
+use std::alloc::{AllocError, Global};
+use std::fmt::Write;
+
+/// The line of segments that end too high.
+const TOO_HIGH: &str = "the program ends after 1048576";
+
+/// What is wrong with an offset in a frame that is not the segment of a .COM file.
+const OTHER_FRAME: &str =
+    ": counts from another frame: a .COM file has one segment, put code and data in one group";
+
+/// A program's modules with their origins, and the files.
+#[derive(Clone, Copy)]
+pub(crate) struct Origins<'a> {
+    pub(crate) files: &'a [InputFile],
+    pub(crate) modules: &'a [Checked],
+    pub(crate) from: &'a [Option<Origin>],
+}
+
+/// Appends a file's name: `file "NAME"`.
+fn put_file(text: &mut String, files: &[InputFile], file: usize) -> Result<(), AllocError>
+    ensures { AddsText result (string_bytes text.old) (string_bytes text.new) (file_text files.now file) }
+{
+    text.push_str("file ")?;
+    match files.get(file) {
+        Some(file) => print_quoted(text, file.name()),
+        None => text.push_str("-"),
+    }
+}
+
+/// Appends a module, by its number in its file, from 1: `file "NAME" module 1`.
+pub(crate) fn put_origin(
+    text: &mut String,
+    files: &[InputFile],
+    file: usize,
+    module: u64,
+) -> Result<(), AllocError>
+    ensures { AddsText result (string_bytes text.old) (string_bytes text.new) (file_text files.now file ++ codes " module " ++ decimal «module») }
+{
+    put_file(text, files, file)?;
+    write!(text, " module {module}")
+}
+
+/// Where the module of a number comes from, from 1; one that the linker added has no origin.
+pub(crate) fn origin_at(from: &[Option<Origin>], number: usize) -> Option<Origin>
+    ensures { result ≡ origin_at from.now number }
+{
+    entry_of(from, number)?
+}
+
+/// Appends what a module is called: its origin; without one its name.
+pub(crate) fn put_title(
+    text: &mut String,
+    files: &[InputFile],
+    from: Option<Origin>,
+    module: &Checked,
+) -> Result<(), AllocError>
+    ensures { AddsText result (string_bytes text.old) (string_bytes text.new) (title_text files.now from (recs_of «module».now.bytes)) }
+{
+    match from {
+        Some(origin) => put_origin(text, files, origin.file, origin.number as u64),
+        None => print_quoted(text, module_name(module)),
+    }
+}
+
+impl<'a> Origins<'a> {
+    /// What each module of the program is called.
+    fn labels(&self, alloc: Global) -> Result<Vec<String>, AllocError> {
+        let mut labels = Vec::new(alloc);
+        for (before, module) in self.modules.iter().enumerate() {
+            let mut label = String::new(alloc);
+            let from = origin_at(self.from, before.saturating_add(1));
+            put_title(&mut label, self.files, from, module)?;
+            labels.push(label)?;
+        }
+        Ok(labels)
+    }
+
+    /// The lines of the names that more than one public has, in ascending order; none if there are no such names. Out of memory if there are
+    /// 2^32 modules or more.
+    pub(crate) fn repeated_lines(&self, alloc: Global) -> Result<Option<String>, AllocError>
+        ensures found { IfOk result (λ lines. HaveNamesTwice self.now.modules.now (is_some lines)) }
+        ensures lines { IfOk result (λ lines. IfSome lines (λ text. AreTwiceLines self.now.modules.now (string_bytes text))) }
+    {
+        if self.modules.len() > u32::MAX as usize {
+            return Err(AllocError);
+        }
+        let numbered = repeated_text(alloc, &[], self.modules)?;
+        if numbered.is_empty() {
+            return Ok(None);
+        }
+        let labels = self.labels(alloc)?;
+        let lines = repeated_text(alloc, &labels, self.modules)?;
+        Ok(Some(lines))
+    }
+
+    /// The line of a segment, or of a member of a group, that ends too far from its frame.
+    pub(crate) fn long_line(&self, alloc: Global, far: FarMember) -> Result<String, AllocError> {
+        let labels = self.labels(alloc)?;
+        let named = Labeled {
+            labels: &labels,
+            modules: self.modules,
+        };
+        let mut text = String::new(alloc);
+        put_line(&mut text, named, Finding::Group(far))?;
+        Ok(text)
+    }
+
+    /// The line of a segment between the parts of the stack.
+    pub(crate) fn stack_line(&self, alloc: Global, found: Interval) -> Result<Vec<u8>, AllocError> {
+        let labels = self.labels(alloc)?;
+        let named = Labeled {
+            labels: &labels,
+            modules: self.modules,
+        };
+        let mut text = String::new(alloc);
+        text.push_str("stack: ")?;
+        put_range(&mut text, named, range_of(found))?;
+        text.push_str(" is between its parts\n")?;
+        Ok(text.into_bytes())
+    }
+
+    /// The line of two parts of one segment of which one is 16-bit and the other 32-bit.
+    pub(crate) fn mixed_line(
+        &self,
+        alloc: Global,
+        parts: (CodePart, CodePart),
+    ) -> Result<String, AllocError> {
+        let labels = self.labels(alloc)?;
+        let named = Labeled {
+            labels: &labels,
+            modules: self.modules,
+        };
+        let mut text = String::new(alloc);
+        text.push_str("mixed: ")?;
+        put_code_part(&mut text, named, parts.0)?;
+        text.push_str(", ")?;
+        put_code_part(&mut text, named, parts.1)?;
+        text.push_str("\n")?;
+        Ok(text)
+    }
+
+    /// The line of a near reference into another frame.
+    pub(crate) fn near_line(&self, alloc: Global, stray: Stray) -> Result<String, AllocError> {
+        let labels = self.labels(alloc)?;
+        let named = Labeled {
+            labels: &labels,
+            modules: self.modules,
+        };
+        let mut text = String::new(alloc);
+        put_stray(&mut text, named, stray)?;
+        Ok(text)
+    }
+
+    /// The lines of a program's fault.
+    pub(crate) fn line_of(
+        &self,
+        alloc: Global,
+        fault: ProgramFault,
+    ) -> Result<Vec<u8>, AllocError> {
+        let labels = self.labels(alloc)?;
+        let named = Labeled {
+            labels: &labels,
+            modules: self.modules,
+        };
+        let lines = match fault {
+            ProgramFault::Memory => line(alloc, "memory")?,
+            ProgramFault::NoRoom => line(alloc, TOO_HIGH)?,
+            ProgramFault::External(fault) => external_lines(alloc, named, fault)?,
+            ProgramFault::Exe(fault) => exe_line(alloc, named, fault)?,
+        };
+        Ok(lines.into_bytes())
+    }
+
+    /// The lines of a .COM program's fault.
+    pub(crate) fn com_line_of(
+        &self,
+        alloc: Global,
+        fault: ComProgramFault,
+    ) -> Result<Vec<u8>, AllocError> {
+        let labels = self.labels(alloc)?;
+        let named = Labeled {
+            labels: &labels,
+            modules: self.modules,
+        };
+        let lines = match fault {
+            ComProgramFault::Placing(PlacingFault::Memory) => line(alloc, "memory")?,
+            ComProgramFault::Placing(PlacingFault::NoRoom) => line(alloc, TOO_HIGH)?,
+            ComProgramFault::Placing(PlacingFault::External(fault)) => {
+                external_lines(alloc, named, fault)?
+            }
+            ComProgramFault::Modules(fault) => com_line(alloc, named, fault)?,
+        };
+        Ok(lines.into_bytes())
+    }
+}
+
+/// Appends a segment, and whether it is 16-bit or 32-bit.
+fn put_code_part(text: &mut String, named: Labeled<'_>, part: CodePart) -> Result<(), AllocError> {
+    let owner = Owner {
+        module: part.module,
+        segment: part.segment,
+    };
+    put_owner(text, named, owner)?;
+    text.push_str(if part.is_use32 {
+        " is 32-bit"
+    } else {
+        " is 16-bit"
+    })
+}
+
+/// A segment and its addresses, as lines show them.
+fn range_of(found: Interval) -> Range {
+    Range {
+        owner: Owner {
+            module: found.module,
+            segment: found.segment,
+        },
+        first: found.first.min(u128::from(u32::MAX)) as u32,
+        end: found.end,
+    }
+}
+
+/// A line of these words.
+fn line(alloc: Global, words: &str) -> Result<String, AllocError> {
+    let mut text = String::new(alloc);
+    text.push_str(words)?;
+    text.push('\n')?;
+    Ok(text)
+}
+
+/// The line of a part of a module, with what is wrong with it.
+fn part_line(
+    alloc: Global,
+    named: Labeled<'_>,
+    module: u32,
+    place: Place,
+    what: &str,
+) -> Result<String, AllocError> {
+    let mut text = String::new(alloc);
+    put_part(&mut text, named, module, place, what)?;
+    text.push('\n')?;
+    Ok(text)
+}
+
+/// The line of a module, with what is wrong with it.
+fn module_line(
+    alloc: Global,
+    named: Labeled<'_>,
+    module: u32,
+    what: &str,
+) -> Result<String, AllocError> {
+    let mut text = String::new(alloc);
+    put_own(&mut text, named.labels, module)?;
+    text.push_str(what)?;
+    text.push('\n')?;
+    Ok(text)
+}
+
+/// The lines of the names that no module or more than one defines. Out of memory if there are 2^32 modules or more.
+fn unresolved(alloc: Global, named: Labeled<'_>) -> Result<String, AllocError> {
+    if named.modules.len() > u32::MAX as usize {
+        return Err(AllocError);
+    }
+    unresolved_text(alloc, named.labels, named.modules, &[])
+}
+
+/// The lines of externals without a place: one for each name that no module or more than one defines; or that of an address too high.
+fn external_lines(
+    alloc: Global,
+    named: Labeled<'_>,
+    fault: DeriveFault,
+) -> Result<String, AllocError> {
+    match fault {
+        DeriveFault::Memory => line(alloc, "memory"),
+        DeriveFault::Undefined { .. } | DeriveFault::Twice { .. } => unresolved(alloc, named),
+        DeriveFault::TooHigh { module, external } => high_line(alloc, named, module, external),
+    }
+}
+
+/// The line of a module that does not reach. A location that is not in the frame of its target is one of a near reference into another frame.
+fn far_line(
+    alloc: Global,
+    named: Labeled<'_>,
+    module: u32,
+    fault: ReachFault,
+) -> Result<String, AllocError> {
+    let ReachFault::TooFar {
+        number,
+        within,
+        cause: Cause::Location,
+    } = fault
+    else {
+        return reach_line(alloc, named, module, fault);
+    };
+    let place = Place {
+        number,
+        start: 0,
+        within,
+    };
+    let mut text = String::new(alloc);
+    put_stray(&mut text, named, Stray { module, place })?;
+    Ok(text)
+}
+
+/// The line of a fault of the modules at their placements.
+fn exe_line(alloc: Global, named: Labeled<'_>, fault: ExeFault) -> Result<String, AllocError> {
+    match fault {
+        ExeFault::Memory => line(alloc, "memory"),
+        ExeFault::Reach { module, fault } => far_line(alloc, named, module, fault),
+        ExeFault::Movers { module } => module_line(alloc, named, module, " movers"),
+        ExeFault::Stays { module, place } => {
+            part_line(
+                alloc,
+                named,
+                module,
+                place,
+                ": does not move with the program",
+            )
+        }
+        ExeFault::NoStart => line(alloc, "no start: no main module names one"),
+        ExeFault::Starts { first, second } => starts_line(alloc, named.labels, first, second),
+        ExeFault::FarStart { module } => {
+            module_line(alloc, named, module, " start: its offset is over 65535")
+        }
+        ExeFault::TooHigh => line(alloc, TOO_HIGH),
+        ExeFault::FarStack => line(alloc, "the end of the stack is not in its frame"),
+        ExeFault::Overlap { module, place } => {
+            part_line(alloc, named, module, place, ": overlaps a relocation word")
+        }
+        ExeFault::TooMany => line(alloc, "more than 65535 relocation words"),
+    }
+}
+
+/// The line of a start that is not that of a .COM file.
+fn start_line(alloc: Global, start: FarAddress) -> Result<String, AllocError> {
+    let FarAddress { selector, offset } = start;
+    let mut text = String::new(alloc);
+    write!(
+        text,
+        "the start is {selector:04X}:{offset:04X}, in a .COM file it is 0000:0100\n"
+    )?;
+    Ok(text)
+}
+
+/// The line of a program that has no room in the segment of a .COM file.
+fn long_line(alloc: Global, end: u64, stack: u64) -> Result<String, AllocError> {
+    let mut text = String::new(alloc);
+    write!(
+        text,
+        "the program ends at {end}, and its stack needs {stack} bytes: a .COM file has room up to 65534\n"
+    )?;
+    Ok(text)
+}
+
+/// The line of a fault of the modules of a .COM program at their placements.
+fn com_line(alloc: Global, named: Labeled<'_>, fault: ComFault) -> Result<String, AllocError> {
+    match fault {
+        ComFault::Memory => line(alloc, "memory"),
+        ComFault::Exe(fault) => exe_line(alloc, named, fault),
+        ComFault::Start(start) => start_line(alloc, start),
+        ComFault::Low { module, place } => {
+            part_line(
+                alloc,
+                named,
+                module,
+                place,
+                ": data below 100H, where a .COM file begins",
+            )
+        }
+        ComFault::Words { module, place } => {
+            part_line(
+                alloc,
+                named,
+                module,
+                place,
+                ": a .COM file has no relocation words",
+            )
+        }
+        ComFault::Frame { module, place } => part_line(alloc, named, module, place, OTHER_FRAME),
+        ComFault::TooLong { end, stack } => long_line(alloc, end, stack),
+    }
+}
+
+/// Appends what is wrong with a library.
+fn put_library(
+    alloc: Global,
+    text: &mut String,
+    files: &[InputFile],
+    file: usize,
+    fault: LibraryFault,
+) -> Result<(), AllocError> {
+    if let LibraryFault::Refused {
+        member,
+        reason,
+        place,
+        ..
+    } = fault
+    {
+        put_origin(text, files, file, member.saturating_add(1))?;
+        text.push_str(" ")?;
+        return text.push_str(fault_line(alloc, &RunFault::Refused { reason, place })?.as_str());
+    }
+    put_file(text, files, file)?;
+    write!(text, " library: {fault}")
+}
+
+/// The line of a file that begins with F0H and is no library.
+pub(crate) fn library_line(
+    alloc: Global,
+    files: &[InputFile],
+    file: usize,
+    fault: LibraryFault,
+) -> Result<Vec<u8>, AllocError> {
+    let mut text = String::new(alloc);
+    put_library(alloc, &mut text, files, file, fault)?;
+    text.push('\n')?;
+    Ok(text.into_bytes())
+}
+
+/// Appends what is wrong with communals.
+fn put_communals(text: &mut String, fault: &CommunalsFault<'_>) -> Result<(), AllocError> {
+    match fault {
+        CommunalsFault::Communal { name, reason } => {
+            text.push_str("communal ")?;
+            print_quoted(text, name)?;
+            text.push_str(match reason {
+                CommunalReason::Mixed => ": near in one module and far in another",
+                CommunalReason::TooLong => ": more than 4294967295 bytes",
+            })
+        }
+        CommunalsFault::TooMany => text.push_str("communals: more than 32766"),
+        CommunalsFault::TooLarge => text.push_str(
+            "communals: more than 4294967295 bytes of near ones",
+        ),
+        CommunalsFault::Memory => text.push_str("memory"),
+    }
+}
+
+/// The line of communals that are not shared.
+pub(crate) fn sharing_line(alloc: Global, fault: &SharingFault<'_>) -> Result<Vec<u8>, AllocError> {
+    let mut text = String::new(alloc);
+    match fault {
+        SharingFault::Communals(fault) => put_communals(&mut text, fault)?,
+        SharingFault::Refused { reason, place } => {
+            text.push_str("communals ")?;
+            let refused = RunFault::Refused {
+                reason: *reason,
+                place: *place,
+            };
+            text.push_str(fault_line(alloc, &refused)?.as_str())?;
+        }
+    }
+    text.push('\n')?;
+    Ok(text.into_bytes())
+}
+
+/// The line of modules that are not put in DOS order.
+pub(crate) fn ordering_line(alloc: Global, fault: OrderingFault) -> Result<Vec<u8>, AllocError> {
+    let mut text = String::new(alloc);
+    match fault {
+        OrderingFault::Order(OrderFault::TooMany) => text.push_str(
+            "order: more than 16383 segments of different classes or names",
+        )?,
+        OrderingFault::Order(OrderFault::Memory) => text.push_str("memory")?,
+        OrderingFault::Refused { reason, place } => {
+            text.push_str("order ")?;
+            text.push_str(fault_line(alloc, &RunFault::Refused { reason, place })?.as_str())?;
+        }
+    }
+    text.push('\n')?;
+    Ok(text.into_bytes())
+}
+
+/// The line of the fault of modules whose aliases are not followed.
+pub(crate) fn following_line(alloc: Global, fault: FollowingFault) -> Result<Vec<u8>, AllocError> {
+    let mut text = String::new(alloc);
+    match fault {
+        FollowingFault::Memory => text.push_str("memory")?,
+        FollowingFault::TooMany => {
+            text.push_str("aliases: more than 32767 externals in a module")?
+        }
+        FollowingFault::Refused { reason, place } => {
+            text.push_str("aliases ")?;
+            text.push_str(fault_line(alloc, &RunFault::Refused { reason, place })?.as_str())?;
+        }
+    }
+    text.push('\n')?;
+    Ok(text.into_bytes())
+}

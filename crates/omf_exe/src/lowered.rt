@@ -1,0 +1,238 @@
+//! Modules with records outside this profile, as a program takes them: lowered.
+
+ghost use Rattle.std.specs.Prelude.{◌≡◌, IfErr, IfNone, IfOk, IfSome, drop};
+ghost use Rattle.std.specs.List.{AllZip};
+ghost use Rattle.omf_library.specs.declared.judged.LibraryMember.TheVariants.{Refused};
+ghost use Rattle.omf_lowering.specs.Lowering.{IsLoweringFault};
+ghost use Rattle.omf_exe.specs.Lowered.{AreOfLowered, AreTaken, IsLoweredModule, IsLoweringRefused, IsTakenOf, IsUnlowered, IsUntaken, is_mendable, is_mendable_fault, shown, with_fault, with_lowering};
+
+use crate::memory::is_link_memory;
+use omf_aliases::any_profile;
+use omf_check::{CheckFault, Checked, check};
+use omf_frame::{Bytes, Place, Reason};
+use omf_library::{LibraryMember, RefusedMember};
+use omf_linking::{LinkFault, file_modules};
+use omf_lowering::{FileFault, LoweringFault, lowered, lowered_file};
+use std::alloc::{AllocError, Global};
+
+/// Why the lowering of a file gives no modules.
+#[derive(Clone, Copy)]
+pub(crate) enum Unlowered {
+    /// Out of memory.
+    Memory,
+    /// The file has no lowering.
+    Fault(FileFault),
+    /// Its lowering is refused.
+    Refused,
+}
+
+/// Whether the reason is that a record's type is not supported, or that a fixup is of repeated data: what a lowering mends.
+fn is_mendable(reason: Reason) -> bool
+    ensures { result ≡ is_mendable reason }
+{
+    reason.number() == Reason::UnsupportedType.number()
+        || reason.number() == Reason::FixupOnIterated.number()
+}
+
+/// Whether a fault is one that a lowering mends.
+fn is_mendable_fault(fault: LinkFault) -> bool
+    ensures { result ≡ is_mendable_fault fault }
+{
+    match fault {
+        LinkFault::Refused { reason, .. } => is_mendable(reason),
+        LinkFault::Memory => false,
+        LinkFault::Read => false,
+        LinkFault::NoText(_) => false,
+        LinkFault::NoModules => false,
+        LinkFault::Line { .. } => false,
+        LinkFault::External(_) => false,
+        LinkFault::Reach { .. } => false,
+        LinkFault::Starts { .. } => false,
+        LinkFault::Space(_) => false,
+    }
+}
+
+/// The fault that is shown of a file with this fault, if its lowering has this one.
+fn with_lowering(own: LinkFault, fault: FileFault) -> LinkFault
+    ensures { result ≡ with_lowering own fault }
+{
+    match fault {
+        FileFault::Memory => LinkFault::Memory,
+        FileFault::Refused {
+            module,
+            reason,
+            place,
+        } => {
+            if is_mendable_fault(own) {
+                LinkFault::Refused {
+                    module,
+                    reason,
+                    place,
+                }
+            } else {
+                own
+            }
+        }
+        FileFault::NoModule(_) => own,
+    }
+}
+
+/// The fault that is shown of a file with this fault, if its lowering gives no modules.
+fn shown(own: LinkFault, unlowered: Unlowered) -> LinkFault
+    ensures { result ≡ shown own unlowered }
+{
+    match unlowered {
+        Unlowered::Memory => LinkFault::Memory,
+        Unlowered::Fault(fault) => with_lowering(own, fault),
+        Unlowered::Refused => own,
+    }
+}
+
+/// The modules of a file's lowering.
+fn lowered_modules(alloc: Global, bytes: &[u8]) -> Result<Vec<Checked>, Unlowered>
+    ensures modules { IfOk result (λ v. AreOfLowered bytes.now v.items) }
+    ensures fault { IfErr result (IsUnlowered bytes.now) }
+{
+    let lower = match lowered_file(alloc, bytes) {
+        Ok(lower) => lower,
+        Err(fault) => return Err(Unlowered::Fault(fault)),
+    };
+    match file_modules(alloc, any_profile(), &lower) {
+        Ok(modules) => Ok(modules),
+        Err(fault) => {
+            if is_link_memory(fault) {
+                Err(Unlowered::Memory)
+            } else {
+                Err(Unlowered::Refused)
+            }
+        }
+    }
+}
+
+/// The modules that a program takes of a file: its own, or, if it is refused, those of its lowering.
+///
+/// # Errors
+///
+/// The file's own fault, if its lowering gives no modules; that of its lowering, if the own one is UnsupportedType or FixupOnIterated. `Memory` if memory runs out.
+pub(crate) fn taken_modules(alloc: Global, bytes: &[u8]) -> Result<Vec<Checked>, LinkFault>
+    ensures modules { IfOk result (λ v. AreTaken bytes.now v.items) }
+    ensures fault { IfErr result (IsUntaken bytes.now) }
+{
+    let own = match file_modules(alloc, any_profile(), bytes) {
+        Ok(modules) => return Ok(modules),
+        Err(fault) => fault,
+    };
+    if is_link_memory(own) {
+        return Err(own);
+    }
+    match lowered_modules(alloc, bytes) {
+        Ok(modules) => Ok(modules),
+        Err(unlowered) => Err(shown(own, unlowered)),
+    }
+}
+
+/// The lowering of the module that bytes begin with; none if it is refused.
+///
+/// # Errors
+///
+/// The fault of `lowered`; `Memory` if memory runs out.
+fn lowered_module(alloc: Global, bytes: &[u8]) -> Result<Option<Checked>, LoweringFault>
+    ensures some { IfOk result (λ found. IfSome found (IsLoweredModule bytes.now)) }
+    ensures none { IfOk result (λ found. IfNone found (IsLoweringRefused bytes.now)) }
+    ensures fault { IfErr result (IsLoweringFault bytes.now) }
+{
+    let lower = match lowered(alloc, bytes) {
+        Ok(lower) => lower,
+        Err(fault) => return Err(fault),
+    };
+    match check(alloc, &mut Bytes::new(&lower.bytes), any_profile()) {
+        Ok(module) => Ok(Some(module)),
+        Err(CheckFault::Memory) => Err(LoweringFault::Memory),
+        Err(CheckFault::Read) => unreachable!(),
+        Err(CheckFault::Refused { .. }) => Ok(None),
+    }
+}
+
+/// Bytes from an offset on; none after their end.
+fn bytes_from(bytes: &[u8], offset: u64) -> &[u8]
+    ensures { result.now ≡ drop offset bytes.now }
+{
+    if offset > bytes.len() as u64 {
+        return &[];
+    }
+    &bytes[offset as usize..]
+}
+
+/// A refused member with the fault of its lowering, if its own is one that a lowering mends.
+fn with_fault(refused: RefusedMember, reason: Reason, place: Place) -> RefusedMember
+    ensures { result ≡ with_fault refused reason place }
+{
+    if is_mendable(refused.reason) {
+        return RefusedMember {
+            offset: refused.offset,
+            reason,
+            place,
+            publics: refused.publics,
+        };
+    }
+    refused
+}
+
+/// What a program takes of a member of a library that is refused.
+///
+/// # Errors
+///
+/// `AllocError` if memory runs out.
+fn taken_of_refused(
+    alloc: Global,
+    bytes: &[u8],
+    refused: RefusedMember,
+) -> Result<LibraryMember, AllocError>
+    ensures { IfOk result (IsTakenOf bytes.now (Refused refused)) }
+{
+    match lowered_module(alloc, bytes_from(bytes, refused.offset)) {
+        Ok(Some(module)) => Ok(LibraryMember::Module(module)),
+        Ok(None) => Ok(LibraryMember::Refused(refused)),
+        Err(LoweringFault::Memory) => Err(AllocError),
+        Err(LoweringFault::Refused { reason, place }) => {
+            Ok(LibraryMember::Refused(with_fault(refused, reason, place)))
+        }
+    }
+}
+
+/// What a program takes of a member of a library.
+///
+/// # Errors
+///
+/// `AllocError` if memory runs out.
+fn taken_member(
+    alloc: Global,
+    bytes: &[u8],
+    member: LibraryMember,
+) -> Result<LibraryMember, AllocError>
+    ensures { IfOk result (IsTakenOf bytes.now member) }
+{
+    match member {
+        LibraryMember::Module(module) => Ok(LibraryMember::Module(module)),
+        LibraryMember::Refused(refused) => taken_of_refused(alloc, bytes, refused),
+    }
+}
+
+/// What a program takes of the members of a library: of a member that is refused its lowering, if it has one that is not.
+///
+/// # Errors
+///
+/// `AllocError` if memory runs out.
+pub(crate) fn taken_members(
+    alloc: Global,
+    bytes: &[u8],
+    members: Vec<LibraryMember>,
+) -> Result<Vec<LibraryMember>, AllocError>
+    ensures { IfOk result (λ v. AllZip (IsTakenOf bytes.now) members.items v.items) }
+{
+    let mut all = Vec::new(alloc);
+    for member in members {
+        all.push(taken_member(alloc, bytes, member)?)?;
+    }
+    Ok(all)
+}

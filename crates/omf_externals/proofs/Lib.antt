@@ -1,0 +1,5 @@
+pub mod ListLaws
+pub mod NameLaws
+pub mod RepeatedLaws
+pub mod SettledLaws
+pub mod UnresolvedLaws

@@ -1,0 +1,4 @@
+pub mod Names
+pub mod Repeated
+pub mod Rows
+pub mod Unresolved

@@ -1,0 +1,3 @@
+pub mod FileLines
+pub mod LinkLines
+pub mod TextLineLaws

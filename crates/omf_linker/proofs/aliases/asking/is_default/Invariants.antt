@@ -1,8 +1,0 @@
-use Rattle.std.proofs.Common.{◌≡◌, drop}
-use Rattle.std.specs.Prelude.{◌||◌}
-use Rattle.omf_linker.specs.Aliases.{is_default}
-use Rattle.omf_linker.proofs.aliases.asking.is_default.Given as goal
-
--- one so far, or one of those that are left
-abbrev pub invariant-loop-default : goal.invariant-loop-default
-invariant-loop-default l = (l.found || is_default (drop l.default-index l.defaults) l.name) ≡ is_default l.defaults l.name

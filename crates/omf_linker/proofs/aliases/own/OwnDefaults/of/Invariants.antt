@@ -1,7 +1,0 @@
-use Rattle.std.proofs.Common.{take}
-use Rattle.omf_linker.specs.Inner.Aliases.{IsOwnTable}
-use Rattle.omf_linker.proofs.aliases.own.OwnDefaults.of.Given as goal
-
--- the pairs so far are in the table
-abbrev pub invariant-loop-pair : goal.invariant-loop-pair
-invariant-loop-pair l = IsOwnTable l.table.by_external (take l.pair-index l.pair-items)

@@ -1,5 +1,0 @@
-use Rattle.omf_linker.proofs.CommunalFinds.{added-define-new-names}
-use Rattle.omf_linker.proofs.exe.laws.added_define_new_names.Goals as goal
-
-pub returns : goal.returns
-returns c = added-define-new-names

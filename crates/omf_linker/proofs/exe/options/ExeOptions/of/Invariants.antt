@@ -1,6 +1,0 @@
-use Rattle.std.proofs.Common.{length}
-use Rattle.omf_linker.proofs.exe.options.ExeOptions.of.Given as goal
-
--- the arguments that are left
-abbrev pub decreases-loop-rest : goal.decreases-loop-rest
-decreases-loop-rest l = length l.rest

@@ -1,5 +1,0 @@
-use Rattle.omf_linker.proofs.UnresolvedLaws.{fill-empty}
-use Rattle.omf_linker.proofs.link.by_name.ByName.of_locals.Goals as goal
-
-pub returns : goal.returns
-returns c = fill-empty c.new.result c.add_module.new.self.spots _ c.new.ensures.empty c.in_ok-add_module.ensures

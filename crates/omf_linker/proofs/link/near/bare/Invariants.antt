@@ -1,7 +1,0 @@
-use Rattle.std.proofs.Common.{◌≡◌, ◌++◌, drop}
-use Rattle.omf_linker.specs.Link.Near.{bare}
-use Rattle.omf_linker.proofs.link.near.bare.Given as goal
-
--- what counts of the bytes so far, and of those that are left
-abbrev pub invariant-loop-byte : goal.invariant-loop-byte
-invariant-loop-byte l = l.bare.items ++ bare (drop l.byte-index l.name) ≡ bare l.name

@@ -1,7 +1,0 @@
-use Rattle.std.proofs.Common.{◌≡◌, ◌++◌, drop, map}
-use Rattle.omf_linker.specs.Map.Addresses.{given_address}
-use Rattle.omf_linker.proofs.map.addresses.given_addresses.Given as goal
-
--- those of the places so far, and those that are left
-abbrev pub invariant-loop-place : goal.invariant-loop-place
-invariant-loop-place l = l.addresses.items ++ map given_address (drop l.place-index l.places) ≡ map given_address l.places

@@ -1,8 +1,0 @@
-use Rattle.std.proofs.Common.{◌≡◌, drop}
-use Rattle.std.specs.Prelude.{None}
-use Rattle.omf_linker.specs.Inner.Overlapping.{swept}
-use Rattle.omf_linker.proofs.seen.sweep.sweep.Given as goal
-
--- the sweep over those that are left gives the result of the whole
-abbrev pub invariant-loop-span : goal.invariant-loop-span
-invariant-loop-span l = swept l.furthest l.other (drop l.span-index l.spans) ≡ swept None None l.spans

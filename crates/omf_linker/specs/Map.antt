@@ -1,4 +1,0 @@
-pub mod Addresses
-pub mod MapText
-pub mod Far
-pub mod Rows

@@ -1,8 +1,0 @@
-use Rattle.std.proofs.Common.{◌≡◌, ◌++◌}
-use Rattle.std.specs.Prelude.{flat_map}
-use Rattle.omf_lowering.specs.Inner.Choosing.{thread_bytes}
-use Rattle.omf_lowering.proofs.choice.rest.threads_of.Given as goal
-
--- the THREADs so far and those to come are all
-abbrev pub invariant-loop-subrecord : goal.invariant-loop-subrecord
-invariant-loop-subrecord l = l.body.items ++ flat_map (λ s. thread_bytes l.kind s.item) l.subrecord-iterator ≡ flat_map (λ s. thread_bytes l.kind s.item) l.fn.subrecords

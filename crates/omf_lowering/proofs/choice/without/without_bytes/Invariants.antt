@@ -1,6 +1,0 @@
-use Rattle.omf_lowering.proofs.ChoiceRestLaws.{IsRest}
-use Rattle.omf_lowering.proofs.choice.without.without_bytes.Given as goal
-
--- what is left of the records so far, and the records to come
-abbrev pub invariant-loop-number : goal.invariant-loop-number
-invariant-loop-number l = IsRest l.gone l.«module».bytes l.number l.rest l.left

@@ -1,0 +1,4 @@
+pub mod MapLaws
+pub mod MissingLaws
+pub mod PublicLaws
+pub mod SourceLaws

@@ -1,0 +1,11 @@
+use Rattle.std.specs.Prelude.{string_bytes}
+use Rattle.omf_check.specs.Module.{records_in}
+use Rattle.omf_check.specs.Tables.{groups}
+use Rattle.omf_check.specs.WellFormed.{recs}
+use Rattle.omf_map.specs.Far.{group_line}
+use Rattle.omf_externals.proofs.ListLaws.{ArePrinted}
+use Rattle.omf_map.proofs.far.print_groups.Given as goal
+
+-- the lines so far
+abbrev pub invariant-loop-before : goal.invariant-loop-before
+invariant-loop-before l = let m = recs (records_in l.«module».bytes) in ArePrinted (group_line l.number (m, l.placement)) (groups m) l.before (string_bytes l.fn.text) (string_bytes l.text)

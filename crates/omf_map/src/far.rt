@@ -1,0 +1,309 @@
+//! The far addresses of groups, publics and lines, as a debugger shows them.
+
+ghost use Rattle.std.specs.Prelude.{◌+◌, ◌++◌, ◌∷◌, [], ◌≡◌, IfOk, Some, codes, decimal, false, flat_map, length, option_map, string_bytes, unwrap_or};
+ghost use Rattle.std.specs.List.{enumerate_from};
+ghost use Rattle.omf_check.specs.Module.{recs_of};
+ghost use Rattle.omf_check.specs.Tables.{entry, groups};
+ghost use Rattle.omf_frame.specs.Bytes.{AddsText};
+ghost use Rattle.omf_lowering.specs.Lines.{lines_of};
+ghost use Rattle.omf_placement.specs.Derive.{placed_modules, public_at, publics_at, record_publics};
+ghost use Rattle.omf_placement.specs.Quoted.{hex, quoted};
+ghost use Rattle.omf_records.specs.Values.{GroupItem};
+ghost use Rattle.omf_map.specs.Far.{far, far_line, far_lines, far_place, group_line, group_lines, lines_at, module_far, program_map, selector_or_dash, source_line, source_lines};
+ghost use Rattle.omf_map.specs.MapText.{line};
+
+use crate::listing::map_text;
+use crate::printing::{print_name, print_number, print_quoted};
+use omf_check::{Checked, Undecoded};
+use omf_frame::Name;
+use omf_lowering::{LineNumber, line_numbers};
+use omf_placement::{Frame, Placed, Placement, base_of, publics_of};
+use omf_records::{At, Items, Public, Rec};
+use std::alloc::{AllocError, Global};
+use std::fmt::Write;
+
+/// Prints a number of at least four hexadecimal digits.
+fn print_four(text: &mut String, number: u64) -> Result<(), AllocError>
+    ensures { AddsText result (string_bytes text.old) (string_bytes text.new) (hex 4 number) }
+{
+    write!(text, "{number:04X}")
+}
+
+/// Prints a selector and an offset.
+pub fn print_far(text: &mut String, selector: u16, offset: u64) -> Result<(), AllocError>
+    ensures { AddsText result (string_bytes text.old) (string_bytes text.new) (far selector offset) }
+{
+    print_four(text, u64::from(selector))?;
+    text.push_str(":")?;
+    print_four(text, offset)
+}
+
+/// Prints an address in its frame, or a dash where it is below the frame's base.
+fn print_place(text: &mut String, address: u64, frame: Frame) -> Result<(), AllocError>
+    ensures { AddsText result (string_bytes text.old) (string_bytes text.new) (far_place (record { address = address; frame = frame })) }
+{
+    let base = u64::from(frame.base);
+    if address < base {
+        return text.push_str("-");
+    }
+    print_far(text, frame.selector, address - base)
+}
+
+/// Prints the line of a public by the base of its PUBDEF.
+fn print_item(text: &mut String, base: Placed, public: &At<Public<'_>>) -> Result<(), AllocError>
+    ensures { AddsText result (string_bytes text.old) (string_bytes text.new) (far_line (public_at public.now.item.name (base.address + public.now.item.offset) base.frame)) }
+{
+    let item = &public.item;
+    let address = u64::from(base.address) + u64::from(item.offset);
+    text.push_str("at ")?;
+    print_place(text, address, base.frame)?;
+    print_quoted(text, item.name.0)?;
+    text.push_str("\n")
+}
+
+/// Prints a line for each public of a PUBDEF by its base.
+fn print_items(
+    text: &mut String,
+    base: Placed,
+    publics: Items<Public<'_>>,
+) -> Result<(), AllocError>
+    ensures { AddsText result (string_bytes text.old) (string_bytes text.new) (flat_map far_line (publics_at base publics.entry)) }
+{
+    for public in publics {
+        print_item(text, base, &public)?;
+    }
+    Ok(())
+}
+
+/// Prints a line for each public of a record that is not local. No other record is decoded.
+fn print_record(
+    text: &mut String,
+    placement: &Placement,
+    rec: &Undecoded<'_>,
+) -> Result<(), AllocError>
+    ensures { AddsText result (string_bytes text.old) (string_bytes text.new) (flat_map far_line (record_publics false placement.now rec.now.kind rec.now.contents)) }
+{
+    match publics_of(false, rec, placement) {
+        Some((base, publics)) => print_items(text, base, publics),
+        None => Ok(()),
+    }
+}
+
+/// Prints a line for each public of a module that is not local.
+fn print_module(
+    text: &mut String,
+    module: &Checked,
+    placement: &Placement,
+) -> Result<(), AllocError>
+    ensures { AddsText result (string_bytes text.old) (string_bytes text.new) (module_far (recs_of «module».now.bytes, placement.now)) }
+{
+    for (_, rec) in module.undecoded() {
+        print_record(text, placement, &rec)?;
+    }
+    Ok(())
+}
+
+/// Prints a line for each public of modules that is not local, module by module.
+fn print_modules(
+    text: &mut String,
+    modules: &[Checked],
+    placements: &[Placement],
+) -> Result<(), AllocError>
+    requires { length placements.now ≡ length modules.now }
+    ensures { AddsText result (string_bytes text.old) (string_bytes text.new) (far_lines (placed_modules modules.now placements.now)) }
+{
+    for (j, module) in modules.iter().enumerate() {
+        print_module(text, module, &placements[j])?;
+    }
+    Ok(())
+}
+
+/// Prints a space and the selector of a group, or a dash for none.
+fn print_selector(text: &mut String, frame: Option<Frame>) -> Result<(), AllocError>
+    ensures { AddsText result (string_bytes text.old) (string_bytes text.new) (32 ∷ selector_or_dash frame) }
+{
+    match frame {
+        Some(frame) => {
+            text.push_str(" ")?;
+            print_four(text, u64::from(frame.selector))
+        }
+        None => text.push_str(" -"),
+    }
+}
+
+/// Prints the line of a group.
+fn print_group(
+    text: &mut String,
+    number: usize,
+    index: u16,
+    frame: Option<Frame>,
+    name: Option<Name<'_>>,
+) -> Result<(), AllocError>
+    ensures { AddsText result (string_bytes text.old) (string_bytes text.new) (line (codes "group" ∷ decimal number ∷ decimal index ∷ selector_or_dash frame ∷ unwrap_or (option_map quoted name.entry) (codes "-") ∷ [])) }
+{
+    text.push_str("group")?;
+    print_number(text, number)?;
+    print_number(text, usize::from(index))?;
+    print_selector(text, frame)?;
+    print_name(text, name)?;
+    text.push_str("\n")
+}
+
+/// Prints the line of the group with an index.
+fn print_group_at(
+    text: &mut String,
+    number: usize,
+    index: u16,
+    module: &Checked,
+    placement: &Placement,
+) -> Result<(), AllocError>
+    requires { (g : GroupItem) × (entry (groups (recs_of «module».now.bytes)) index ≡ Some g) }
+    ensures { (g : GroupItem) → entry (groups (recs_of «module».now.bytes)) index ≡ Some g → AddsText result (string_bytes text.old) (string_bytes text.new) (group_line number (recs_of «module».now.bytes, placement.now) (index, g)) }
+{
+    let Some(group) = module.group(index) else {
+        unreachable!()
+    };
+    let Rec::Group { name, .. } = &group else {
+        unreachable!()
+    };
+    let frame = placement.group(usize::from(index));
+    print_group(text, number, index, frame, module.name(name.item.0))
+}
+
+/// Prints a line for each group of a module.
+fn print_groups(
+    text: &mut String,
+    number: usize,
+    module: &Checked,
+    placement: &Placement,
+) -> Result<(), AllocError>
+    ensures { AddsText result (string_bytes text.old) (string_bytes text.new) (group_lines (number, (recs_of «module».now.bytes, placement.now))) }
+{
+    for before in 0..module.groups() {
+        print_group_at(text, number, before + 1, module, placement)?;
+    }
+    Ok(())
+}
+
+/// Prints a line for each group of modules, module by module.
+fn print_all_groups(
+    text: &mut String,
+    modules: &[Checked],
+    placements: &[Placement],
+) -> Result<(), AllocError>
+    requires { length placements.now ≡ length modules.now }
+    ensures { AddsText result (string_bytes text.old) (string_bytes text.new) (flat_map group_lines (enumerate_from 1 (placed_modules modules.now placements.now))) }
+{
+    for (j, module) in modules.iter().enumerate() {
+        print_groups(text, j + 1, module, &placements[j])?;
+    }
+    Ok(())
+}
+
+/// Prints the line of a line of the source, by the base of its LINNUM.
+fn print_line(
+    text: &mut String,
+    number: usize,
+    base: Placed,
+    line: &At<LineNumber>,
+) -> Result<(), AllocError>
+    ensures { AddsText result (string_bytes text.old) (string_bytes text.new) (source_line number base line.now) }
+{
+    let address = u64::from(base.address) + u64::from(line.item.offset);
+    text.push_str("line ")?;
+    print_place(text, address, base.frame)?;
+    print_number(text, number)?;
+    print_number(text, line.item.number as usize)?;
+    text.push_str("\n")
+}
+
+/// Prints lines of the source by the base of their LINNUM.
+fn print_lines(
+    text: &mut String,
+    number: usize,
+    base: Placed,
+    lines: &[At<LineNumber>],
+) -> Result<(), AllocError>
+    ensures { AddsText result (string_bytes text.old) (string_bytes text.new) (flat_map (source_line number base) lines.now) }
+{
+    for line in lines {
+        print_line(text, number, base, line)?;
+    }
+    Ok(())
+}
+
+/// Prints the lines of a record, if it is a LINNUM. No other record is decoded.
+fn print_linnum(
+    alloc: Global,
+    text: &mut String,
+    number: usize,
+    placement: &Placement,
+    rec: &Undecoded<'_>,
+) -> Result<(), AllocError>
+    ensures { AddsText result (string_bytes text.old) (string_bytes text.new) (lines_at number placement.now (lines_of rec.now.kind rec.now.contents)) }
+{
+    let Some(lines) = line_numbers(alloc, rec)? else {
+        return Ok(());
+    };
+    match base_of(placement, lines.group, lines.segment, None) {
+        Some(base) => print_lines(text, number, base, &lines.items),
+        None => Ok(()),
+    }
+}
+
+/// Prints the lines of a module's source.
+fn print_source(
+    alloc: Global,
+    text: &mut String,
+    number: usize,
+    module: &Checked,
+    placement: &Placement,
+) -> Result<(), AllocError>
+    ensures { AddsText result (string_bytes text.old) (string_bytes text.new) (source_lines (number, (recs_of «module».now.bytes, placement.now))) }
+{
+    for (_, rec) in module.undecoded() {
+        print_linnum(alloc, text, number, placement, &rec)?;
+    }
+    Ok(())
+}
+
+/// Prints the lines of the sources of modules, module by module.
+fn print_all_sources(
+    alloc: Global,
+    text: &mut String,
+    modules: &[Checked],
+    placements: &[Placement],
+) -> Result<(), AllocError>
+    requires { length placements.now ≡ length modules.now }
+    ensures { AddsText result (string_bytes text.old) (string_bytes text.new) (flat_map source_lines (enumerate_from 1 (placed_modules modules.now placements.now))) }
+{
+    for (j, module) in modules.iter().enumerate() {
+        print_source(alloc, text, j + 1, module, &placements[j])?;
+    }
+    Ok(())
+}
+
+/// Returns the map of a program, of modules at their placements: what `map_text` returns, and after it
+///
+/// - `group M I SSSS "NAME"` for each group, module by module: the numbers of the module and of the group in it, from 1, and its selector;
+/// - `at SSSS:OOOO "NAME"` for each public that is not local, module by module. Its place is the selector of its frame (of its PUBDEF's group, or else of its segment)
+/// and the offset from the frame's base, each in hexadecimal, or a dash where its address is below that base;
+/// - `line SSSS:OOOO M N` for each line of a source that a LINNUM has, module by module: its place, found as a public's, the number of its module, and its own.
+///
+/// # Errors
+///
+/// `AllocError` if memory runs out.
+pub fn program_map(
+    alloc: Global,
+    modules: &[Checked],
+    placements: &[Placement],
+) -> Result<String, AllocError>
+    requires { length placements.now ≡ length modules.now }
+    ensures { IfOk result (λ text. string_bytes text ≡ program_map modules.now placements.now) }
+{
+    let mut text = map_text(alloc, modules, placements)?;
+    print_all_groups(&mut text, modules, placements)?;
+    print_modules(&mut text, modules, placements)?;
+    print_all_sources(alloc, &mut text, modules, placements)?;
+    Ok(text)
+}

@@ -1,0 +1,18 @@
+use Rattle.std.proofs.Common.{◌+◌, ap, drop}
+use Rattle.omf_check.specs.Module.{records_in}
+use Rattle.omf_check.specs.WellFormed.{recs}
+use Rattle.omf_placement.specs.Derive.{placed_modules}
+use Rattle.omf_symbols.specs.Placed.{module_symbols, placed_symbols}
+use Rattle.omf_symbols.proofs.SymbolLaws.{next-pair, no-pair, part_more, no_part_left}
+use Rattle.omf_symbols.proofs.placed.placed_symbols.Goals as goal
+
+pub loop-j-preserved : goal.loop-j-preserved
+loop-j-preserved c =
+    let j = c.loop-j.j in
+    let ms = placed_modules c.args.modules.now c.args.placements.now in
+    let next = next-pair c.args.modules.now c.args.placements.now j c.index-modules-j.result c.index-placements-j.result c.index-modules-j.is c.index-placements-j.is c.loop-j-test.true c.requires in
+    part_more _ _ (module_symbols c.args.load (recs (records_in c.index-modules-j.result.bytes), c.index-placements-j.result)) (placed_symbols c.args.load (drop (j + 1) ms)) _ _ c.in_ok-push_module.ensures
+    (ap (placed_symbols c.args.load) next) c.loop-j.invariant
+
+pub returns : goal.returns
+returns c = no_part_left _ _ _ (ap (placed_symbols c.args.load) (no-pair c.args.modules.now c.args.placements.now c.loop-j.j c.loop-j-test.false)) c.loop-j.invariant

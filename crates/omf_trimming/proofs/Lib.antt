@@ -1,0 +1,13 @@
+pub mod ChoiceAllLaws
+pub mod ChoiceLaws
+pub mod ChoiceStayLaws
+pub mod SegmentLaws
+pub mod MarkLaws
+pub mod ProgramLaws
+pub mod ReachLaws
+pub mod RestLaws
+pub mod RootLaws
+pub mod UnreachedLaws
+pub mod UseLaws
+pub mod WithoutLaws
+pub mod ReachedLaws

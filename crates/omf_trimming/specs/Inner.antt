@@ -1,0 +1,4 @@
+pub mod Choosing
+pub mod Reaching
+pub mod Rest
+pub mod Uses

@@ -1,0 +1,42 @@
+-- A module without some segments, as the code makes it.
+use Rattle.std.specs.Prelude.{ℕ, ◌+◌, List, [], ◌++◌, Bool, if◌then◌else◌}
+use Rattle.omf_frame.specs.Bytes.{is_one_of}
+use Rattle.omf_records.specs.Shortest.{subrecord_bytes}
+use Rattle.omf_records.specs.Values.{Contents, Iterated, Plain, PublicItems, Subrecord}
+use Rattle.omf_check.specs.declared.contents.Publics.{Publics as CodePublics}
+use Rattle.omf_trimming.specs.Without.{count_after, is_thread, rest_by}
+use Rattle.omf_trimming.specs.declared.without.LeftPublics.{LeftPublics}
+
+-- A subrecord that is a THREAD.
+abbrev pub thread_bytes : ℕ → Subrecord → List ℕ
+thread_bytes kind s = if is_thread s then subrecord_bytes kind s else []
+
+-- The records so far without some segments: the number of SEGDEFs, whether the last data went, and the bytes that are left.
+pub record RestSoFar : Type 0 where
+  pub publics : LeftPublics
+  pub gone : List ℕ
+  pub segments : ℕ
+  pub after_gone : Bool
+  pub bytes : List ℕ
+
+abbrev pub with_bytes : RestSoFar → List ℕ → RestSoFar
+with_bytes s bytes = record s { bytes = s.bytes ++ bytes }
+
+-- Whether the last data went, after a record with these contents.
+abbrev pub gone_after : RestSoFar → Contents → Bool
+gone_after s (Plain d) = is_one_of s.gone d.segment.item
+gone_after s (Iterated d) = is_one_of s.gone d.segment.item
+gone_after s _ = s.after_gone
+
+abbrev pub rest_after : RestSoFar → List ℕ → ℕ → Contents → RestSoFar
+rest_after s bytes kind c = record {
+  publics = s.publics;
+  gone = s.gone;
+  segments = count_after s.segments c;
+  after_gone = gone_after s c;
+  bytes = s.bytes ++ rest_by s.publics s.gone (s.segments + 1) s.after_gone bytes kind c;
+}
+
+-- The contents of a PUBDEF.
+abbrev pub public_items : CodePublics → PublicItems
+public_items p = record { group = p.group; segment = p.segment; frame = p.frame; items = p.items }

@@ -1,0 +1,9 @@
+pub mod Choice
+pub mod ChoiceLaws
+pub mod ChoiceRows
+pub mod Inner
+pub mod Reaching
+pub mod ReachingLaws
+pub mod ReachingRows
+pub mod Trimmed
+pub mod Without

@@ -1,0 +1,4 @@
+//! Laws of the definitions, for all inputs.
+
+pub mod choice;
+pub mod reaching;

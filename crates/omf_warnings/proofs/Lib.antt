@@ -1,0 +1,3 @@
+pub mod FrameLaws
+pub mod OverlapLaws
+pub mod WideLaws

@@ -1,0 +1,6 @@
+use Rattle.std.proofs.Common.{length}
+use Rattle.omf_warnings.proofs.allowed.allowed_in.Given as goal
+
+-- the arguments that are left
+abbrev pub decreases-loop-rest : goal.decreases-loop-rest
+decreases-loop-rest l = length l.rest

@@ -1,0 +1,40 @@
+use Rattle.std.proofs.Common.{◌≡◌, ◌+◌, ◌++◌, ◌∙◌, ap, sym, arith, refl, drop, [], append-nil}
+use Rattle.std.specs.Prelude.{filter_map, map, option_and_then, option_to_list}
+use Rattle.std.specs.List.{enumerate_from}
+use Rattle.omf_check.specs.Module.{records_in}
+use Rattle.omf_check.specs.Tables.{groups}
+use Rattle.omf_check.specs.WellFormed.{recs}
+use Rattle.omf_layout.specs.Several.Gathered.{named}
+use Rattle.omf_placement.specs.Derive.{PlacedModule}
+use Rattle.omf_records.specs.Values.{GroupItem}
+use Rattle.omf_warnings.specs.Frames.{group_framed}
+use Rattle.omf_externals.proofs.ListLaws.{none_left}
+use Rattle.omf_output.proofs.StackLaws.{one-more}
+use Rattle.omf_output.proofs.Steps.{entry_there}
+use Rattle.omf_warnings.proofs.frames.add_groups.Goals as goal
+
+pub loop-before-preserved : goal.loop-before-preserved
+loop-before-preserved c =
+    let j = c.args.number in
+    let m : PlacedModule = (recs (records_in c.args.module.now.bytes), c.args.placement.now) in
+    let k = c.loop-before.before in
+    let end = c.loop-before.invariant.end in
+    let g = entry_there (groups m.0) k (omega (arith, c.loop-before-test.true, end)) in
+    let done = map named c.loop-before.groups.items in
+    let same = c.group_framed.ensures ∙ ap (option_and_then (λ (x : GroupItem). group_framed j m (k + 1, x))) g.1 in
+    record {
+      left = ap (λ l. l ++ filter_map (group_framed j m) (enumerate_from (k + 1 + 1) (drop (k + 1) (groups m.0)))) (c.in_ok-add.ensures ∙ ap (λ o. done ++ option_to_list o) same)
+          ∙ one-more (group_framed j m) done (k + 1, g.0) (enumerate_from (k + 1) (drop k (groups m.0))) (enumerate_from (k + 1 + 1) (drop (k + 1) (groups m.0))) _
+          (ap (enumerate_from (k + 1)) g.2) c.loop-before.invariant.left;
+      end = end;
+    }
+
+pub returns : goal.returns
+returns c =
+    let j = c.args.number in
+    let m : PlacedModule = (recs (records_in c.args.module.now.bytes), c.args.placement.now) in
+    let k = c.loop-before.before in
+    let end = c.loop-before.invariant.end in
+    let done = map named c.loop-before.groups.items in
+    let none : drop k (groups m.0) ≡ [] = none_left (groups m.0) k (omega (arith, c.loop-before-test.false, end)) in
+    sym (append-nil done) ∙ sym (ap (λ l. done ++ filter_map (group_framed j m) (enumerate_from (k + 1) l)) none) ∙ c.loop-before.invariant.left

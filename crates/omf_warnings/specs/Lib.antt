@@ -1,0 +1,10 @@
+pub mod Allowing
+pub mod Frames
+pub mod Lines
+pub mod Long
+pub mod Lying
+pub mod Overlaps
+pub mod RealMode
+pub mod Unseen
+pub mod Wide
+pub mod Inner
