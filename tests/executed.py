@@ -2,8 +2,10 @@
 """Programs whose sources know their answer, linked and run: executed.py [--first SEED] [--count N] [--seconds S] [--keep FOLDER] [--without STEP ..] [--dosbox]
 
 Each seed makes a program of two to six modules for NASM. Its parts refer to one another in the ways that compilers do: near and far calls, code in a
-group that not every module names, words in DGROUP and in far segments, also some bytes after a name, near and far communals of several sizes, pointers and tables
-of them, two parts of a stack, and routines that each module which calls them has as a COMDAT. Each step adds to a sum in BP, so a reference that goes elsewhere gives another sum, or no end. The modules are linked in any order, some of them from a library, as an .EXE, a .COM or a ROM. An 8086 emulator
+group that not every module names, words in DGROUP and in far segments, also some bytes after a name, near and far communals of several sizes, pointers
+and tables of them, two parts of a stack, routines that each module which calls them has as a COMDAT, names that are aliases, and weak and lazy externals,
+defined or not. Some modules have CEXTDEFs, or debug information. Each step adds to a sum in BP, so a reference that goes elsewhere gives another sum,
+or no end. The modules are linked in any order, some of them from a library, as an .EXE, a .COM or a ROM. An 8086 emulator
 (Unicorn) loads the program as DOS does, at three paragraphs, and runs it. With --dosbox DOSBox runs those for DOS too, some in one go. What is linked with status 0 must end with the sum of the source. A program
 without a near call into another segment must link. So must one with such calls in a group, also from a module that does not name it, but for two cases:
 a called routine of a module that does not name the group is in the frame of its segment, and a call from below that is refused; and where all modules that
@@ -25,9 +27,10 @@ import tempfile
 import time
 
 sys.path.append("/usr/lib/python3/dist-packages")
-sys.path.insert(0, os.path.join(os.path.dirname(os.path.realpath(__file__)), "fuzz"))
 sys.path.insert(0, os.path.dirname(os.path.realpath(__file__)))
+sys.path.insert(0, os.path.join(os.path.dirname(os.path.realpath(__file__)), "fuzz"))
 from comdats import with_comdats  # noqa: E402
+from kinds import by_index, with_aliases, with_defaults  # noqa: E402
 from smaller import fewer  # noqa: E402
 
 LINK, LIB = os.environ.get("OMF_LINK", "omf-link"), os.environ.get("OMF_LIB", "omf-lib")
@@ -47,7 +50,7 @@ class Module:
     def __init__(self, number, code):
         self.number, self.code, self.names_group = number, code, False
         self.text, self.data, self.far, self.taken, self.communals = [], [], [], set(), {}
-        self.inlines = {}
+        self.inlines, self.aliases, self.defaults = {}, [], []
 
     def source(self, plan):
         """The text for NASM."""
@@ -151,12 +154,13 @@ class Plan:
         """The steps that this kind of program may make."""
         steps = [self.constant, self.near_call, self.near_word, self.near_row, self.near_store, self.near_table]
         if self.kind != "bin":
-            steps.append(self.communal)
+            steps += [self.communal, self.alias_word]
+            steps += [] if self.is_grouped else [self.alias_call]
         if self.far_data():
             steps += [self.far_word, self.far_row, self.far_table, self.selector]
             steps += [self.far_communal] if self.kind == "exe" else []
         if not self.is_grouped:
-            steps.append(self.code_table)
+            steps += [self.code_table, self.weak_call]
             if self.far_data():
                 steps += [self.far_call, self.far_code_table]
             steps += [self.inline] * 4 if self.kind == "exe" else []
@@ -267,6 +271,41 @@ class Plan:
         self.add(value)
         return [f"call seg {name}:{name}"]
 
+    def alias(self, name):
+        """An alias of a name, perhaps by another one, each in some module."""
+        first = f"also{self.made}"
+        names = [first, *(f"{first}x{it}" for it in range(self.random.randrange(2))), name]
+        for pair in zip(names, names[1:]):
+            self.any_module().aliases.append(pair)
+        return first
+
+    def alias_call(self, module):
+        there = self.random.choice([it for it in self.modules if it.code == module.code])
+        name = self.alias(f"p{there.number}")
+        module.taken.add(f"extern {name}")
+        self.add(self.leaves[f"p{there.number}"])
+        return [f"call {name}"]
+
+    def alias_word(self, module):
+        word = f"n{self.any_module().number}"
+        name = self.alias(word)
+        module.taken.add(f"extern {name}:wrt DGROUP")
+        self.add(self.words[word])
+        return [f"mov ax, [{name}]", *self.adds()]
+
+    def weak_call(self, module):
+        """A near call of a name with a default, which another module defines or none."""
+        others = [f"p{it.number}" for it in self.modules if it.code == module.code and it is not module]
+        if not others:
+            return self.constant(module)
+        default, weak = self.other(module, self.random.choice(others)), self.random.choice([f"weak{self.made}", *others])
+        if weak == default:
+            weak = f"weak{self.made}"
+        module.taken.add(f"extern {weak}")
+        module.defaults.append((weak, default))
+        self.add(self.leaves.get(weak, self.leaves[default]))
+        return [f"call {weak}"]
+
     def far_word(self, module):
         name = self.other(module, f"f{self.any_module().number}")
         self.add(self.words[name])
@@ -336,16 +375,24 @@ def built(plan, folder):
         name = f"{folder}/m{module.number}"
         with open(f"{name}.asm", "w") as it:
             it.write(module.source(plan))
-        made = run("nasm", "-f", "obj", f"{name}.asm", "-o", f"{name}.obj")
+        pick = random.Random(f"{plan.seed} module {module.number}")
+        made = run("nasm", "-f", "obj", *["-g"] * (pick.random() < 0.2 and not module.inlines), f"{name}.asm", "-o", f"{name}.obj")
         if made.returncode:
             raise ValueError(made.stderr.decode())
-        if module.inlines:
-            with open(f"{name}.obj", "rb") as it:
-                whole = with_comdats(it.read(), {name.encode(): selection for name, selection in plan.selections.items()})
-            with open(f"{name}.obj", "wb") as it:
-                it.write(whole)
+        with open(f"{name}.obj", "rb") as it:
+            whole = with_other_records(plan, module, pick, it.read())
+        with open(f"{name}.obj", "wb") as it:
+            it.write(whole)
         names.append(f"{name}.obj")
     return names
+
+
+def with_other_records(plan, module, pick, whole):
+    """A module with the records that the assembler does not write."""
+    whole = with_defaults(pick, with_aliases(whole, module.aliases), module.defaults)
+    if module.inlines:
+        whole = with_comdats(whole, {name.encode(): selection for name, selection in plan.selections.items()})
+    return by_index(pick, whole) if plan.kind != "bin" and pick.random() < 0.3 else whole
 
 
 def linked(plan, folder, names):

@@ -1,9 +1,9 @@
 #!/usr/bin/env python3
-"""Lowers generated modules, and compares with a reader of its own, by the standard's text: lowered.py [--first SEED] [--count N]
+"""Lowers generated modules, and compares with a reader of its own, by the standard's text: lowered.py [--first SEED] [--count N] [--repeats]
 
 Each module has LNAMES and LLNAMES, CEXTDEFs with names of these, LEDATAs of both widths, BAKPATs that add values to their data, and COMDATs with
 NBKPATs; some files have several modules, with padding after them. What `omf-link lower` writes must be the bytes that this reader gives; where a record is at fault, it must name the file,
-the module and the record, and write nothing.
+the module and the record, and write nothing. With --repeats each module has LIDATAs with fixups instead of COMDATs.
 OMF_LINK names the program (omf-link, if not set). The status is 1 where a module differs."""
 import argparse
 import os
@@ -19,6 +19,8 @@ NAMES, LOCAL_NAMES, EXTERNALS, COMDAT_EXTERNALS, DATA, BACKPATCH = 0x96, 0xCA, 0
 SEGMENT, GROUP, REPEATED, COMDAT, FIXUPS, NAMED_BACKPATCH, COMMENT = 0x98, 0x9A, 0xA2, 0xC2, 0x9C, 0xC8, 0x88
 CONTINUED, ITERATED, LOCAL = 1, 2, 4
 SIZES = {0: 1, 1: 2, 2: 4}
+LOCATIONS = {0: 1, 1: 2, 2: 2, 3: 4, 4: 1, 5: 2, 9: 4, 11: 6, 13: 4}
+MOST_RECORDS = 1 << 20
 MOST_FAILED = 10
 
 
@@ -53,7 +55,7 @@ class Made:
             self.records.append(record(GROUP, b"\x01\xFF\x01"))
         for _ in range(self.random.randint(1, 10)):
             self.add_names()
-            self.random.choices([self.add_data, self.add_externals, self.add_patches, self.add_comment, self.add_comdats], [7, 5, 3, 1, 8])[0]()
+            self.random.choices([self.add_data, self.add_externals, self.add_patches, self.add_comment, self.add_comdats, self.add_thread], [35, 25, 15, 5, 40, 1])[0]()
             if self.random.random() < 0.01:
                 self.records.append(self.segdef(5))
         self.records.append(record(0x8A, b"\0"))
@@ -76,8 +78,12 @@ class Made:
 
     def add_data(self):
         (segment, length), size, is_wide = self.segment(), self.random.randint(1, 12), self.random.random() < 0.4
+        segment = segment if self.random.random() < 0.98 else len(self.lengths) + 1
         front = self.index(segment) + little(self.random.randint(0, length - size), 4 if is_wide else 2)
         self.records.append(record(DATA + is_wide, front + self.random.randbytes(size)))
+
+    def add_thread(self):
+        self.records.append(record(FIXUPS, bytes([self.random.choice([0x00, 0x42])]) + self.index(len(self.lengths) + self.random.randrange(2))))
 
     def add_externals(self):
         most = self.count + (self.random.random() < 0.05)
@@ -109,8 +115,10 @@ class Made:
             front = bytes([flags | ITERATED * iterated, self.random.randint(0, 3) << 4 | allocation, align])
             front += little(offset, width)
             self.records.append(record(COMDAT + wide, front + self.index(0) + (base if allocation == 0 else b"") + self.index(name) + data))
-            if not iterated and len(data) > 2 and self.random.random() < 0.4:
-                self.records.append(record(FIXUPS, b"\xC4\x00\x04\x01\x01"))
+            fitting = [it for it, size in contents_of(data, width) if size > 1] if iterated else [0] * (len(data) > 2)
+            if fitting and self.random.random() < 0.4:
+                segments = [1, 1] if self.random.random() < 0.98 else self.random.sample([1, len(self.lengths) + 1], 2)
+                self.records.append(record(FIXUPS, (0xC400 + self.random.choice(fitting)).to_bytes(2, "big") + bytes([4, *segments])))
             flags, most = flags & LOCAL | CONTINUED, offset if iterated else offset + len(data)
             if len(data) > 3 and not iterated and self.random.random() < 0.5:
                 self.add_named_patches(name, offset, len(data))
@@ -174,6 +182,26 @@ def index_at(contents, at):
     return ((first & 127) << 8 | contents[at + 1], at + 2) if first & 128 else (first, at + 1)
 
 
+def segments_in(one, is_thread=False):
+    """The indices of segments that a data record, a BAKPAT or a FIXUPP names; or a FIXUPP's THREADs alone name."""
+    kind, contents, width = one[0] & 0xFE, one[3:-1], 4 if one[0] & 1 else 2
+    if kind in (DATA, REPEATED, BACKPATCH) and not is_thread:
+        yield index_at(contents, 0)[0]
+    at = 0 if kind == FIXUPS else len(contents)
+    while at < len(contents):
+        first, at = contents[at], at + 1
+        methods, count = [first >> 2 & (7 if first & 0x40 else 3)], 0
+        if first & 0x80:
+            fix, at = contents[at + 1], at + 2
+            methods, count = [9 if fix & 0x80 else fix >> 4 & 7, 9 if fix & 8 else fix & 3], 0 if fix & 4 else width
+        for method in methods:
+            if method < 3:
+                number, at = index_at(contents, at)
+                if method == 0 and not (is_thread and first & 0x80):
+                    yield number
+        at += count
+
+
 class Lowered:
     """The records of a lowered module. Data are a segment, an offset, a size, the number of the record, its front and its bytes,
     or None for blocks."""
@@ -181,23 +209,30 @@ class Lowered:
     def __init__(self, records):
         self.names, self.records, self.data = [], [], []
         self.segments, self.groups, self.comdats = [], 0, {}
+        self.origins = []
         for number, one in enumerate(records):
-            kind, contents = one[0], one[3:-1]
-            if kind == COMDAT_EXTERNALS:
-                self.take_externals(number, contents)
-            elif kind & 0xFE == BACKPATCH:
-                self.take_patches(number, contents, 4 if kind & 1 else 2)
-            elif kind & 0xFE == NAMED_BACKPATCH:
-                self.take_named_patches(number, contents, 4 if kind & 1 else 2)
-            elif kind & 0xFE == COMDAT:
-                self.take_comdat(number, kind & 1, contents)
-            elif kind & 0xFE == SEGMENT and self.comdats:
-                raise Fault(number)
-            else:
-                self.take(kind, contents)
-                self.records.append(one)
+            self.take_one(number, one)
+            self.origins += [number] * (len(self.records) - len(self.origins))
         for _, at, attribute, end, indices in self.comdats.values():
             self.records[at] = record(SEGMENT + 1, bytes([attribute]) + little(end, 4) + indices)
+
+    def take_one(self, number, one):
+        kind, contents = one[0], one[3:-1]
+        if self.comdats and any(it > len(self.segments) for it in segments_in(one)):
+            raise Fault(number)
+        if kind == COMDAT_EXTERNALS:
+            self.take_externals(number, contents)
+        elif kind & 0xFE == BACKPATCH:
+            self.take_patches(number, contents, 4 if kind & 1 else 2)
+        elif kind & 0xFE == NAMED_BACKPATCH:
+            self.take_named_patches(number, contents, 4 if kind & 1 else 2)
+        elif kind & 0xFE == COMDAT:
+            self.take_comdat(number, kind & 1, contents)
+        elif kind & 0xFE == SEGMENT and self.comdats:
+            raise Fault(number)
+        else:
+            self.take(kind, contents)
+            self.records.append(one)
 
     def take(self, kind, contents):
         if kind in (NAMES, LOCAL_NAMES):
@@ -234,6 +269,8 @@ class Lowered:
             raise Fault(number)
         text = self.names[name - 1]
         if bool(flags & CONTINUED) != (text in self.comdats):
+            raise Fault(number)
+        if not self.comdats and any(it > len(self.segments) for one in self.records for it in segments_in(one, is_thread=True)):
             raise Fault(number)
         if not flags & CONTINUED:
             self.add_comdat(text, align, pattern or self.allocated(name, attributes & 15))
@@ -295,6 +332,156 @@ class Lowered:
         raise Fault(number)
 
 
+class Repeats(Made):
+    """The records of a module with LIDATAs, FIXUPPs and THREADs that is made at random."""
+
+    def __init__(self, source):
+        self.random = source
+        self.data, self.is_repeated = None, False
+        self.records = [record(0x80, named(b"m")), record(NAMES, named(b"") + named(b"T")), record(SEGMENT, b"\x28\xFF\x7F\x02\x01\x01"), record(EXTERNALS, named(b"f") + b"\0")]
+        self.records.append(record(FIXUPS, b"".join(bytes([kind | number, 1]) for kind in (0x40, 0) for number in range(4))))
+        for _ in range(self.random.randint(1, 8)):
+            self.random.choices([self.add_repeated, self.add_fixups, self.add_plain, self.add_comment], [4, 6, 1, 1])[0]()
+        self.records.append(record(0x8A, b"\0"))
+
+    def add_repeated(self):
+        wide = self.random.random() < 0.4
+        self.data, self.is_repeated = self.blocks(4 if wide else 2, self.random.choice([0, 1, 2, 3])), True
+        if self.random.random() < 0.02:
+            self.data = self.data[:-1]
+        offset = self.random.choices([self.random.randint(0, 999), 0xFFFFFFF0], [50, wide])[0]
+        self.records.append(record(REPEATED + wide, self.index(1) + little(offset, 4 if wide else 2) + self.data))
+
+    def add_plain(self):
+        self.data, self.is_repeated = self.random.randbytes(12), False
+        self.records.append(record(DATA, b"\x01" + little(self.random.randint(0, 99), 2) + self.data))
+
+    def add_fixups(self):
+        wide = self.random.random() < 0.4
+        parts = [self.thread() if self.random.random() < 0.2 else self.fixup(4 if wide else 2) for _ in range(self.random.randint(0, 3))]
+        self.records.append(record(FIXUPS + wide, b"".join(parts)))
+
+    def thread(self):
+        method = self.random.choice([0, 2]) if (frame := self.random.random() < 0.5) or self.random.random() < 0.9 else 6
+        if frame and self.random.random() < 0.4:
+            return bytes([0x40 | self.random.choice([4, 5]) << 2 | self.random.randrange(4)])
+        return bytes([0x40 * frame | method << 2 | self.random.randrange(4)]) + self.index(1)
+
+    def fixup(self, width):
+        kind, relative = self.random.choice([(0, 1), (1, 1), (2, 0), (3, 0), (4, 0), (5, 1), (9, 1), (11, 0), (13, 1)])
+        segment_relative = not relative or self.random.random() < 0.7
+        fitting = [it for it in contents_of(self.data, 4 if wide_of(self.records) else 2) if it[1] >= LOCATIONS[kind]] if self.data and self.is_repeated else []
+        if not fitting and self.random.random() < 0.97:
+            return self.thread()
+        start, size = self.random.choice(fitting) if fitting else (self.random.randint(0, 40), 8)
+        offset = self.random.randint(start, start + size - LOCATIONS[kind])
+        first = 0x8000 | 0x4000 * segment_relative | kind << 10 | min(offset, 1023)
+        frame = self.random.choice([0x00, 0x20, 0x40, 0x50, 0x80, 0xB0])
+        target = self.random.choice([0, 2, 4, 6, 8, 11, 12, 15])
+        datum = (self.index(1) if frame in (0x00, 0x20) else b"") + (b"" if target & 8 else self.index(1))
+        return first.to_bytes(2, "big") + bytes([frame | target]) + datum + (b"" if target & 4 else little(self.random.getrandbits(32), width))
+
+
+def wide_of(records):
+    """Whether the last LIDATA has repeat counts of 32 bits."""
+    return next((one[0] & 1 for one in reversed(records) if one[0] & 0xFE == REPEATED), 0)
+
+
+def origins(text, at, count, width):
+    """For each byte of this many expanded blocks, or of all to the end, the offset of the byte that it is a copy of; the extents of the contents; the position after the blocks."""
+    sources, contents = [], []
+    while count != 0 and at < len(text):
+        if at + width + 2 > len(text):
+            raise ValueError
+        times, inner = (int.from_bytes(text[it:it + n], "little") for it, n in ((at, width), (at + width, 2)))
+        at += width + 2
+        if inner:
+            one, own, at = origins(text, at, inner, width)
+        else:
+            if at >= len(text) or at + 1 + text[at] > len(text):
+                raise ValueError
+            one, own, at = list(range(at + 1, at + 1 + text[at])), [(at + 1, text[at])], at + 1 + text[at]
+        sources, contents, count = sources + one * times, contents + own, count - 1
+    if count > 0:
+        raise ValueError
+    return sources, contents, at
+
+
+def contents_of(text, width):
+    """The extents of the contents of blocks: of each its first offset and its size."""
+    try:
+        return origins(text, 0, -1, width)[1]
+    except ValueError:
+        return []
+
+
+class Unrolled:
+    """The records of a module whose LIDATAs with fixups are unrolled: the LIDATA stays, and of each fixup after it each copy of its location is an LEDATA with a FIXUPP."""
+
+    def __init__(self, records):
+        self.records, self.data, self.taken = [], None, set()
+        for number, one in enumerate(records):
+            kind = one[0] & 0xFE
+            if kind in (DATA, REPEATED):
+                self.data, self.taken = self.repeated(one) if kind == REPEATED else None, set()
+            if kind == FIXUPS and self.data and any(first & 0x80 for first, _ in self.subrecords(one)):
+                for first, text in self.subrecords(one):
+                    self.take(number, one[0], first, text)
+            else:
+                self.records.append(one)
+
+    @staticmethod
+    def repeated(one):
+        """The segment, the offset and the blocks of an LIDATA, with the origins and the contents; None if its blocks are cut short or its data go past 2^32."""
+        width = 4 if one[0] & 1 else 2
+        segment, at = index_at(one[3:-1], 0)
+        text = one[3 + at + width:-1]
+        try:
+            sources, contents, _ = origins(text, 0, -1, width)
+        except ValueError:
+            return None
+        offset = int.from_bytes(one[3 + at:3 + at + width], "little")
+        return (segment, offset, text, sources, contents) if offset + len(sources) <= 1 << 32 else None
+
+    @staticmethod
+    def subrecords(one):
+        """The subrecords of a FIXUPP: of each its first byte, and its bytes in their shortest form."""
+        contents, width, at = one[3:-1], 4 if one[0] & 1 else 2, 0
+        while at < len(contents):
+            first = contents[at]
+            text, at = contents[at:at + 1], at + 1
+            count = 0
+            if first & 0x80:
+                text, fix, at = contents[at - 1:at + 2], contents[at + 1], at + 2
+                count = (not fix & 0x80 and fix >> 4 & 7 < 3) + (not fix & 8)
+            elif first >> 2 & (7 if first & 0x40 else 3) < 3:
+                count = 1
+            for _ in range(count):
+                number, at = index_at(contents, at)
+                text += shortest(number)
+            if first & 0x80 and not fix & 4:
+                text, at = text + contents[at:at + width], at + width
+            yield first, text
+
+    def take(self, number, kind, first, text):
+        if not first & 0x80:
+            self.records.append(record(kind, text))
+            return
+        segment, offset, blocks, sources, contents = self.data
+        locat = int.from_bytes(text[:2], "big")
+        at, size = locat & 1023, LOCATIONS[locat >> 10 & 15]
+        own = set(range(at, at + size))
+        if not any(start <= at and at + size <= start + length for start, length in contents) or own & self.taken:
+            raise Fault(number)
+        self.taken |= own
+        copies = [it for it, source in enumerate(sources) if source == at]
+        if len(self.records) + 2 * len(copies) > MOST_RECORDS:
+            raise Fault(number)
+        for copy in copies:
+            self.records.append(record(DATA + 1, shortest(segment) + little(offset + copy, 4) + blocks[at:at + size]))
+            self.records.append(record(kind, bytes([first & 0xFC, 0]) + text[2:]))
+
+
 def made(seed):
     """The modules of a file, each as its records, and the padding after each."""
     source = random.Random(seed)
@@ -302,12 +489,26 @@ def made(seed):
     return [(Made(source).records, bytes([source.choice([0, 0x1A])]) * source.choice([0, 0, 1, 40])) for _ in range(count)]
 
 
+def made_repeats(seed):
+    """The modules of a file with LIDATAs that have fixups: one module, without padding."""
+    return [(Repeats(random.Random(seed)).records, b"")]
+
+
+def records_of(records):
+    """The records of a module, lowered and unrolled. A fault is at the record that the lowered one is from."""
+    one = Lowered(records)
+    try:
+        return Unrolled(one.records).records
+    except Fault as fault:
+        raise Fault(one.origins[fault.args[0]]) from fault
+
+
 def lowered(modules):
     """The bytes of the lowered modules; or the numbers of the first module with a fault, from 1, and of its record."""
     out = b""
     for number, (records, _) in enumerate(modules, 1):
         try:
-            out += b"".join(Lowered(records).records)
+            out += b"".join(records_of(records))
         except Fault as fault:
             return number, fault.args[0]
     return out
@@ -333,11 +534,12 @@ def main():
     parser = argparse.ArgumentParser(description=__doc__, formatter_class=argparse.RawDescriptionHelpFormatter)
     parser.add_argument("--first", type=int, default=1)
     parser.add_argument("--count", type=int, default=2000)
+    parser.add_argument("--repeats", action="store_true", help="modules whose LIDATAs have fixups, which are unrolled")
     asked = parser.parse_args()
     failed = count = 0
     with tempfile.TemporaryDirectory() as folder:
         for seed in range(asked.first, asked.first + asked.count):
-            modules = made(seed)
+            modules = made_repeats(seed) if asked.repeats else made(seed)
             count += len(modules)
             answer = differs(pathlib.Path(folder), modules)
             if answer:

@@ -4,6 +4,7 @@
 Each row has the files of a folder, the variable LIB, the words of a call after `exe -o p.exe --map p.map`, and what comes of it: the files of the
 modules that the map shows, or the status and the lines on the standard error. The rows were written by hand from docs/DOS.md. OMF_LINK names the
 program. The status is 0 where each row is right."""
+import itertools
 import os
 import pathlib
 import re
@@ -30,11 +31,23 @@ def lib(*names):
     return library([(module(b"l", [it]), (it,)) for it in names])
 
 
+def asking(name, *libraries):
+    """A library whose member defines a name and asks for libraries."""
+    member = module(b"l", [name])
+    end = 3 + int.from_bytes(member[1:3], "little")
+    asked = b"".join(record(0x88, b"\x00\x9F" + it) for it in libraries)
+    return library([(member[:end] + asked + member[end:], (name,))])
+
+
 # A name of a file: its bytes.
 PLAIN = {"m.obj": main()}
 ASKS = {"m.obj": main(b"f", [b"Clib"])}
 UNDEFINED = 'undefined "f": file "m.obj" module 1'
 MISSING = 'library "Clib" is not found'
+
+# Names of libraries that are not there, and spellings of one name.
+MANY = [b"lib%d" % it for it in range(20000)]
+SPELLINGS = [bytes(it) for it in itertools.product(*zip(b"abcdefghijklm", b"ABCDEFGHIJKLM"))]
 
 # Files, LIB, words; the files of the map's modules, or a status and lines.
 ROWS = [
@@ -68,9 +81,30 @@ ROWS = [
     ({**ASKS, "d/cLIB": lib(b"f")}, "", "-L d m", ["m.obj", "d/cLIB"]),
     ({**ASKS, "d/Clib.LIB": lib(b"f")}, "d", "m", ["m.obj", "d/Clib.LIB"]),
     ({**ASKS, "cLib": lib(b"f"), "d/Clib": lib(b"f")}, "d", "m", ["m.obj", "cLib"]),
-    ({**ASKS, "cLib": lib(b"f"), "ClIB.lib": lib(b"f")}, "", "m", (1, [UNDEFINED, MISSING])),
+    ({**ASKS, "cLib": lib(b"f"), "ClIB.lib": lib(b"f")}, "", "m", (1, [UNDEFINED, f'{MISSING}: it may be file "ClIB.lib" or "cLib"'])),
+    ({**ASKS, "d/clIb": lib(b"f"), "d/cLib": lib(b"f"), "e/CLIB": b""}, "d;e", "m", (1, [UNDEFINED, f'{MISSING}: it may be file "d/cLib" or "d/clIb"'])),
+    ({**ASKS, "d/clIb": lib(b"f"), "d/cLib": lib(b"f"), "e/CLIB": lib(b"f")}, "d;e", "m", ["m.obj", "e/CLIB"]),
     ({**ASKS, "Clib.libx": lib(b"f"), "xClib": lib(b"f"), "Clib.obj": lib(b"f")}, "", "m", (1, [UNDEFINED, MISSING])),
     ({**ASKS, "Clib": b"no library", "Clib.lib": lib(b"f")}, "", "m", ["m.obj", "Clib.lib"]),
+    ({"m.obj": main(b"f", [b"A", b"a"]), "A.lib": lib(b"f")}, "", "m", ["m.obj", "A.lib"]),
+    ({"m.obj": main(b"f", [b"B", b"A"]), "A": asking(b"f", b"B", b"D", b"A"), "D": lib(b"g")}, "", "m", ["m.obj", "A"]),
+    ({"m.obj": main(b"f", [b"A"]), "A": asking(b"g", b"A", b"B", b"D", b"D"), "D": b""}, "", "m", (1, [UNDEFINED])),
+    # Files of the name that are no libraries; folders are no files.
+    ({**ASKS, "Clib": b"no library"}, "", "m", (1, [UNDEFINED, f'{MISSING}: file "Clib" is no library'])),
+    ({**ASKS, "cLib.Lib": b""}, "", "m", (1, [UNDEFINED, f'{MISSING}: file "cLib.Lib" is no library'])),
+    ({**ASKS, "CLIB.LIB": b"!<arch>\n", "clib": b"", "cLIB": lib(b"f")}, "", "m", (1, [UNDEFINED, f'{MISSING}: file "clib" is no library'])),
+    ({**ASKS, "d/clib.lib": b"!<arch>\n"}, "", "-L d m", (1, [UNDEFINED, f'{MISSING}: file "d/clib.lib" is no library'])),
+    ({**ASKS, "clib": b"", "d/clib.lib": b"", "e/Clib": lib(b"f")}, "d;e", "m", ["m.obj", "e/Clib"]),
+    ({"m.obj": main(b"f", [b'C"\x01']), 'C"\x01': b""}, "", "m", (1, [UNDEFINED, r'library "C\x22\x01" is not found: file "C\x22\x01" is no library'])),
+    ({**ASKS, "Clib/x": b"", "clib.lib/x": b""}, "", "m", (1, [UNDEFINED, MISSING])),
+    ({**ASKS, "Clib/x": b"", "cLib.lib": lib(b"f")}, "", "m", ["m.obj", "cLib.lib"]),
+    ({**ASKS, "d/Clib": lib(b"f")}, "", "m", (1, [UNDEFINED, MISSING])),
+    ({"m.obj": main(b"f", [b"d/Clib"]), "d/Clib": lib(b"f")}, "d", "m", (1, [UNDEFINED, 'library "d/Clib" is not found'])),
+    ({"m.obj": main(b"f", [b""]), ".lib": lib(b"f")}, "", "m", ["m.obj", ".lib"]),
+    ({"m.obj": main(b"f", [b".", b"..", b"C\xE4", b"C\x00"])}, "", "m", (1, [UNDEFINED, *(rf'library "{it}" is not found' for it in (".", "..", r"C\xE4", r"C\x00"))])),
+    # Many names, in a folder of many files: each folder is listed once, and each file is read once.
+    ({"m.obj": main(b"f", MANY), **{f"n{it}.lib": b"" for it in range(2000)}}, "", "m", (1, [UNDEFINED, *(f'library "{it.decode()}" is not found' for it in MANY)])),
+    ({"m.obj": main(b"f", SPELLINGS), "abcdefghijklm": bytes(1 << 22)}, "", "m", (1, [UNDEFINED, *(f'library "{it.decode()}" is not found: file "abcdefghijklm" is no library' for it in SPELLINGS)])),
     # Libraries that are left out: they are not missing either.
     ({**ASKS, "Clib": lib(b"f")}, "", "m --no-default-libraries", (1, [UNDEFINED])),
     ({**ASKS, "Clib": lib(b"f")}, "", "m --no-default-library clib", (1, [UNDEFINED])),

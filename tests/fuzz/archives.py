@@ -78,7 +78,7 @@ class Library:
             size = bytes_[at + 3] if length > 3 else 0
             promised(plain(row[4]) == bytes_[at + 4:min(at + 4 + size, at + length)], f"the name of member {row[0]}")
         faults = re.findall(rb"^fault (\d+) \w+ at (\d+)", check, re.M)
-        notes = re.findall(rb"^note (1[789]|20) \w+ at \d+", check, re.M)
+        notes = re.findall(rb"^note (1[789]|2[02]) \w+ at \d+", check, re.M)
         is_ok = re.match(rb"OK (\d+) members, (\d+) publics, (\d+) entries\n", check)
         promised(bool(is_ok) != bool(faults) and bool(is_ok) + len(faults) + len(notes) == check.count(b"\n"), f"check {check[:200]}")
         promised(all((1 <= int(it[0]) <= 16 or it[0] == b"21") and int(it[1]) <= 2 ** 32 + 2 ** 25 for it in faults), "a fault's number or offset")

@@ -4,12 +4,14 @@ import struct
 import subprocess
 
 from libraries import record
-from modules import ends_of, externals_of, named_externals, publics_of, titles_of
+from modules import defaults_of, ends_of, named_externals, publics_of, titles_of
 
 PARAGRAPH = 16
 COM_FRONT = 0x100
 LOCATIONS = (1, 1, 2, 2, 3, 3, 3, 0, 4, 5, 9, 13, 11)
 NEAR_LOCATIONS = (1,) * 40 + (5, 9, 13, 2)
+# The methods of frames: mostly of the target.
+FRAMES = (5, 5, 5, 4, 0, 1, 2)
 NAMES = (b"f", b"g", b"h")
 
 
@@ -67,6 +69,12 @@ def moved(text, paragraph):
     return ("\n".join(made) + "\n").encode()
 
 
+def least_memory(text):
+    """The end of the highest segment of a drafted text that is not absolute."""
+    found = re.findall(r'^S (?:#\d+|"[^"]*"(?: "[^"]*")?) ([0-9A-F]+) [^;]*; (?:(?! absolute ).)* length (\d+)', text.decode(), re.M)
+    return max((int(at, 16) + int(length) for at, length in found), default=0)
+
+
 def with_frames(text, modules):
     """A drafted text of these modules in which each line has its frame: `shared` is the frame of the first line for the name and class, or for the group name."""
     titles, frames, made = iter([titles_of(it) for it in modules]), {}, []
@@ -118,6 +126,30 @@ def public_places(modules, places):
     return found | {name: found[end] for name, end in ends_of(modules).items() if end in found}
 
 
+def candidates(modules):
+    """Of each external of modules, in their order, the names that may give its place: its own and its defaults' names, and the end of the aliases of
+    the first default, or of its own name without one. That end is None if there is no alias."""
+    ends = ends_of(modules)
+    for one in modules:
+        names, defaults = [name for name, _ in named_externals(one)], defaults_of(one)
+        for index, name in enumerate(names, 1):
+            own = [names[it - 1] for it in defaults.get(index, ())]
+            followed = own[0] if own else name
+            yield [name, *own], ends.get(followed)
+
+
+def has_undefined(modules):
+    """Whether an external has no place, or it or its first default leads by aliases to a name that nothing defines, also where the external is defined."""
+    publics = {it[0] for one in modules for it in publics_of(one)}
+    return any(not publics & {*names, end} or (end is not None and end not in publics) for names, end in candidates(modules))
+
+
+def external_places(modules, places):
+    """The place of each external of modules, in their order."""
+    found = {one[0]: public_place(there, *one[1:]) for module_, there in zip(modules, places) for one in publics_of(module_)}
+    return [next(found[it] for it in [*names, end] if it in found) for names, end in candidates(modules)]
+
+
 def with_aliases(text, modules):
     """A text whose lines are in the order of the indices, with a line for each external that an alias gives a place: `omf-link image` follows none."""
     ends, found, made, parts = ends_of(modules), public_places(modules, places_in(text)), [], iter(modules)
@@ -132,10 +164,10 @@ def with_aliases(text, modules):
 def relocated(omf, modules, text):
     """The memory and the start of modules, each relocated alone by `omf reloc` at its places of the text; or the first line with a fault."""
     places, memory, start = places_in(with_frames(text, modules)), {}, None
-    found = public_places(modules, places)
+    externals = iter(external_places(modules, places))
     for module_, (segments, groups) in zip(modules, places):
         lines = [f"S {it[0]:X} {it[1]:X} {it[2]:X}" for it in segments] + [f"G {it[0]:X} {it[1]:X}" for it in groups]
-        lines += ["E {:X} {:X} {:X}".format(*found[it]) for it in externals_of(module_)]
+        lines += ["E {:X} {:X} {:X}".format(*next(externals)) for _ in named_externals(module_)]
         done = subprocess.run([omf, "reloc"], input=module_ + "\n".join(lines).encode(), stdout=subprocess.PIPE, timeout=60)
         if done.returncode:
             return done.stdout, None
@@ -155,14 +187,14 @@ def memory_of(lines):
     return found, start and (int(start[1], 16), int(start[2], 16))
 
 
-def fixup(random_, at, count, has_group, externals, locations=LOCATIONS):
+def fixup(random_, at, count, has_group, externals, locations=LOCATIONS, frames=FRAMES):
     """One fixup of a location at this offset, of the kinds that 16-bit modules have; now and then of another."""
     location = random_.choice(locations)
     is_absolute = random_.randrange(2)
     target = random_.choice((0, 0, 0, 1, 2, 2)) if externals else random_.choice((0, 0, 1))
     target = 0 if target == 1 and not has_group else target
     index = {0: random_.randrange(count) + 1, 1: 1, 2: random_.randrange(max(externals, 1)) + 1}[target]
-    frame = random_.choice((5, 5, 5, 4, 0, 1, 2))
+    frame = random_.choice(frames)
     frame = 5 if (frame == 1 and not has_group) or (frame == 2 and not externals) else frame
     frame_index = {0: random_.randrange(count) + 1, 1: 1, 2: random_.randrange(max(externals, 1)) + 1}.get(frame)
     body = struct.pack(">H", 0x8000 | (0x4000 if is_absolute or location in (2, 3, 11) else 0) | location << 10 | at)
@@ -170,7 +202,7 @@ def fixup(random_, at, count, has_group, externals, locations=LOCATIONS):
     return body
 
 
-def module(random_, number, is_main, front=0, locations=LOCATIONS):
+def module(random_, number, is_main, front=0, locations=LOCATIONS, frames=FRAMES):
     """A module with a few segments, publics, externals, data and fixups. The first segment begins with that many bytes without data; a start is there."""
     count, externals = random_.randrange(3) + 1, random_.randrange(3)
     names = [b"", b"_TEXT", b"_DATA", b"STACK", b"CODE", b"DATA", b"DGROUP"]
@@ -200,7 +232,7 @@ def module(random_, number, is_main, front=0, locations=LOCATIONS):
         start = random_.choice((low, low, size - length))
         records.append(record(0xA0, bytes([segment]) + struct.pack("<H", start) + random_.randbytes(length)))
         places = range(0, length - 5, random_.choice((6, 6, 6, 6, 1)))
-        chosen = [fixup(random_, at, count, has_group, externals, locations) for at in places if random_.randrange(2)]
+        chosen = [fixup(random_, at, count, has_group, externals, locations, frames) for at in places if random_.randrange(2)]
         if chosen:
             records.append(record(0x9C, b"".join(chosen)))
     start = b"\xC1\x00\x01\x01" + struct.pack("<H", front or random_.randrange(8)) if is_main else b"\x00"

@@ -1,14 +1,16 @@
 """omf-link exe and com: the file as DOS loads it against the modules relocated one by one, and a library against the members that it must give."""
+import functools
 import os
 import re
 import subprocess
 
 import executables
+import kinds
 import libraries
 import wide
 from aliases import aliased
 from changes import changed_module
-from modules import TWICE, UNRESOLVED, as_library, ends_of, externals_of, has_defaults, is_main, is_simple, members_needed, pairs_of, provider
+from modules import TWICE, UNRESOLVED, as_library, ends_of, externals_of, has_defaults, is_main, is_open, is_simple, members_needed, pairs_of, provider
 from modules import repeated_lines, unresolved_lines, with_names
 from promises import ALLOW_ALL, TIMEOUT, program, promised, run, told_of
 
@@ -16,12 +18,15 @@ from promises import ALLOW_ALL, TIMEOUT, program, promised, run, told_of
 # Names that no made and no real module has.
 UNASKED = (b"\xFFz", b"Unasked", b"Una")
 # A line that may follow `undefined`: a module asks for this library.
-NOT_FOUND = re.compile(rb'library "[^"\n]*" is not found\n')
+NOT_FOUND = re.compile(rb'library "[^"\n]*" is not found(: [^\n]*)?\n')
+REFUSED = re.compile(rb'file "in(\d+)\.obj" module 1 refused .*\n')
 
 
 class Exe:
     IS_BATCH = False
     TASK, LOADED = "exe", staticmethod(executables.loaded)
+    # The locations and frame methods of fixups: of all kinds, and of those that mostly reach.
+    FIXUPS = (executables.LOCATIONS, executables.FRAMES), ((2, 3, 3), (5,))
 
     def __init__(self, seeds, random_, every):
         self.link, self.omf, self.random = program("omf_link"), program("omf"), random_
@@ -40,11 +45,14 @@ class Exe:
                 own = provider([], True)
             return [changed_module(random_, [real]) if random_.randrange(4) == 0 else real, own]
         main, count = random_.randrange(4), random_.randrange(4) + 1
-        made = [executables.module(random_, number, number == main % count) for number in range(count)]
-        return self.changed(made)
+        fixups = random_.choice(self.FIXUPS)
+        made = [executables.module(random_, number, number == main % count, 0, *fixups) for number in range(count)]
+        return self.changed(made, fixups)
 
-    def changed(self, made):
-        """Made modules, perhaps with aliases, of which one is perhaps changed; or one more, which defines the name of another."""
+    def changed(self, made, fixups):
+        """Made modules, perhaps with records of other kinds and aliases, of which one is perhaps changed; or one more, which defines the name of another."""
+        fixup = functools.partial(executables.fixup, locations=fixups[0], frames=fixups[1])
+        made = kinds.various(self.random, made, fixup) if self.random.randrange(2) else made
         made = aliased(self.random, made) if self.random.randrange(4) == 0 else made
         kind, at = self.random.randrange(8), self.random.randrange(len(made))
         if kind == 0:
@@ -71,8 +79,11 @@ class Exe:
         for name, bytes_ in zip(names, inputs):
             (folder / name).write_bytes(bytes_)
         status, lines = self.exe("p.exe", names, folder)
-        if any(map(wide.is_lowered, inputs)):  # taken as it is lowered: tests/taken.py compares that
-            return
+        if any(map(wide.is_lowered, inputs)):
+            return self.look_at_lowered(status, lines, inputs, names, folder)
+        if all(map(is_open, inputs)) and b'twice "' not in lines and (status == 0 or UNRESOLVED.fullmatch(lines)):
+            is_undefined = executables.has_undefined(inputs)
+            promised(is_undefined == (b'undefined "' in lines), f"{lines}, an external without a place: {is_undefined}")
         if all(is_simple(it) and libraries.module_length(it) == len(it) for it in inputs) and (status == 0 or UNRESOLVED.fullmatch(lines)):
             places = [f'file "in{number}.obj" module 1' for number in range(len(inputs))]
             wanted = unresolved_lines(inputs, places, True)
@@ -87,6 +98,25 @@ class Exe:
             self.look_at_library(inputs, names, folder)
         if self.random.randrange(4) == 0:
             self.look_at_case(inputs, folder)
+
+    def look_at_lowered(self, status, lines, inputs, names, folder):
+        """Modules with COMDATs and the like are linked as their lowerings are, without the COMDATs that are left out."""
+        found, refused = kinds.plain(inputs), REFUSED.fullmatch(lines)
+        if found is None:
+            return None
+        rest, lowered = found
+        if refused:
+            other, line = run([self.link, "lower", "-o", "low.obj", names[int(refused[1])]], folder=folder)
+            return promised(other or run([self.omf, "check"], (folder / "low.obj").read_bytes())[0] == 1, f"{self.TASK}: {lines}, lower: {other} {line}")
+        if len(inputs) > 1 and self.random.randrange(3) == 0:
+            self.look_at_library(inputs, names, folder, lowered)
+        for name, bytes_ in zip(names, rest):
+            (folder / name).write_bytes(bytes_)
+        other, alone = self.exe("q.exe", names, folder)
+        promised(status == other and (alone == lines or not UNRESOLVED.fullmatch(alone)), f"{lines}, without the COMDATs left out {alone}")
+        promised(status or (folder / "p.exe").read_bytes() == (folder / "q.exe").read_bytes(), "other files without the COMDATs left out")
+        self.compared += 1
+        return self.look(rest, folder)
 
     def is_allowed(self, lines, names, folder):
         """Whether --allow twice makes a program: the lines are then warnings. Where an external asks for one of the names it is refused as before."""
@@ -108,17 +138,18 @@ class Exe:
         if lines == wanted and self.is_allowed(lines, [*names, *files], folder):
             self.compare([*names, *files], [*inputs, *own], (folder / "p.exe").read_bytes(), folder)
 
-    def look_at_library(self, inputs, names, folder):
-        """Some modules in a library: the members that are needed, as a second reader finds them, linked by name give the same file."""
-        count = self.random.randrange(1, len(inputs))
-        members, needed = inputs[count:], members_needed(inputs[:count], inputs[count:])
+    def look_at_library(self, inputs, names, folder, lowered=None):
+        """Some modules in a library: the members that are needed, as a second reader finds them, linked by name give the same file. That reader reads
+        the lowered ones, if they are given."""
+        count, read = self.random.randrange(1, len(inputs)), lowered or inputs
+        members, needed = inputs[count:], members_needed(read[:count], read[count:])
         (folder / "rt.lib").write_bytes(as_library(members))
-        if needed is None or any(libraries.module_length(it) != len(it) or self.hides_aliases(it) for it in members):
+        if needed is None or any(libraries.module_length(it) != len(it) or self.hides_aliases(it) for it in read[count:]):
             return
         status, line = self.exe("l.exe", [*names[:count], "rt.lib"], folder)
         refused = re.match(rb'file "rt.lib" module (\d+) (refused .*\n)', line)
         if refused:
-            member = members[int(refused[1]) - 1]
+            member = read[count + int(refused[1]) - 1]
             return promised(run([self.omf, "check"], member) == (1, refused[2]), f"{line}, of a member that omf check accepts")
         other, alone = self.exe("q.exe", [*names[:count], *(names[count + it] for it in needed)], folder)
         promised(status == other, f"with the library {line[:200]}, without it {alone[:200]}")
@@ -148,14 +179,21 @@ class Exe:
         """The file at some paragraphs, and the memory of the modules there."""
         status, text = run([self.link, "draft", "--base", "0", "--real", *names], folder=folder)
         promised(status == 0, f"draft: {text[:200]}")
-        if any(map(has_defaults, inputs)) and ends_of(inputs):
+        if any(it[libraries.module_length(it):].strip(b"\0\x1A") for it in inputs):  # the readers here read one module of a file
             return
+        is_read, is_mixed = all(map(is_open, inputs)), any(map(has_defaults, inputs)) and ends_of(inputs)
+        if is_mixed and not is_read:
+            return
+        self.look_at_lines(names, inputs, executables.places_in(executables.with_frames(text, inputs)), folder)
+        if self.TASK == "exe":
+            least, asked = executables.least_memory(text), self.LOADED(file, 0)[2]
+            promised(least <= asked < least + executables.PARAGRAPH, f"memory: {asked} bytes, not {least}")
         text = executables.with_frames(text, inputs)
         for paragraph in (0, *(self.random.randrange(1, 0x8000) for _ in range(2))):
             image, start, _ = self.LOADED(file, paragraph)
             there = executables.moved(text, paragraph)
             (folder / "text").write_bytes(executables.with_aliases(there, inputs))
-            if self.random.randrange(2) and all(map(is_simple, inputs)):
+            if is_read and (is_mixed or self.random.randrange(2)):
                 memory, own = executables.relocated(self.omf, inputs, there)
             else:
                 status, lines = run([self.link, "image", *ALLOW_ALL, "-t", "text", *names], folder=folder)
@@ -169,11 +207,25 @@ class Exe:
             self.compared += 1
 
 
+    def look_at_lines(self, names, inputs, places, folder):
+        """The lines of LINNUMs in the map."""
+        words = [self.link, self.TASK, "--allow", "twice", "-o", "m.exe", "--map", "m.map", *names]
+        if not any(map(kinds.has_lines, inputs)) or self.random.randrange(2):
+            return
+        promised(subprocess.run(words, stderr=subprocess.PIPE, cwd=folder, timeout=TIMEOUT).returncode == 0, "with --map: not linked")
+        found = [it for it in (folder / "m.map").read_text().splitlines() if it.startswith("line ")]
+        wanted = [it for number, (one, there) in enumerate(zip(inputs, places), 1) for it in kinds.map_lines(one, number, there)]
+        promised(found == wanted, f"lines {found}, not {wanted}")
+        self.compared += 1
+
+
 class Com(Exe):
     TASK, LOADED = "com", staticmethod(executables.loaded_com)
+    FIXUPS = (executables.NEAR_LOCATIONS, executables.FRAMES), ((1,), (5,))
 
     def inputs(self):
         """Modules made at random, the first with a start at 100H and no data below, and with few references that need a selector."""
-        random_, front, near = self.random, executables.COM_FRONT, executables.NEAR_LOCATIONS
-        made = [executables.module(random_, number, number == 0, 0 if number else front, near) for number in range(random_.randrange(4) + 1)]
-        return self.changed(made)
+        random_, front = self.random, executables.COM_FRONT
+        fixups = random_.choice(self.FIXUPS)
+        made = [executables.module(random_, number, number == 0, 0 if number else front, *fixups) for number in range(random_.randrange(4) + 1)]
+        return self.changed(made, fixups)

@@ -1,7 +1,9 @@
-"""omf-link lower: made modules with CEXTDEFs and BAKPATs, and changed ones, against a second reader."""
+"""omf-link lower: made modules with CEXTDEFs and BAKPATs, and changed ones, against a second reader; with COMDATs against the one of tests/lowered.py."""
 import functools
 import re
 
+import executables
+import kinds
 import libraries
 import wide
 from changes import changed_module
@@ -22,8 +24,10 @@ class Lower:
         self.verdict = functools.lru_cache(4096)(lambda bytes_: run([self.omf, "check"], bytes_))
 
     def inputs(self):
-        """A made module, perhaps changed, or with padding and another or any file after it; or any file, changed."""
-        random_, kind = self.random, self.random.randrange(8)
+        """A made module, perhaps changed, or with padding and another or any file after it; or one with COMDATs; or any file, changed."""
+        random_, kind = self.random, self.random.randrange(10)
+        if kind > 7:
+            return [kinds.various(random_, [executables.module(random_, 0, True)], executables.fixup)[0]]
         made = b"".join(wide.Made(random_).records)
         if kind < 3:
             return [changed_module(random_, [made, made, made, *random_.sample(self.seeds, 3)])]
@@ -50,6 +54,8 @@ class Lower:
         try:
             wanted = wide.lowered(bytes_, "wide.obj", self.judge)
         except wide.Unread:
+            found = kinds.plain([bytes_]) if status == 0 else None
+            promised(found is None or made == found[1][0], "lower: not the bytes of the reader of COMDATs")
             return
         if isinstance(wanted, bytes):
             promised((status, line, made) == (0, b"", wanted), f"lower: status {status}, {line[:200]}, not the bytes of the reader")

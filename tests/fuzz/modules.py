@@ -144,6 +144,19 @@ def weak_indices(bytes_):
         yield from (index for index, _ in zip(found[::2], found[1::2]))
 
 
+def defaults_of(bytes_):
+    """The defaults of each external that has some, by their indices."""
+    found = {}
+    for _, body in bodies(bytes_, COMMENTS):
+        at, indices = 2, []
+        while body[1:2] in WEAK and at < len(body):
+            index, at = index_at(body, at)
+            indices.append(index)
+        for weak, default in zip(indices[::2], indices[1::2]):
+            found.setdefault(weak, []).append(default)
+    return found
+
+
 def with_names(bytes_, spelled):
     """The module with each name of a public, an external, a communal or an alias as `spelled` gives it, which is as long."""
     made = []
@@ -162,10 +175,20 @@ def has_defaults(bytes_):
     return any(body[1:2] in WEAK for _, body in bodies(bytes_, COMMENTS))
 
 
+def is_open(bytes_):
+    """One module alone, without a record of local names or of communals, and with defaults that are externals."""
+    try:
+        pairs, count = defaults_of(bytes_), len(named_externals(bytes_))
+    except IndexError:
+        return False
+    if not all(1 <= it <= count for weak, own in pairs.items() for it in (weak, *own)):
+        return False
+    return not any(True for _ in bodies(bytes_, LOCALS + COMMUNALS)) and libraries.module_length(bytes_) == len(bytes_)
+
+
 def is_simple(bytes_):
     """One module alone, without a record of local names or of communals and without weak externals, so that each external has the public of its name."""
-    is_plain = not any(True for _ in bodies(bytes_, LOCALS + COMMUNALS)) and not has_defaults(bytes_)
-    return is_plain and libraries.module_length(bytes_) == len(bytes_)
+    return is_open(bytes_) and not has_defaults(bytes_)
 
 
 def is_main(bytes_):

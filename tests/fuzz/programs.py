@@ -8,10 +8,12 @@ dump       changed modules: omf-dump refuses exactly what `omf check` refuses, a
            that `omf list` lists; each line of JSON is read by Python; text and JSON have the same records; a name gives no control characters
 library    changed libraries: omf-lib finds the members that tests/fuzz/libraries.py finds; where the check is OK each public is found; `get` writes
            exactly the members, only into its folder, and changes no file that is there; `make` of them and `canon` give libraries without faults
-exe        modules, made at random or real, some changed: what `omf-link exe` writes, loaded by tests/fuzz/executables.py at several paragraphs, has
+exe        modules, made at random or real, some changed, some with COMDATs, CEXTDEFs, NBKPATs, aliases, weak externals and LINNUMs: what
+           `omf-link exe` writes, loaded by tests/fuzz/executables.py at several paragraphs, has
            the bytes and the start of these modules, linked or each relocated alone, at addresses so much higher; with some of them in a library
            the file has the members that are needed; of a fault there is one line, or one for each name, and no file; names that more than one
-           module defines are those that a second reader finds, and with --allow twice they are lines on standard error; it follows aliases too
+           module defines are those that a second reader finds, and with --allow twice they are lines on standard error; it follows aliases and
+           defaults; with COMDATs the file is the one of the lowerings by tests/lowered.py, without those left out; the map has the lines of LINNUMs
 com        the same for `omf-link com`
 placement  placement texts: a draft of omf-place is read back, another spelling of it has the same listing, and of a changed text the first line
            that a second reader does not understand is reported
@@ -38,6 +40,8 @@ import tempfile
 import time
 import traceback
 
+import executables
+import kinds
 from archives import Library
 from dumps import Dump
 from finding import Find
@@ -48,17 +52,24 @@ from promises import ROOT
 from smaller import smallest
 from texts import Placement
 
-MOST_BROKEN = 10
+MOST_BROKEN, MADE_SEEDS = 10, 20
 TARGETS = {"dump": Dump, "library": Library, "exe": Exe, "com": Com, "placement": Placement, "linktext": LinkText, "find": Find, "lower": Lower}
+
+
+def made_seeds():
+    """Made modules with COMDATs and the other records of tests/fuzz/kinds.py: the same ones in each run."""
+    for number in range(MADE_SEEDS):
+        random_ = random.Random(number)
+        yield from kinds.various(random_, [executables.module(random_, it, it == 0) for it in range(2)], executables.fixup)
 
 
 def load_seeds(more):
     """The modules and the libraries to begin with, each once."""
     paths = [*ROOT.glob("examples/**/*"), *ROOT.glob("crates/*/data/*"), *ROOT.glob("tests/fuzz/*.omf")]
     paths += pathlib.Path(more).rglob("*") if more else []
-    kinds = (".omf", ".obj", ".o", ".lib")
-    taken = {it.read_bytes() for it in paths if it.is_file() and it.suffix.lower() in kinds and it.stat().st_size < 5120}
-    return sorted(taken - {b""})
+    suffixes = (".omf", ".obj", ".o", ".lib")
+    taken = {it.read_bytes() for it in paths if it.is_file() and it.suffix.lower() in suffixes and it.stat().st_size < 5120}
+    return sorted((taken | {*made_seeds()}) - {b""})
 
 
 def place_of(error):

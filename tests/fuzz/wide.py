@@ -265,6 +265,8 @@ def lowered_module(bytes_, judge):
 
 def lowered(bytes_, file, judge=lambda one: None):
     """The bytes of the lowered modules of a file, without the padding after each; or the line of the first fault, as text."""
+    if bytes_[:1] == b"\xF0":
+        return f'file "{file}": a library: take its modules out with omf-lib get\n'
     out, at, number = b"", 0, 0
     try:
         while number == 0 or bytes_[at:at + 1] in HEADERS:
