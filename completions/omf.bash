@@ -75,21 +75,23 @@ _omf_link() {
     case "$task $before" in
         'exe -o') return;;
         'exe --map') return;;
+        'exe --symbols') return;;
         'exe --stack') return;;
-        'exe --order') COMPREPLY=($(compgen -W "dos input" -- "$current")); return;;
+        'exe --order') return;;
         'exe --max-alloc') return;;
         'exe -L') return;;
         'exe --library-path') return;;
         'exe --no-default-library') return;;
-        'exe --allow') COMPREPLY=($(compgen -W "group near twice" -- "$current")); return;;
+        'exe --allow') COMPREPLY=($(compgen -W "group mixed near twice" -- "$current")); return;;
         'com -o') return;;
         'com --map') return;;
+        'com --symbols') return;;
         'com --stack') return;;
-        'com --order') COMPREPLY=($(compgen -W "dos input" -- "$current")); return;;
+        'com --order') return;;
         'com -L') return;;
         'com --library-path') return;;
         'com --no-default-library') return;;
-        'com --allow') COMPREPLY=($(compgen -W "group near twice" -- "$current")); return;;
+        'com --allow') COMPREPLY=($(compgen -W "group mixed near twice" -- "$current")); return;;
         'image --allow') COMPREPLY=($(compgen -W "overlap align group frame near twice" -- "$current")); return;;
         'image -t') return;;
         'image -o') return;;
@@ -116,8 +118,8 @@ _omf_link() {
     esac
     [[ $current == -* ]] || return
     case "$task" in
-        'exe') words="-o --map --stack --order --max-alloc -L --library-path --no-default-libraries --no-default-library --allow --ignore-case --keep-debug";;
-        'com') words="-o --map --stack --order -L --library-path --no-default-libraries --no-default-library --allow --ignore-case --keep-debug";;
+        'exe') words="-o --map --symbols --stack --order --max-alloc -L --library-path --no-default-libraries --no-default-library --allow --ignore-case --keep-debug --eliminate";;
+        'com') words="-o --map --symbols --stack --order -L --library-path --no-default-libraries --no-default-library --allow --ignore-case --keep-debug --eliminate";;
         'image') words="--allow --ignore-case -t -o";;
         'map') words="--ignore-case -t -o";;
         'bin') words="--base --size --fill --allow --ignore-case -t -o";;
