@@ -21,7 +21,7 @@ pub fn texts_of_symbols()
 /// The words for tools, and where these load programs.
 pub fn tools_by_name()
     ensures radare { tool_named (codes "r2") ≡ Some tool.Radare }
-    ensures other { tool_named (codes "R2") ≡ None }
+    ensures other { tool_named (codes "NM") ≡ None }
     ensures exe { usual_load tool.Ghidra kind.Mz ≡ 0x10000 }
     ensures com { usual_load tool.Ghidra kind.Com ≡ 0 }
     ensures ida { usual_load tool.Ida kind.Com ≡ 0x10000 }
