@@ -11,10 +11,11 @@ ghost use Rattle.omf_aliases.specs.Inner.Aliases.{AreAliases};
 use crate::defaults::{ExternalDefault, defaults_of};
 use crate::ends::Aliases;
 use crate::profile::any_profile;
-use crate::records::{put_end, put_externals, put_header};
+use crate::records::put_externals;
 use omf_check::{CheckFault, Checked, check};
 use omf_externals::move_all;
 use omf_frame::{Bytes, Name};
+use omf_layout::own::records::{put_end, put_header};
 use std::alloc::{AllocError, Global};
 
 /// The defaults of modules, one module after another.

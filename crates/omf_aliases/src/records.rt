@@ -1,34 +1,19 @@
 //! The records that give defaults to the externals of a module, and those of a module that asks for names.
 
 ghost use Rattle.std.specs.Prelude.{◌≡◌, ◌+◌, ◌≤◌, ◌++◌, ◌∷◌, [], IfSome, OnOk, drop, length, map, take};
-ghost use Rattle.omf_frame.specs.Framing.{raw_bytes, raw_of};
-ghost use Rattle.omf_layout.specs.Own.Written.{end_record, framed, header, written};
+ghost use Rattle.omf_layout.specs.Own.Written.{framed, written};
 ghost use Rattle.omf_aliases.specs.Aliases.{default_records, external_record, weak_record};
 ghost use Rattle.omf_aliases.specs.Inner.Aliases.{IsSplit};
 
 use crate::defaults::ExternalDefault;
-use omf_check::{Checked, split_record};
-use omf_frame::{Field, Index, Name, checksum};
+use omf_check::{Checked, put_record, split_record};
+use omf_frame::{Field, Index, Name};
 use std::alloc::{AllocError, Global};
 
 /// The type byte of a COMENT that other programs keep, and the class of weak externals.
 const KEPT: u8 = 0x80;
 
 const WEAK: u8 = 0xA8;
-
-/// Appends a record of a type with these contents and its computed checksum byte.
-fn put_record(out: &mut Vec<u8>, kind: u8, body: &[u8]) -> Result<(), AllocError>
-    requires { length body.now ≤ 65534 }
-    ensures { OnOk result (out.new.items ≡ out.old.items ++ raw_bytes (raw_of kind body.now)) }
-{
-    let [low, high] = ((body.len() + 1) as u16).to_le_bytes();
-    out.reserve(body.len() + 4)?;
-    out.push_reserved(kind);
-    out.push_reserved(low);
-    out.push_reserved(high);
-    out.extend_from_slice(body)?;
-    Ok(out.push(checksum(kind, body))?)
-}
 
 /// Appends an EXTDEF with one name (TIS OMF 1.1, "EXTDEF").
 fn put_external(alloc: Global, out: &mut Vec<u8>, name: &Name<'_>) -> Result<(), AllocError>
@@ -52,26 +37,6 @@ pub(crate) fn put_externals(
         put_external(alloc, out, name)?;
     }
     Ok(())
-}
-
-/// Appends a THEADR with a module's name (TIS OMF 1.1, "THEADR").
-pub(crate) fn put_header(
-    alloc: Global,
-    out: &mut Vec<u8>,
-    name: &Name<'_>,
-) -> Result<(), AllocError>
-    ensures { OnOk result (out.new.items ≡ out.old.items ++ framed (header name.now)) }
-{
-    let mut body = Vec::new(alloc);
-    name.put(&mut body)?;
-    put_record(out, 0x80, &body)
-}
-
-/// Appends a MODEND of a module that is not a main module (TIS OMF 1.1, "MODEND").
-pub(crate) fn put_end(out: &mut Vec<u8>) -> Result<(), AllocError>
-    ensures { OnOk result (out.new.items ≡ out.old.items ++ framed end_record) }
-{
-    put_record(out, 0x8A, &[0])
 }
 
 /// Appends a COMENT that pairs a weak external with its default (TIS OMF 1.1, "COMENT", class A8H).

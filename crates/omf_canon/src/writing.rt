@@ -22,8 +22,8 @@ ghost use Rattle.omf_canon.specs.Inner.Writing.{Held, held, record_bytes, closed
 use crate::laws;
 use crate::plain::{end_byte, is_direct, put_start, unthreaded_fixup};
 use omf_check::laws::modules_hold;
-use omf_check::{Checked, Threads, split_record};
-use omf_frame::{RawRecord, checksum};
+use omf_check::{Checked, Threads, put_record, split_record};
+use omf_frame::RawRecord;
 use omf_records::laws::typed_have_values;
 use omf_records::{
     FIXUP_LIMIT, Locat, Part, Rec, Reference, Subrecord, Unread, put_fixup, put_rec, unread_fixups,
@@ -52,20 +52,6 @@ fn begins_short(body: &[u8]) -> bool
         [first, second, ..] => *first != 128 || *second >= 128,
         _ => false,
     }
-}
-
-/// Appends a record with its computed checksum byte.
-fn put_record(out: &mut Vec<u8>, kind: u8, body: &[u8]) -> Result<(), AllocError>
-    requires { length body.now ≤ 65534 }
-    ensures { OnOk result (out.new.items ≡ out.old.items ++ record_bytes kind body.now) }
-{
-    let [low, high] = ((body.len() + 1) as u16).to_le_bytes();
-    out.reserve(body.len() + 4)?;
-    out.push_reserved(kind);
-    out.push_reserved(low);
-    out.push_reserved(high);
-    out.extend_from_slice(body)?;
-    Ok(out.push(checksum(kind, body))?)
 }
 
 /// A FIXUPP whose record is not yet written.

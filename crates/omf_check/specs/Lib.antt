@@ -1,4 +1,5 @@
 pub mod Tables
+pub mod Classes
 pub mod Threads
 pub mod Rules
 pub mod Listed

@@ -19,6 +19,7 @@
 
 mod checked;
 mod checking;
+mod class;
 mod contents;
 pub mod edges;
 mod fault;
@@ -41,13 +42,14 @@ mod undecoded;
 
 pub use checked::Checked;
 pub use checking::{check, check_with};
+pub use class::{is_code_class, is_code_name};
 pub use contents::{Comment, Data, Externals, Publics, References};
 pub use fault::CheckFault;
 pub use judged::Judged;
 pub use judging::judge;
 pub use method::{FrameMethod, TargetMethod};
 pub use profile::Profile;
-pub use records::{Records, split_record};
+pub use records::{Records, put_record, split_record};
 pub use segment::SegInfo;
 pub use session::Session;
 pub use table::entry_of;

@@ -1,15 +1,30 @@
 //! Iteration over the records of a checked module.
 
-ghost use Rattle.std.specs.Prelude.{◌≡◌};
-ghost use Rattle.omf_frame.specs.Framing.{front_record, present, after_front};
+ghost use Rattle.std.specs.Prelude.{◌≡◌, ◌≤◌, ◌++◌, OnOk, length};
+ghost use Rattle.omf_frame.specs.Framing.{front_record, present, after_front, raw_bytes, raw_of};
 ghost use Rattle.omf_records.specs.Inner.Reading.{typed};
 ghost use Rattle.omf_records.specs.Inner.Seen.{rec_seen};
 ghost use Rattle.omf_check.specs.Listed.{StartsWithRecord, AreListed, placed_from};
 ghost use Rattle.omf_check.specs.Module.{records_in};
 
-use omf_frame::{Place, RawRecord};
+use omf_frame::{Place, RawRecord, checksum};
 use omf_records::{Rec, view_known};
+use std::alloc::AllocError;
 use std::marker::Model;
+
+/// Appends a record of a type with these contents and its computed checksum byte (TIS OMF 1.1, "Record Format"). It fails if memory runs out.
+pub fn put_record(out: &mut Vec<u8>, kind: u8, body: &[u8]) -> Result<(), AllocError>
+    requires { length body.now ≤ 65534 }
+    ensures { OnOk result (out.new.items ≡ out.old.items ++ raw_bytes (raw_of kind body.now)) }
+{
+    let [low, high] = ((body.len() + 1) as u16).to_le_bytes();
+    out.reserve(body.len() + 4)?;
+    out.push_reserved(kind);
+    out.push_reserved(low);
+    out.push_reserved(high);
+    out.extend_from_slice(body)?;
+    Ok(out.push(checksum(kind, body))?)
+}
 
 /// Splits `bytes` into their first record, and the bytes after it. The record's `number` and `start` are 0. The bytes must begin with
 /// a whole record of a known type.

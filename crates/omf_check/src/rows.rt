@@ -1,10 +1,11 @@
 //! Worked examples, each evaluated by the prover.
 
-ghost use Rattle.std.specs.Prelude.{◌≡◌, ℕ, [], ◌∷◌, ◌++◌, Some, None, take, replicate, codes};
+ghost use Rattle.std.specs.Prelude.{◌≡◌, ℕ, [], ◌∷◌, ◌++◌, Some, None, take, replicate, codes, true, false};
 ghost use Rattle.omf_frame.specs.Rows.{hex};
 ghost use Rattle.omf_frame.specs.declared.fault.Reason.TheVariants as reason;
 ghost use Rattle.omf_image.specs.Limits.{profile_limits};
 ghost use Rattle.omf_check.specs.Inner.Verdict.{Refused, verdict};
+ghost use Rattle.omf_check.specs.Classes.{is_code_class};
 ghost use Rattle.omf_check.specs.Rows.{IsTaken, Fails, any, no_vendors, verdict_of, module_in, place, H, N, S, L, F, M, first_module, without_checksums, wrong_checksum, long_index, threads, defined_thread, undefined_thread, flat, repeated, nested_blocks, blocks_of_nothing, too_many_bytes, most_bytes, with_fixup, big, started, absolute, thread_ahead, comment, communal, public, nameless, many_bytes, local_jump, local_name, local_communal};
 
 /// A module of six records; the bytes after it are not read.
@@ -156,4 +157,14 @@ pub fn index_zero_is_none()
 /// with the smaller number is reported.
 pub fn two_faults_at_one_place()
     ensures { Fails (H ++ N ++ S ++ hex (codes "9C 02 00 50 00 8A 03 00 40 8C 00")) reason.UndefinedThread 4 28 4 }
+{}
+
+/// Classes of code end in CODE, in capital letters.
+pub fn classes_of_code()
+    ensures code { is_code_class (codes "CODE") ≡ true }
+    ensures far { is_code_class (codes "FAR_CODE") ≡ true }
+    ensures data { is_code_class (codes "FAR_DATA") ≡ false }
+    ensures longer { is_code_class (codes "CODES") ≡ false }
+    ensures short { is_code_class (codes "ODE") ≡ false }
+    ensures lower { is_code_class (codes "code") ≡ false }
 {}

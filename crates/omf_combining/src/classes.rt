@@ -7,11 +7,11 @@ ghost use Rattle.omf_layout.specs.Several.Portions.{portions, with_names};
 ghost use Rattle.omf_combining.specs.Classes.{IsClassOrderFault, bits_of, begins, class_order_records, leader, leader_of, leader_records, leaders, leaders_records};
 
 use crate::stack::name_in;
-use crate::written::{NewSegment, put_end, put_header, put_name, put_segment};
 use omf_check::Checked;
 use omf_frame::{Index, Name};
 use omf_layout::Alignment;
 use omf_layout::own::OrderFault;
+use omf_layout::own::records::{Segment, put_end, put_header, put_name, put_segment};
 use omf_layout::several::{Classed, Combination, Portion, portions_of};
 use std::alloc::{AllocError, Global};
 
@@ -114,7 +114,7 @@ fn put_leader(
 {
     put_name(alloc, out, &leader.class)?;
     put_name(alloc, out, &leader.name)?;
-    let segment = NewSegment {
+    let segment = Segment {
         attribute: leader.attribute,
         size: 0,
         name: Index(2 * before + 2),

@@ -7,9 +7,7 @@ pub mod laws;
 mod mixed;
 pub mod rows;
 mod stack;
-mod written;
 
 pub use classes::class_order_module;
 pub use mixed::{CodePart, first_mixed};
 pub use stack::{even, stack_bytes};
-pub use written::{put_end, put_header, put_record};

@@ -8,9 +8,9 @@ ghost use Rattle.omf_layout.specs.Several.Portions.{name_at};
 ghost use Rattle.omf_layout.specs.Own.Order.{module_at};
 ghost use Rattle.omf_combining.specs.Stack.{attribute_of, even, is_stack_part, missing, more_records, next_part, part_records, stack_bytes, stack_length, stack_parts, with_part};
 
-use crate::written::{NewSegment, put_end, put_header, put_name, put_segment};
 use omf_check::Checked;
 use omf_frame::{Index, Name};
+use omf_layout::own::records::{Segment, put_end, put_header, put_name, put_segment};
 use omf_layout::own::stack_module;
 use omf_layout::several::{Portion, portions_of, runs_in};
 use std::alloc::{AllocError, Global};
@@ -154,7 +154,7 @@ fn part_module(alloc: Global, part: &StackPart<'_>) -> Result<Vec<u8>, AllocErro
     put_header(alloc, &mut out, &Name(b"stack"))?;
     put_name(alloc, &mut out, &part.class)?;
     put_name(alloc, &mut out, &part.name)?;
-    let segment = NewSegment {
+    let segment = Segment {
         attribute: part.attribute,
         size: part.size,
         name: Index(2),

@@ -10,7 +10,8 @@ ghost use Rattle.omf_communals.specs.Inner.Writing.{bytes_by, bytes_of_each};
 
 use crate::typdef::variable_of;
 use crate::variable::{Variable, size_of};
-use omf_frame::{RawRecord, checksum};
+use omf_check::put_record;
+use omf_frame::RawRecord;
 use omf_records::{Communal, Extern, Item, Items, Rec, view_known};
 use std::alloc::{AllocError, Global};
 use std::marker::Model;
@@ -22,19 +23,13 @@ const MOST: usize = 65_534;
 const TYPDEF: u8 = 0x8E;
 
 /// Appends the record with these contents. They have one name at most, so that no error but `AllocError` is met.
-fn put_record(out: &mut Vec<u8>, kind: u8, body: &[u8]) -> Result<(), AllocError>
+fn put_short(out: &mut Vec<u8>, kind: u8, body: &[u8]) -> Result<(), AllocError>
     ensures { OnOk result (out.new.items ≡ out.old.items ++ raw_bytes (raw_of kind body.now)) }
 {
     if body.len() > MOST {
         return Err(AllocError);
     }
-    let [low, high] = ((body.len() + 1) as u16).to_le_bytes();
-    out.reserve(body.len() + 4)?;
-    out.push_reserved(kind);
-    out.push_reserved(low);
-    out.push_reserved(high);
-    out.extend_from_slice(body)?;
-    Ok(out.push(checksum(kind, body))?)
+    put_record(out, kind, body)
 }
 
 /// Whether a record of this type defines external names without sizes.
@@ -71,11 +66,11 @@ fn put_one(
                 size,
             };
             communal.put(communal_kind(kind), &mut body)?;
-            put_record(out, communal_kind(kind), &body)
+            put_short(out, communal_kind(kind), &body)
         }
         None => {
             external.put(kind, &mut body)?;
-            put_record(out, kind, &body)
+            put_short(out, kind, &body)
         }
     }
 }

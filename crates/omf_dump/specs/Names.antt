@@ -1,13 +1,13 @@
 -- The names of a module, a line each, in the order of its records (TIS OMF 1.1, "EXTDEF", "PUBDEF", "COMDEF", "COMENT" and the local forms of these; which kind a
 -- name is, and the text, are this profile's rules).
-use Rattle.std.specs.Prelude.{◌≡◌, ℕ, ◌+◌, List, [], ◌∷◌, ◌++◌, length, map, flat_map, Bool, true, false, ◌==◌, Option, Some, None, option_to_list, eqb, codes, decimal, if◌then◌else◌}
-use Rattle.std.specs.List.{ends_with}
+use Rattle.std.specs.Prelude.{◌≡◌, ℕ, ◌+◌, List, [], ◌∷◌, ◌++◌, length, map, flat_map, Bool, true, false, ◌==◌, Option, Some, None, option_to_list, codes, decimal, if◌then◌else◌}
 use Rattle.omf_frame.specs.Bytes.{is_one_of}
 use Rattle.omf_frame.specs.Framing.{Raw}
 use Rattle.omf_frame.specs.Types.{is_local, width_of}
 use Rattle.omf_frame.specs.declared.kinds.Width.{Width}
 use Rattle.omf_image.specs.Limits.{profile_limits}
 use Rattle.omf_records.specs.Values.{At, Rec, Contents, Comment, Externs, Publics, Communals, Plain, Iterated, ExternalItem, PublicItem, CommunalItem}
+use Rattle.omf_check.specs.Classes.{is_code_name}
 use Rattle.omf_check.specs.Tables.{defined_externals, entry, names, segments}
 use Rattle.omf_check.specs.WellFormed.{IsAccepted, recs}
 use Rattle.omf_check.specs.declared.segment.SegInfo.{SegInfo}
@@ -59,10 +59,6 @@ weak_externals class m = flat_map (λ r. weak_in class r.contents) m
 
 -- The kind of a public: one without a segment is absolute. Otherwise its segment decides: text if the class ends in CODE, else data if the module has
 -- data for it, else bss.
-abbrev pub is_code_name : Option (List ℕ) → Bool
-is_code_name None = false
-is_code_name (Some class) = ends_with eqb class (codes "CODE")
-
 abbrev pub is_code : List Rec → Option SegInfo → Bool
 is_code m None = false
 is_code m (Some s) = is_code_name (entry (names m) s.class)

@@ -7,13 +7,13 @@ ghost use Rattle.omf_frame.specs.Bytes.{is_one_of};
 ghost use Rattle.omf_check.specs.Inner.Contents.{data_seen};
 ghost use Rattle.omf_check.specs.Module.{recs_of};
 ghost use Rattle.omf_check.specs.Tables.{externals};
-ghost use Rattle.omf_dump.specs.Names.{data_segment, data_segments, external_sort, is_code, is_code_name, name_of_segment, public_sort, segment_name, segment_sort, weak_externals, weak_in, weak_of};
+ghost use Rattle.omf_dump.specs.Names.{data_segment, data_segments, external_sort, is_code, name_of_segment, public_sort, segment_name, segment_sort, weak_externals, weak_in, weak_of};
 ghost use Rattle.omf_placement.specs.Inner.Pairing.{pairs_after};
 ghost use Rattle.omf_placement.specs.Weak.{indices, paired};
 
 use crate::pairs::front_index;
 use crate::sort::Sort;
-use omf_check::{Checked, Data, Records, SegInfo, Undecoded};
+use omf_check::{Checked, Data, Records, SegInfo, Undecoded, is_code_name};
 use omf_frame::Name;
 use omf_placement::WeakPair;
 use std::alloc::{AllocError, Global};
@@ -141,16 +141,6 @@ impl<'a> Model for Facts<'a> {
     ghost view = { λ f. records_of f.«module».now.bytes };
 
     ghost invariant = { λ f. AreFacts (records_of f.«module».now.bytes) f.filled f.weak f.lazy };
-}
-
-/// Whether a class is one of code, if it has a name.
-fn is_code_name(class: Option<Name<'_>>) -> bool
-    ensures { result ≡ is_code_name class.entry }
-{
-    match class {
-        Some(class) => class.0.ends_with(b"CODE"),
-        None => false,
-    }
 }
 
 /// Whether the class of a segment is one of code.

@@ -1,4 +1,3 @@
-pub mod ListLaws
 pub mod NameLaws
 pub mod RepeatedLaws
 pub mod SettledLaws

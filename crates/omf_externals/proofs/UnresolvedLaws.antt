@@ -1,17 +1,12 @@
 -- Tables of externals and publics by name, and the lines of names.
-use Rattle.std.proofs.Common.{◌≡◌, ℕ, suc, ◌+◌, ◌≤◌, List, [], ◌∷◌, ◌++◌, length, drop, refl, sym, ap, ◌∙◌, subst, inl, inr, append-nil, append_assoc, arith, Bor, Vec, Global, nat_cmp}
-use Rattle.std.specs.Prelude.{Option, Some, None, bytes_eq, slice_get, if◌then◌else◌}
-use Rattle.std.proofs.Math.Seq.{drop-cons}
+use Rattle.std.proofs.Common.{◌≡◌, ℕ, ◌+◌, List, [], ◌∷◌, ◌++◌, refl, sym, ap, ◌∙◌, subst, inl, inr, append-nil, Bor, Vec, Global, nat_cmp}
+use Rattle.std.specs.Prelude.{Option, Some, None, bytes_eq, if◌then◌else◌}
 use Rattle.std.specs.BTreeMap.{get_by, is_at, UpdatesBy}
 use Rattle.std.specs.Cmp.Lexicographic.{slice_cmp}
 use Rattle.std.specs.Map.{lookup}
 use Rattle.std.proofs.lemmas.Bool.{cond-true, cond-false, cases_Bool}
-use Rattle.std.proofs.lemmas.List.{drop_all}
 use Rattle.std.proofs.lemmas.Map.Text.{btree_map_updates_str}
 use Rattle.std.proofs.lemmas.Slice.Eq.{bytes_eq-Decides}
-use Rattle.std.proofs.lemmas.Option.{slice_get_within, get_or_from_slice_get}
-use Rattle.omf_check.specs.Tables.{entry}
-use Rattle.omf_placement.proofs.NamedLaws.{entry-suc}
 use Rattle.omf_externals.specs.Unresolved.{Row, Table, items_or, rows_in, spot, spots_of, IsByName, HasMore}
 use Rattle.omf_externals.specs.declared.by_name.Spot.{Spot}
 
@@ -61,21 +56,3 @@ none_more m xs e = subst (HasMore m m) (sym e) (λ rows h. subst (IsByName m) (s
 pub rows-more : (j : ℕ) (xs ys : List (List ℕ)) → rows_in j (xs ++ ys) ≡ rows_in j xs ++ rows_in j ys
 rows-more j [] ys = refl
 rows-more j (x ∷ xs) ys = ap (λ rs. (x, spot j 0) ∷ rs) (rows-more j xs ys)
-
--- The next entry of a module's table.
-pub next_entry : {A : Type 0} (xs : List A) (i : ℕ) (x : A) → entry xs (i + 1) ≡ Some x → drop i xs ≡ x ∷ drop (i + 1) xs
-next_entry xs i x e =
-    let a : suc i ≡ i + 1 = omega arith in
-    let here : slice_get xs i ≡ Some x = sym (entry-suc xs i) ∙ ap (entry xs) a ∙ e in
-    let low = slice_get_within xs i x here in
-    drop-cons xs i x low ∙ ap (λ y. y ∷ drop (suc i) xs) (get_or_from_slice_get xs i x x here) ∙ ap (λ k. x ∷ drop k xs) a
-
-pub none_after : {A : Type 0} (xs : List A) (k : ℕ) → length xs ≤ k → drop k xs ≡ []
-none_after xs k h = drop_all k xs h
-
--- One text more, and no text left.
-pub part_more : (old new part rest left all : List ℕ) → new ≡ old ++ part → left ≡ part ++ rest → old ++ left ≡ all → new ++ rest ≡ all
-part_more old new part rest left all e f h = ap (λ t. t ++ rest) e ∙ append_assoc old part rest ∙ ap (λ t. old ++ t) (sym f) ∙ h
-
-pub no_part_left : (old left all : List ℕ) → left ≡ [] → old ++ left ≡ all → old ≡ all
-no_part_left old left all e h = sym (append-nil old) ∙ ap (λ t. old ++ t) (sym e) ∙ h

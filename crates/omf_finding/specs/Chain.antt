@@ -2,13 +2,14 @@
 -- placement, at which it is in the program; no definition fixes which one. Found are all modules in question that are at the program's start, and with a
 -- module that is found all modules in question to which it refers. One that is sure by its bytes alone need not be found: it is not if other segments rival its
 -- bytes, or if another segment of its own is nowhere. No order of the modules is in it.
-use Rattle.std.specs.Prelude.{◌≡◌, ◌⊎◌, ℕ, zero, suc, ◌+◌, ◌*◌, ◌/◌, ◌≤◌, List, length, Bool, true, false, ◌&&◌, ◌==◌, bytes_eq, codes, eqb, Option, Some, None, option_and_then, option_map, slice_get, IfSome, if◌then◌else◌}
+use Rattle.std.specs.Prelude.{◌≡◌, ◌⊎◌, ℕ, zero, suc, ◌+◌, ◌*◌, ◌/◌, ◌≤◌, List, length, Bool, true, false, ◌&&◌, ◌==◌, bytes_eq, Option, Some, None, option_and_then, option_map, slice_get, IfSome, if◌then◌else◌}
 use Rattle.std.specs.Box.{box_value}
 use Rattle.std.specs.Global.{Box}
-use Rattle.std.specs.List.{ends_with, list_any}
+use Rattle.std.specs.List.{list_any}
 use Rattle.omf_frame.specs.Bytes.{is_one_of}
 use Rattle.omf_frame.specs.Types.{is_local}
 use Rattle.omf_records.specs.Values.{At, Contents, PublicItem, Publics, Rec}
+use Rattle.omf_check.specs.Classes.{is_code_name}
 use Rattle.omf_check.specs.Module.{Module, recs_of}
 use Rattle.omf_check.specs.Tables.{entry, externals, locals, names, segments}
 use Rattle.omf_image.specs.Limits.{profile_limits}
@@ -29,11 +30,7 @@ use Rattle.omf_finding.specs.declared.program.Program.{Program}
 abbrev pub present_at : Found → ℕ → Option Placed
 present_at f segment = if is_one_of f.absent segment then None else entry f.placement.segments segment
 
--- A segment is of code if the name of its class ends with CODE.
-abbrev pub is_code_name : Option (List ℕ) → Bool
-is_code_name None = false
-is_code_name (Some name) = ends_with eqb name (codes "CODE")
-
+-- A segment is of code if its class is.
 abbrev pub is_code : List Rec → ℕ → Bool
 is_code m segment = is_code_name (option_and_then (λ s. entry (names m) s.class) (entry (segments m) segment))
 

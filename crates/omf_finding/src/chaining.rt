@@ -5,7 +5,7 @@ ghost use Rattle.std.specs.List.{AllZip, list_any};
 ghost use Rattle.omf_check.specs.Module.{Module, recs_of};
 ghost use Rattle.omf_finding.specs.declared.findings.Found.{Found};
 ghost use Rattle.omf_reloc.specs.Reach.{Reaches};
-ghost use Rattle.omf_finding.specs.Chain.{IsAlone, IsDraft, IsStart, IsSure, Refers, address_of, defines, draft_at, enough, is_code, is_code_name, is_public, present_at, record_defines};
+ghost use Rattle.omf_finding.specs.Chain.{IsAlone, IsDraft, IsStart, IsSure, Refers, address_of, defines, draft_at, enough, is_code, is_public, present_at, record_defines};
 ghost use Rattle.omf_finding.specs.Inner.Chaining.{HaveJoined, IsKnown, RefersAt, has_joined};
 ghost use Rattle.omf_finding.specs.Inner.Closing.{AreAll};
 ghost use Rattle.omf_finding.specs.Inner.Surely.{AreAllSure, HaveSure};
@@ -18,8 +18,7 @@ use crate::following::Search;
 use crate::program::Program;
 use crate::shapes::Shape;
 use crate::singles::Singles;
-use omf_check::{Checked, Undecoded};
-use omf_frame::Name;
+use omf_check::{Checked, Undecoded, is_code_name};
 use omf_records::{Items, Public};
 use omf_reloc::{Placed, start};
 use std::alloc::{AllocError, Global};
@@ -48,16 +47,6 @@ pub(crate) fn present_at(found: &Found, segment: u16) -> Option<Placed>
         return None;
     }
     found.placement.segment(usize::from(segment))
-}
-
-/// Whether a class is one of code, if it has a name.
-fn is_code_name(class: Option<Name<'_>>) -> bool
-    ensures { result ≡ is_code_name class.entry }
-{
-    match class {
-        Some(class) => class.0.ends_with(b"CODE"),
-        None => false,
-    }
 }
 
 /// Whether a segment is of code: the name of its class ends with `CODE`.

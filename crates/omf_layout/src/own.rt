@@ -8,7 +8,7 @@ mod fault;
 mod homes;
 pub mod laws;
 mod order;
-mod records;
+pub mod records;
 pub mod rows;
 mod slots;
 mod stack;

@@ -20,6 +20,7 @@ pub mod LinkedLaws
 pub mod SearchLaws
 pub mod WeakLaws
 pub mod ListLaws
+pub mod StepLaws
 pub mod AttributeLaws
 pub mod LowerLaws
 pub mod HexadecimalLaws

@@ -1,7 +1,7 @@
 //! Worked examples, each evaluated by the check.
 
 ghost use Rattle.std.specs.Prelude.{◌≡◌, [], ◌∷◌, ◌++◌, codes, true, false, None, Some};
-ghost use Rattle.omf_symbols.specs.Classes.{ends_in_code, is_code};
+ghost use Rattle.omf_symbols.specs.Classes.{is_code};
 ghost use Rattle.omf_symbols.specs.Placed.{placed_symbols};
 ghost use Rattle.omf_symbols.specs.Rows.{at, coded, placed_at};
 ghost use Rattle.omf_symbols.specs.Text.{symbols_text};
@@ -26,15 +26,6 @@ pub fn tools_by_name()
     ensures com { usual_load tool.Ghidra kind.Com ≡ 0 }
     ensures ida { usual_load tool.Ida kind.Com ≡ 0x10000 }
     ensures nm { usual_load tool.Nm kind.Mz ≡ 0 }
-{}
-
-/// Classes of code end in CODE, in capital letters.
-pub fn classes_of_code()
-    ensures code { ends_in_code (codes "CODE") ≡ true }
-    ensures far { ends_in_code (codes "FAR_CODE") ≡ true }
-    ensures data { ends_in_code (codes "FAR_DATA") ≡ false }
-    ensures short { ends_in_code (codes "ODE") ≡ false }
-    ensures lower { ends_in_code (codes "code") ≡ false }
 {}
 
 /// A module with a segment of class CODE at 20H with the local public L at 1, and one of class DATA at 40H with the public V at 2. The public C has a frame

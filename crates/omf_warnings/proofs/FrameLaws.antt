@@ -1,7 +1,7 @@
 -- Steps over lists of lists, and what is found, one kind after another.
 use Rattle.std.proofs.Common.{◌≡◌, ℕ, zero, suc, ◌+◌, ◌<◌, ◌≤◌, List, [], ◌∷◌, ◌++◌, drop, get_or, length, map, ap, ap₂, sym, ◌∙◌, arith, Vec, Global}
 use Rattle.std.specs.Prelude.{Option, option_to_list}
-use Rattle.omf_externals.proofs.ListLaws.{none_left}
+use Rattle.omf_placement.proofs.StepLaws.{none_left}
 
 -- the next of several lists
 pub next-list : {A : Type 0} (rs : List (Vec A Global)) (i : ℕ) (r : Vec A Global) → r ≡ get_or rs i r → i < length rs → map (λ v. v.items) (drop i rs) ≡ r.items ∷ map (λ v. v.items) (drop (i + 1) rs)

@@ -1,11 +1,12 @@
 -- The module that gives the segments of a program DOS order, and the names that a linker defines in that order (Microsoft LINK's option DOSSEG; the records are
 -- this profile's rule).
-use Rattle.std.specs.Prelude.{◌≡◌, ℕ, ◌+◌, ◌*◌, List, [], ◌∷◌, ◌++◌, length, map, flat_map, filter_map, find, Bool, true, false, not, ◌&&◌, ◌==◌, Option, option_map, is_some, unwrap_or, slice_get, codes, bytes_eq, eqb, if◌then◌else◌}
-use Rattle.std.specs.List.{filter, list_any, ends_with}
+use Rattle.std.specs.Prelude.{◌≡◌, ℕ, ◌+◌, ◌*◌, List, [], ◌∷◌, ◌++◌, length, map, flat_map, filter_map, find, Bool, true, false, not, ◌&&◌, ◌==◌, Option, option_map, is_some, unwrap_or, slice_get, codes, bytes_eq, if◌then◌else◌}
+use Rattle.std.specs.List.{filter, list_any}
 use Rattle.std.specs.BTreeMap.{BTreeMap, get_by}
 use denote.Ref.{Bor}
 use Rattle.omf_names.specs.Names.{name_cmp}
 use Rattle.omf_records.specs.Values.{At, Rec, Contents, Comment, Group}
+use Rattle.omf_check.specs.Classes.{is_code_class}
 use Rattle.omf_check.specs.Tables.{segments, externals, entry}
 use Rattle.omf_layout.specs.declared.alignment.Alignment.{Alignment}
 use Rattle.omf_layout.specs.declared.alignment.Alignment.TheVariants as aligned
@@ -53,7 +54,7 @@ IsNameTable t names = (name : List ℕ) → is_some (get_by (λ k. name_cmp name
 -- The part of a program in which a class is: a class that ends in CODE; STACK; one without a segment in DGROUP; and the others, all in DGROUP.
 abbrev pub part_of : List (List ℕ) → List ℕ → DosPart
 part_of inside class =
-    if ends_with eqb class (codes "CODE") then part.Code
+    if is_code_class class then part.Code
     else (if bytes_eq class (codes "STACK") then part.Stack
     else (if not (has_name inside class) then part.Outside
     else (if bytes_eq class (codes "BEGDATA") then part.Begin

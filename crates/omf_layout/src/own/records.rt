@@ -1,33 +1,14 @@
 //! Writing the records of a module.
 
-ghost use Rattle.std.specs.Prelude.{◌≡◌, ◌≤◌, ◌++◌, ◌<◌, OnOk, All, length, map};
-ghost use Rattle.omf_frame.specs.Framing.{raw_bytes, raw_of};
+ghost use Rattle.std.specs.Prelude.{◌≡◌, ◌++◌, ◌<◌, OnOk, All, length, map};
 ghost use Rattle.omf_layout.specs.Own.Written.{empty_group_record, end_record, framed, group_record, header, name_record, public_record, segment_record, written};
 
-use omf_frame::{Field, Index, Le32, Name, checksum};
+use omf_check::put_record;
+use omf_frame::{Field, Index, Le32, Name};
 use std::alloc::{AllocError, Global};
 
-/// Appends a record of a type with these contents and its computed checksum byte.
-fn put_record(out: &mut Vec<u8>, kind: u8, body: &[u8]) -> Result<(), AllocError>
-    requires { length body.now ≤ 65534 }
-    ensures { OnOk result (out.new.items ≡ out.old.items ++ raw_bytes (raw_of kind body.now)) }
-{
-    let [low, high] = ((body.len() + 1) as u16).to_le_bytes();
-    out.reserve(body.len() + 4)?;
-    out.push_reserved(kind);
-    out.push_reserved(low);
-    out.push_reserved(high);
-    out.extend_from_slice(body)?;
-    Ok(out.push(checksum(kind, body))?)
-}
-
-/// Appends a THEADR with a module's name (TIS OMF 1.1, "THEADR").
-pub(crate) fn put_header(
-    alloc: Global,
-    out: &mut Vec<u8>,
-    name: &Name<'_>,
-) -> Result<(), AllocError>
-    requires { length name.now < 256 }
+/// Appends a THEADR with a module's name (TIS OMF 1.1, "THEADR"). It fails if memory runs out.
+pub fn put_header(alloc: Global, out: &mut Vec<u8>, name: &Name<'_>) -> Result<(), AllocError>
     ensures { OnOk result (out.new.items ≡ out.old.items ++ framed (header name.now)) }
 {
     let mut body = Vec::new(alloc);
@@ -35,9 +16,8 @@ pub(crate) fn put_header(
     put_record(out, 0x80, &body)
 }
 
-/// Appends an LNAMES with one name (TIS OMF 1.1, "LNAMES").
-pub(crate) fn put_name(alloc: Global, out: &mut Vec<u8>, name: &Name<'_>) -> Result<(), AllocError>
-    requires { length name.now < 256 }
+/// Appends an LNAMES with one name (TIS OMF 1.1, "LNAMES"). It fails if memory runs out.
+pub fn put_name(alloc: Global, out: &mut Vec<u8>, name: &Name<'_>) -> Result<(), AllocError>
     ensures { OnOk result (out.new.items ≡ out.old.items ++ framed (name_record name.now)) }
 {
     let mut body = Vec::new(alloc);
@@ -62,19 +42,15 @@ pub(crate) fn put_names(
 
 /// A segment that is written: its attribute byte, its length in bytes, and the indices of its name and its class.
 #[derive(Drop)]
-pub(crate) struct Segment {
+pub struct Segment {
     pub attribute: u8,
     pub size: u32,
     pub name: Index,
     pub class: Index,
 }
 
-/// Appends a SEGDEF of type 99H (TIS OMF 1.1, "SEGDEF").
-pub(crate) fn put_segment(
-    alloc: Global,
-    out: &mut Vec<u8>,
-    segment: &Segment,
-) -> Result<(), AllocError>
+/// Appends a SEGDEF of type 99H (TIS OMF 1.1, "SEGDEF"). It fails if memory runs out.
+pub fn put_segment(alloc: Global, out: &mut Vec<u8>, segment: &Segment) -> Result<(), AllocError>
     ensures { OnOk result (out.new.items ≡ out.old.items ++ framed (segment_record segment.now.attribute segment.now.size segment.now.name segment.now.class)) }
 {
     let mut body = Vec::new(alloc);
@@ -142,8 +118,8 @@ pub(crate) fn put_public(
     put_record(out, 0x91, body)
 }
 
-/// Appends a MODEND of a module that is not a main module (TIS OMF 1.1, "MODEND").
-pub(crate) fn put_end(out: &mut Vec<u8>) -> Result<(), AllocError>
+/// Appends a MODEND of a module that is not a main module (TIS OMF 1.1, "MODEND"). It fails if memory runs out.
+pub fn put_end(out: &mut Vec<u8>) -> Result<(), AllocError>
     ensures { OnOk result (out.new.items ≡ out.old.items ++ framed end_record) }
 {
     put_record(out, 0x8A, &[0])

@@ -10,7 +10,7 @@ use crate::Alignment;
 use crate::own::dgroup::{NameTable, dgroup_classes};
 use crate::several::portion::{Combination, Portion, portions_of};
 use crate::several::runs::runs_in;
-use omf_check::Checked;
+use omf_check::{Checked, is_code_class};
 use omf_frame::Name;
 use omf_names::NameKey;
 use std::alloc::{AllocError, Global};
@@ -52,7 +52,7 @@ fn is_inside<'a>(inside: &NameTable<'a>, class: &'a [u8]) -> bool
 fn part_of<'a>(inside: &NameTable<'a>, class: &'a [u8]) -> DosPart
     ensures { (names : List (List ℕ)) → IsNameTable inside.now names → result ≡ part_of names class.now }
 {
-    if class.ends_with(b"CODE") {
+    if is_code_class(class) {
         DosPart::Code
     } else if class == b"STACK".as_slice() {
         DosPart::Stack

@@ -2,7 +2,7 @@ use Rattle.std.proofs.Common.{refl}
 use Rattle.omf_check.specs.Module.{records_in, typed_modules}
 use Rattle.omf_check.specs.WellFormed.{recs}
 use Rattle.omf_exe.specs.Listing.{module_line}
-use Rattle.omf_externals.proofs.ListLaws.{all_printed, one_more}
+use Rattle.omf_placement.proofs.StepLaws.{all_printed, one_more}
 use Rattle.omf_exe.proofs.OriginLaws.{next-module, no-module-left}
 use Rattle.omf_exe.proofs.listing.put_modules.Goals as goal
 

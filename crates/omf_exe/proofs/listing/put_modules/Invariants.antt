@@ -1,7 +1,7 @@
 use Rattle.std.specs.Prelude.{string_bytes}
 use Rattle.omf_check.specs.Module.{typed_modules}
 use Rattle.omf_exe.specs.Listing.{module_line}
-use Rattle.omf_externals.proofs.ListLaws.{ArePrinted}
+use Rattle.omf_placement.proofs.StepLaws.{ArePrinted}
 use Rattle.omf_exe.proofs.listing.put_modules.Given as goal
 
 -- the lines of the modules so far

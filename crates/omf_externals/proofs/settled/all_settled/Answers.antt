@@ -3,7 +3,7 @@ use Rattle.std.specs.List.{enumerate_from}
 use Rattle.omf_check.specs.Module.{records_in, typed_modules}
 use Rattle.omf_check.specs.WellFormed.{recs}
 use Rattle.omf_externals.specs.Unresolved.{all_rows, all_settled, settled_in}
-use Rattle.omf_externals.proofs.ListLaws.{no_more_mapped, one_mapped}
+use Rattle.omf_placement.proofs.StepLaws.{no_more_mapped, one_mapped}
 use Rattle.omf_externals.proofs.NameLaws.{next-one, none-left}
 use Rattle.omf_externals.proofs.settled.all_settled.Goals as goal
 

@@ -5,7 +5,7 @@ use Rattle.omf_check.specs.WellFormed.{recs}
 use Rattle.omf_placement.proofs.NamedLaws.{named-count}
 use Rattle.omf_placement.specs.Derive.{named_externals}
 use Rattle.omf_externals.specs.Unresolved.{given_marks, is_given}
-use Rattle.omf_externals.proofs.ListLaws.{no_more_mapped, none_left, one_mapped}
+use Rattle.omf_placement.proofs.StepLaws.{no_more_mapped, none_left, one_mapped}
 use Rattle.omf_externals.proofs.SettledLaws.{next_of}
 use Rattle.omf_externals.proofs.settled.given_marks.Goals as goal
 

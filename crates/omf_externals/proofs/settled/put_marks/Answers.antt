@@ -1,6 +1,6 @@
 use Rattle.std.proofs.Common.{◌+◌, ◌∙◌, ap, drop, sym}
 use Rattle.omf_externals.specs.Unresolved.{with_marks}
-use Rattle.omf_externals.proofs.ListLaws.{none_left}
+use Rattle.omf_placement.proofs.StepLaws.{none_left}
 use Rattle.omf_externals.proofs.SettledLaws.{next_at, no_pair}
 use Rattle.omf_externals.proofs.settled.put_marks.Goals as goal
 

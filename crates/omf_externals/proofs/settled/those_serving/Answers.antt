@@ -4,7 +4,7 @@ use Rattle.std.proofs.lemmas.List.Elements.{filter-append}
 use Rattle.omf_check.specs.Module.{recs_of}
 use Rattle.omf_placement.proofs.WeakLaws.{entries_more, no_entries}
 use Rattle.omf_externals.specs.Unresolved.{rows_seen, serves}
-use Rattle.omf_externals.proofs.ListLaws.{none_left}
+use Rattle.omf_placement.proofs.StepLaws.{none_left}
 use Rattle.omf_externals.proofs.SettledLaws.{next_at, no_pair}
 use Rattle.omf_externals.proofs.settled.those_serving.Goals as goal
 

@@ -5,7 +5,7 @@ use Rattle.omf_check.specs.Module.{records_in}
 use Rattle.omf_check.specs.WellFormed.{recs}
 use Rattle.omf_externals.specs.Unresolved.{module_text}
 use Rattle.omf_externals.proofs.NameLaws.{next-one, none-left}
-use Rattle.omf_externals.proofs.UnresolvedLaws.{no_part_left, part_more}
+use Rattle.omf_placement.proofs.StepLaws.{no_part_left, part_more}
 use Rattle.omf_externals.proofs.unresolved.put_all.Goals as goal
 
 pub loop-j-init : goal.loop-j-init

@@ -7,7 +7,7 @@ use Rattle.omf_placement.specs.Derive.{named_externals}
 use Rattle.omf_placement.proofs.NamedLaws.{named-count}
 use Rattle.omf_externals.specs.Unresolved.{external_text, spot}
 use Rattle.omf_externals.specs.declared.by_name.Spot.{Spot}
-use Rattle.omf_externals.proofs.UnresolvedLaws.{next_entry, no_part_left, none_after, part_more}
+use Rattle.omf_placement.proofs.StepLaws.{next_entry, no_part_left, none_left, part_more}
 use Rattle.omf_externals.proofs.unresolved.put_module.Goals as goal
 
 pub loop-before-init : goal.loop-before-init
@@ -34,5 +34,5 @@ returns c = λ publics asks rows own_asks h a o w.
     let m = recs (records_in c.args.«module».now.bytes) in
     let k = c.loop-before.before in
     let f = external_text (map string_bytes c.args.labels.now) c.args.settled.now publics asks rows own_asks c.args.number in
-    no_part_left _ _ _ (ap (λ xs. flat_map f (enumerate_from (k + 1) xs)) (none_after (named_externals m) k (omega (arith, c.loop-before-test.false, c.loop-before.invariant.end, named-count m))))
+    no_part_left _ _ _ (ap (λ xs. flat_map f (enumerate_from (k + 1) xs)) (none_left (named_externals m) k (omega (arith, c.loop-before-test.false, c.loop-before.invariant.end, named-count m))))
     (c.loop-before.invariant.lines publics asks rows own_asks h a o w)

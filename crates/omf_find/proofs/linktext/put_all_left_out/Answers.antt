@@ -3,7 +3,7 @@ use Rattle.std.specs.Prelude.{flat_map, map, string_bytes}
 use Rattle.std.proofs.lemmas.List.{get_or_default}
 use Rattle.omf_find.specs.LinkText.{left_out_line}
 use Rattle.omf_find.proofs.GatheredLaws.{rest_more}
-use Rattle.omf_find.proofs.RowLaws.{no_part_left, none_left, part_more}
+use Rattle.omf_placement.proofs.StepLaws.{no_part_left, none_left, part_more}
 use Rattle.omf_find.proofs.linktext.put_all_left_out.Goals as goal
 
 pub loop-module-init : goal.loop-module-init

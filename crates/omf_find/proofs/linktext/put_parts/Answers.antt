@@ -4,7 +4,7 @@ use Rattle.omf_linking.specs.Locator.KeyForms.{is_repeated}
 use Rattle.omf_find.specs.LinkText.{part_by, part_name, part_text}
 use Rattle.omf_find.proofs.GatheredLaws.{rest_more}
 use Rattle.omf_find.proofs.PartLaws.{as_many, same_at}
-use Rattle.omf_find.proofs.RowLaws.{none_left, one_more, all_shown}
+use Rattle.omf_placement.proofs.StepLaws.{none_left, one_more, all_printed}
 use Rattle.omf_find.proofs.linktext.put_parts.Goals as goal
 
 pub bounds-names-before : goal.bounds-names-before
@@ -39,5 +39,5 @@ returns c =
     let g = c.args.source.gathered.now in
     let parts = c.args.parts.now in
     let f = part_text (map string_bytes c.args.source.files.now) g (map (part_name g) parts) in
-    all_shown f parts c.loop-before.before c.args.text.now.items c.loop-before.text.items
+    all_printed f parts c.loop-before.before c.args.text.now.items c.loop-before.text.items
     (none_left parts c.loop-before.before (omega (arith, c.loop-before-test.false))) c.loop-before.invariant

@@ -2,7 +2,7 @@ use Rattle.std.proofs.Common.{◌≡◌, ◌∷◌, [], ◌∙◌, ap, arith, le
 use Rattle.std.proofs.lemmas.List.{nil_from_length}
 use Rattle.std.specs.Vec.Iter.{into_iter_items}
 use Rattle.omf_find.specs.Nearly.{all_wanted, wanted_of}
-use Rattle.omf_find.proofs.RowLaws.{no_part_left, part_more}
+use Rattle.omf_placement.proofs.StepLaws.{no_part_left, part_more}
 use Rattle.omf_find.proofs.near.all_wanted.Goals as goal
 
 pub loop-own-preserved : goal.loop-own-preserved

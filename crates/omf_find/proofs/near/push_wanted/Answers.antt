@@ -3,7 +3,7 @@ use Rattle.std.proofs.lemmas.List.{nil_from_length}
 use Rattle.std.specs.Vec.Iter.{into_iter_items}
 use Rattle.omf_find.specs.Nearly.{wanted_of}
 use Rattle.omf_find.proofs.NearlyLaws.{more_wanted}
-use Rattle.omf_find.proofs.RowLaws.{no_part_left, part_more}
+use Rattle.omf_placement.proofs.StepLaws.{no_part_left, part_more}
 use Rattle.omf_find.proofs.near.push_wanted.Goals as goal
 
 pub loop-near-preserved : goal.loop-near-preserved

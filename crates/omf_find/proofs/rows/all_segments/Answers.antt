@@ -3,7 +3,7 @@ use Rattle.std.specs.Prelude.{slice_get}
 use Rattle.omf_check.specs.Module.{recs_of}
 use Rattle.omf_find.specs.Rows.{all_segments, verdict_segments}
 use Rattle.omf_find.proofs.GatheredLaws.{rest_more}
-use Rattle.omf_find.proofs.RowLaws.{part_more}
+use Rattle.omf_placement.proofs.StepLaws.{part_more}
 use Rattle.omf_find.proofs.rows.all_segments.Goals as goal
 
 pub loop-number-preserved : goal.loop-number-preserved

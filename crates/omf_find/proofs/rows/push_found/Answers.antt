@@ -4,7 +4,7 @@ use Rattle.omf_check.specs.Module.{records_in}
 use Rattle.omf_check.specs.Tables.{segments, entry}
 use Rattle.omf_check.specs.WellFormed.{recs}
 use Rattle.omf_find.specs.Rows.{segment_row}
-use Rattle.omf_find.proofs.RowLaws.{next_entry, one_more, all_shown, none_left}
+use Rattle.omf_placement.proofs.StepLaws.{next_entry, one_more, all_printed, none_left}
 use Rattle.omf_find.proofs.rows.push_found.Goals as goal
 
 pub loop-before-init : goal.loop-before-init
@@ -21,5 +21,5 @@ loop-before-preserved c =
 pub returns : goal.returns
 returns c =
     let m = recs (records_in c.args.«module».now.bytes) in
-    all_shown (λ s. option_to_list (segment_row c.args.number c.args.found.now s)) (segments m) c.loop-before.before _ _
+    all_printed (λ s. option_to_list (segment_row c.args.number c.args.found.now s)) (segments m) c.loop-before.before _ _
     (none_left (segments m) c.loop-before.before (omega (arith, c.loop-before-test.false, c.segments-before-end.ensures.count))) c.loop-before.invariant

@@ -1,7 +1,8 @@
 use Rattle.std.proofs.Common.{◌++◌, ap, ◌∙◌}
 use Rattle.omf_check.specs.Module.{records_in}
 use Rattle.omf_find.specs.Rows.{record_rows}
-use Rattle.omf_find.proofs.RowLaws.{listed_rows, listed-rows, rows-more, part_more, no_part_left}
+use Rattle.omf_placement.proofs.StepLaws.{part_more, no_part_left}
+use Rattle.omf_find.proofs.RowLaws.{listed_rows, listed-rows, rows-more}
 use Rattle.omf_find.proofs.rows.push_publics.Goals as goal
 
 pub loop-rec-init : goal.loop-rec-init

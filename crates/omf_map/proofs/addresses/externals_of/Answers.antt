@@ -2,7 +2,7 @@ use Rattle.std.proofs.Common.{◌≡◌, ◌+◌, ◌++◌, ◌∷◌, [], ◌�
 use Rattle.std.specs.Prelude.{Some}
 use Rattle.omf_check.specs.Tables.{entry}
 use Rattle.omf_map.specs.Addresses.{place_address}
-use Rattle.omf_externals.proofs.ListLaws.{next_entry, no_more_mapped, none_left, one_mapped}
+use Rattle.omf_placement.proofs.StepLaws.{next_entry, no_more_mapped, none_left, one_mapped}
 use Rattle.omf_map.proofs.addresses.externals_of.Goals as goal
 
 pub loop-before-preserved : goal.loop-before-preserved

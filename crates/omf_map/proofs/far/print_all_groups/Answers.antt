@@ -3,7 +3,7 @@ use Rattle.omf_check.specs.Module.{records_in}
 use Rattle.omf_check.specs.WellFormed.{recs}
 use Rattle.omf_placement.specs.Derive.{PlacedModule, placed_modules}
 use Rattle.omf_map.specs.Far.{group_lines}
-use Rattle.omf_externals.proofs.ListLaws.{all_printed, next-pair, no-pair, one_more}
+use Rattle.omf_placement.proofs.StepLaws.{all_printed, next-pair, no-pair, one_more}
 use Rattle.omf_map.proofs.far.print_all_groups.Goals as goal
 
 pub loop-j-init : goal.loop-j-init

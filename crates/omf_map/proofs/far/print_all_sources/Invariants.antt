@@ -1,7 +1,7 @@
 use Rattle.std.specs.Prelude.{string_bytes}
 use Rattle.omf_placement.specs.Derive.{placed_modules}
 use Rattle.omf_map.specs.Far.{source_lines}
-use Rattle.omf_externals.proofs.ListLaws.{ArePrinted}
+use Rattle.omf_placement.proofs.StepLaws.{ArePrinted}
 use Rattle.omf_map.proofs.far.print_all_sources.Given as goal
 
 -- the lines of the modules so far

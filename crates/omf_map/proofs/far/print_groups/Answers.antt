@@ -4,7 +4,7 @@ use Rattle.omf_check.specs.Tables.{groups}
 use Rattle.omf_check.specs.WellFormed.{recs}
 use Rattle.omf_map.specs.Far.{group_line}
 use Rattle.omf_linking.proofs.KeyLaws.{entry-here}
-use Rattle.omf_externals.proofs.ListLaws.{next_entry, one_more, all_printed, none_left}
+use Rattle.omf_placement.proofs.StepLaws.{next_entry, one_more, all_printed, none_left}
 use Rattle.omf_map.proofs.far.print_groups.Goals as goal
 
 pub loop-before-init : goal.loop-before-init

@@ -3,7 +3,7 @@ use Rattle.omf_check.specs.Module.{records_in}
 use Rattle.omf_check.specs.Tables.{groups}
 use Rattle.omf_check.specs.WellFormed.{recs}
 use Rattle.omf_map.specs.Far.{group_line}
-use Rattle.omf_externals.proofs.ListLaws.{ArePrinted}
+use Rattle.omf_placement.proofs.StepLaws.{ArePrinted}
 use Rattle.omf_map.proofs.far.print_groups.Given as goal
 
 -- the lines so far

@@ -5,7 +5,7 @@ use Rattle.omf_check.specs.Module.{records_in}
 use Rattle.omf_placement.specs.Derive.{record_publics}
 use Rattle.omf_placement.proofs.TableLaws.{listed_publics, listed-publics}
 use Rattle.omf_map.specs.Far.{far_line}
-use Rattle.omf_externals.proofs.ListLaws.{part_more, no_part_left}
+use Rattle.omf_placement.proofs.StepLaws.{part_more, no_part_left}
 use Rattle.omf_map.proofs.far.print_module.Goals as goal
 
 pub loop-rec-init : goal.loop-rec-init

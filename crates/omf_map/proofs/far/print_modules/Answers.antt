@@ -3,7 +3,7 @@ use Rattle.omf_check.specs.Module.{records_in}
 use Rattle.omf_check.specs.WellFormed.{recs}
 use Rattle.omf_placement.specs.Derive.{placed_modules}
 use Rattle.omf_map.specs.Far.{far_lines, module_far}
-use Rattle.omf_externals.proofs.ListLaws.{next-pair, no-pair, part_more, no_part_left}
+use Rattle.omf_placement.proofs.StepLaws.{next-pair, no-pair, part_more, no_part_left}
 use Rattle.omf_map.proofs.far.print_modules.Goals as goal
 
 pub loop-j-init : goal.loop-j-init

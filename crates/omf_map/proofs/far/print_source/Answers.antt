@@ -2,7 +2,7 @@ use Rattle.std.proofs.Common.{◌++◌, ap, ◌∙◌, string_bytes}
 use Rattle.omf_check.specs.Module.{records_in}
 use Rattle.omf_lowering.specs.Lines.{lines_of}
 use Rattle.omf_map.specs.Far.{lines_at}
-use Rattle.omf_externals.proofs.ListLaws.{part_more, no_part_left}
+use Rattle.omf_placement.proofs.StepLaws.{part_more, no_part_left}
 use Rattle.omf_map.proofs.SourceLaws.{listed_lines, listed-lines}
 use Rattle.omf_map.proofs.far.print_source.Goals as goal
 

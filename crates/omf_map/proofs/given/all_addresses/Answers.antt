@@ -2,7 +2,7 @@ use Rattle.std.proofs.Common.{◌∙◌, ◌++◌, ◌∷◌, [], ap, rules}
 use Rattle.omf_check.specs.Module.{records_in, typed_modules}
 use Rattle.omf_check.specs.WellFormed.{recs}
 use Rattle.omf_map.specs.Addresses.{addresses_given, all_given}
-use Rattle.omf_externals.proofs.ListLaws.{next-pair, no-pair, no_more_mapped, one_mapped}
+use Rattle.omf_placement.proofs.StepLaws.{next-pair, no-pair, no_more_mapped, one_mapped}
 use Rattle.omf_map.proofs.given.all_addresses.Goals as goal
 
 pub loop-j-preserved : goal.loop-j-preserved

@@ -6,7 +6,7 @@ use Rattle.omf_placement.proofs.NamedLaws.{named-count}
 use Rattle.omf_placement.specs.Derive.{named_externals}
 use Rattle.omf_map.specs.Addresses.{external_given}
 use Rattle.omf_externals.specs.declared.by_name.Spot.{Spot}
-use Rattle.omf_externals.proofs.ListLaws.{next_entry, no_more_mapped, none_left, one_mapped}
+use Rattle.omf_placement.proofs.StepLaws.{next_entry, no_more_mapped, none_left, one_mapped}
 use Rattle.omf_map.proofs.given.external_addresses.Goals as goal
 
 pub loop-before-init : goal.loop-before-init

@@ -4,7 +4,7 @@ use Rattle.omf_check.specs.Module.{recs_of}
 use Rattle.omf_linking.specs.Locator.Sparse.{Sparse}
 use Rattle.omf_records.specs.Values.{Rec}
 use Rattle.omf_map.specs.Addresses.{for_missing, with_defaults}
-use Rattle.omf_externals.proofs.ListLaws.{none_left}
+use Rattle.omf_placement.proofs.StepLaws.{none_left}
 use Rattle.omf_externals.proofs.SettledLaws.{next_at, no_pair}
 use Rattle.omf_map.proofs.given.with_defaults.Goals as goal
 

@@ -4,7 +4,7 @@ use Rattle.omf_check.specs.Module.{records_in}
 use Rattle.omf_check.specs.Tables.{externals, entry}
 use Rattle.omf_check.specs.WellFormed.{recs}
 use Rattle.omf_map.specs.MapText.{external_line}
-use Rattle.omf_externals.proofs.ListLaws.{next_entry, one_more, all_printed, none_left}
+use Rattle.omf_placement.proofs.StepLaws.{next_entry, one_more, all_printed, none_left}
 use Rattle.omf_map.proofs.listing.print_externals.Goals as goal
 
 pub loop-before-init : goal.loop-before-init

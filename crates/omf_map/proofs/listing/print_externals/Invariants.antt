@@ -3,7 +3,7 @@ use Rattle.omf_check.specs.Module.{records_in}
 use Rattle.omf_check.specs.Tables.{externals}
 use Rattle.omf_check.specs.WellFormed.{recs}
 use Rattle.omf_map.specs.MapText.{external_line}
-use Rattle.omf_externals.proofs.ListLaws.{ArePrinted}
+use Rattle.omf_placement.proofs.StepLaws.{ArePrinted}
 use Rattle.omf_map.proofs.listing.print_externals.Given as goal
 
 -- the lines so far

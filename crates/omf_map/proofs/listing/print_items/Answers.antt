@@ -2,7 +2,7 @@ use Rattle.std.proofs.Common.{ap}
 use Rattle.std.specs.Prelude.{flat_map}
 use Rattle.omf_map.specs.Addresses.{public_at, publics_at}
 use Rattle.omf_map.specs.MapText.{public_line}
-use Rattle.omf_externals.proofs.ListLaws.{part_more, no_part_left}
+use Rattle.omf_placement.proofs.StepLaws.{part_more, no_part_left}
 use Rattle.omf_map.proofs.listing.print_items.Goals as goal
 
 pub loop-public-preserved : goal.loop-public-preserved

@@ -4,7 +4,7 @@ use Rattle.omf_check.specs.Module.{records_in, typed_modules}
 use Rattle.omf_check.specs.WellFormed.{recs}
 use Rattle.omf_map.specs.Inner.Steps.{part_lines}
 use Rattle.omf_map.specs.Addresses.{AddressedModule}
-use Rattle.omf_externals.proofs.ListLaws.{all_printed, next-pair, no-pair, one_more}
+use Rattle.omf_placement.proofs.StepLaws.{all_printed, next-pair, no-pair, one_more}
 use Rattle.omf_map.proofs.listing.print_part.Goals as goal
 
 pub loop-j-init : goal.loop-j-init

@@ -1,7 +1,7 @@
 use Rattle.std.specs.Prelude.{string_bytes, zip}
 use Rattle.omf_check.specs.Module.{typed_modules}
 use Rattle.omf_map.specs.Inner.Steps.{part_lines}
-use Rattle.omf_externals.proofs.ListLaws.{ArePrinted}
+use Rattle.omf_placement.proofs.StepLaws.{ArePrinted}
 use Rattle.omf_map.proofs.listing.print_part.Given as goal
 
 -- the lines of the modules so far

@@ -4,7 +4,7 @@ use Rattle.omf_check.specs.Module.{records_in}
 use Rattle.omf_map.specs.Addresses.{publics_asked}
 use Rattle.omf_map.specs.MapText.{public_line}
 use Rattle.omf_map.proofs.MapLaws.{lines-more, listed_publics, listed-publics}
-use Rattle.omf_externals.proofs.ListLaws.{part_more, no_part_left}
+use Rattle.omf_placement.proofs.StepLaws.{part_more, no_part_left}
 use Rattle.omf_map.proofs.listing.print_publics.Goals as goal
 
 pub loop-rec-init : goal.loop-rec-init

@@ -3,7 +3,7 @@ use Rattle.omf_check.specs.Module.{records_in}
 use Rattle.omf_check.specs.Tables.{segments}
 use Rattle.omf_check.specs.WellFormed.{recs}
 use Rattle.omf_map.specs.MapText.{segment_line}
-use Rattle.omf_externals.proofs.ListLaws.{ArePrinted}
+use Rattle.omf_placement.proofs.StepLaws.{ArePrinted}
 use Rattle.omf_map.proofs.listing.print_segments.Given as goal
 
 -- the lines so far

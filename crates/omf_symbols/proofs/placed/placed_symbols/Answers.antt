@@ -3,7 +3,7 @@ use Rattle.omf_check.specs.Module.{records_in}
 use Rattle.omf_check.specs.WellFormed.{recs}
 use Rattle.omf_placement.specs.Derive.{placed_modules}
 use Rattle.omf_symbols.specs.Placed.{module_symbols, placed_symbols}
-use Rattle.omf_symbols.proofs.SymbolLaws.{next-pair, no-pair, part_more, no_part_left}
+use Rattle.omf_placement.proofs.StepLaws.{next-pair, no-pair, part_more, no_part_left}
 use Rattle.omf_symbols.proofs.placed.placed_symbols.Goals as goal
 
 pub loop-j-preserved : goal.loop-j-preserved

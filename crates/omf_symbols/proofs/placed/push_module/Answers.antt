@@ -3,7 +3,8 @@ use Rattle.omf_check.specs.Module.{records_in}
 use Rattle.omf_check.specs.WellFormed.{recs}
 use Rattle.omf_placement.specs.Derive.{PlacedModule}
 use Rattle.omf_symbols.specs.Placed.{contents_symbols}
-use Rattle.omf_symbols.proofs.SymbolLaws.{listed_symbols, listed-symbols, part_more, no_part_left}
+use Rattle.omf_placement.proofs.StepLaws.{part_more, no_part_left}
+use Rattle.omf_symbols.proofs.SymbolLaws.{listed_symbols, listed-symbols}
 use Rattle.omf_symbols.proofs.placed.push_module.Goals as goal
 
 pub loop-rec-init : goal.loop-rec-init

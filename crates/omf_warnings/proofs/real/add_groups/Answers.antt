@@ -7,7 +7,7 @@ use Rattle.omf_check.specs.WellFormed.{recs}
 use Rattle.omf_records.specs.Values.{GroupItem}
 use Rattle.omf_placement.specs.Derive.{PlacedModule}
 use Rattle.omf_warnings.specs.RealMode.{small_group}
-use Rattle.omf_externals.proofs.ListLaws.{none_left}
+use Rattle.omf_placement.proofs.StepLaws.{none_left}
 use Rattle.omf_output.proofs.StackLaws.{one-more}
 use Rattle.omf_output.proofs.Steps.{entry_there}
 use Rattle.omf_warnings.proofs.real.add_groups.Goals as goal

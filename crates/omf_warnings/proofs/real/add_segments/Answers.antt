@@ -7,7 +7,7 @@ use Rattle.omf_check.specs.WellFormed.{recs}
 use Rattle.omf_check.specs.declared.segment.SegInfo.{SegInfo}
 use Rattle.omf_placement.specs.Derive.{PlacedModule}
 use Rattle.omf_warnings.specs.RealMode.{small_segment}
-use Rattle.omf_externals.proofs.ListLaws.{none_left}
+use Rattle.omf_placement.proofs.StepLaws.{none_left}
 use Rattle.omf_output.proofs.StackLaws.{one-more}
 use Rattle.omf_output.proofs.Steps.{entry_there}
 use Rattle.omf_warnings.proofs.real.add_segments.Goals as goal

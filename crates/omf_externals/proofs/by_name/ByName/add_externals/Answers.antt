@@ -8,7 +8,7 @@ use Rattle.omf_placement.proofs.NamedLaws.{named-count}
 use Rattle.omf_externals.specs.Unresolved.{HasMore, IsByName, asked_row, spot}
 use Rattle.omf_externals.specs.declared.by_name.Spot.{Spot}
 use Rattle.omf_placement.proofs.Filling.{fill-start, fill-more, fill-end}
-use Rattle.omf_externals.proofs.UnresolvedLaws.{next_entry, none_after}
+use Rattle.omf_placement.proofs.StepLaws.{next_entry, none_left}
 use Rattle.omf_externals.proofs.by_name.ByName.add_externals.Goals as goal
 
 pub loop-before-init : goal.loop-before-init
@@ -33,4 +33,4 @@ returns c =
     let m = recs (records_in c.args.«module».now.bytes) in
     let k = c.loop-before.before in
     fill-end IsByName c.args.self.now.spots c.loop-before.self.spots _ _
-    (ap (λ xs. flat_map (asked_row c.args.local c.args.settled.now c.args.number) (enumerate_from (k + 1) xs)) (none_after (named_externals m) k (omega (arith, c.loop-before-test.false, c.loop-before.invariant.end, named-count m)))) c.loop-before.invariant.filled
+    (ap (λ xs. flat_map (asked_row c.args.local c.args.settled.now c.args.number) (enumerate_from (k + 1) xs)) (none_left (named_externals m) k (omega (arith, c.loop-before-test.false, c.loop-before.invariant.end, named-count m)))) c.loop-before.invariant.filled

@@ -4,7 +4,7 @@ use Rattle.omf_finding.specs.declared.findings.Verdict.{Verdict}
 use Rattle.omf_find.specs.declared.parts.Part.{Part}
 use Rattle.omf_find.specs.Parts.{Adds, IsHeldIf, IsPart}
 use Rattle.omf_find.proofs.GatheredLaws.{rest_more}
-use Rattle.omf_find.proofs.RowLaws.{none_left}
+use Rattle.omf_placement.proofs.StepLaws.{none_left}
 use Rattle.omf_find.proofs.PartLaws.{none_added, one_more_added, all_added, held_at}
 use Rattle.omf_find.proofs.parts.Parts.take_all.Goals as goal
 

@@ -3,7 +3,7 @@ use Rattle.std.specs.Prelude.{string_bytes}
 use Rattle.omf_check.specs.Module.{typed_modules}
 use Rattle.omf_linker.specs.Seen.Looks.{counts}
 use Rattle.omf_linker.proofs.LookLaws.{last-lines, next-lines}
-use Rattle.omf_externals.proofs.ListLaws.{none_left}
+use Rattle.omf_placement.proofs.StepLaws.{none_left}
 use Rattle.omf_externals.proofs.SettledLaws.{next_at}
 use Rattle.omf_linker.proofs.seen.files.add_found.Goals as goal
 

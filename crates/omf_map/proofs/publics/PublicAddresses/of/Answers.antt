@@ -5,7 +5,7 @@ use Rattle.omf_check.specs.WellFormed.{recs}
 use Rattle.omf_map.specs.Inner.PublicAddresses.{HasMore, IsTable}
 use Rattle.omf_map.specs.Addresses.{given_address, publics_given, publics_of}
 use Rattle.omf_placement.proofs.Filling.{fill-start, fill-more, fill-end}
-use Rattle.omf_externals.proofs.ListLaws.{next-pair, no-pair}
+use Rattle.omf_placement.proofs.StepLaws.{next-pair, no-pair}
 use Rattle.omf_map.proofs.PublicLaws.{fill-empty}
 use Rattle.omf_map.proofs.publics.PublicAddresses.of.Goals as goal
 

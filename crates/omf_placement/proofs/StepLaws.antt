@@ -10,7 +10,7 @@ use Rattle.omf_check.specs.Tables.{entry}
 use Rattle.omf_check.specs.WellFormed.{recs}
 use Rattle.omf_placement.proofs.NamedLaws.{entry-suc}
 
-pub record ArePrinted {A : Type 0} (f : ℕ × A → List ℕ) (xs : List A) (i : ℕ) (old now : List ℕ) : Type 0 where
+pub record ArePrinted {A B : Type 0} (f : ℕ × A → List B) (xs : List A) (i : ℕ) (old now : List B) : Type 0 where
   pub whole : now ++ flat_map f (enumerate_from (i + 1) (drop i xs)) ≡ old ++ flat_map f (enumerate_from 1 xs)
 
 pub next_entry : {A : Type 0} (xs : List A) (i : ℕ) (x : A) → entry xs (i + 1) ≡ Some x → drop i xs ≡ x ∷ drop (i + 1) xs
@@ -20,8 +20,8 @@ next_entry xs i x e =
     let low = slice_get_within xs i x here in
     drop-cons xs i x low ∙ ap (λ y. y ∷ drop (suc i) xs) (get_or_from_slice_get xs i x x here) ∙ ap (λ k. x ∷ drop k xs) a
 
-module _ {A : Type 0} (f : ℕ × A → List ℕ) (xs : List A) (i : ℕ) (old now : List ℕ) where
-  pub one_more : (x : A) (new : List ℕ) → drop i xs ≡ x ∷ drop (i + 1) xs → new ≡ now ++ f (i + 1, x) → ArePrinted f xs i old now → ArePrinted f xs (i + 1) old new
+module _ {A B : Type 0} (f : ℕ × A → List B) (xs : List A) (i : ℕ) (old now : List B) where
+  pub one_more : (x : A) (new : List B) → drop i xs ≡ x ∷ drop (i + 1) xs → new ≡ now ++ f (i + 1, x) → ArePrinted f xs i old now → ArePrinted f xs (i + 1) old new
   one_more x new next e before = record {
     whole = ap (λ t. t ++ flat_map f (enumerate_from (i + 1 + 1) (drop (i + 1) xs))) e
         ∙ append_assoc now (f (i + 1, x)) (flat_map f (enumerate_from (i + 1 + 1) (drop (i + 1) xs)))
@@ -35,10 +35,10 @@ pub none_left : {A : Type 0} (xs : List A) (i : ℕ) → length xs ≤ i → dro
 none_left xs i le = drop_all i xs le
 
 -- the same, of lines that are not numbered: one part more, and no part left
-pub part_more : (old new part rest left all : List ℕ) → new ≡ old ++ part → left ≡ part ++ rest → old ++ left ≡ all → new ++ rest ≡ all
+pub part_more : {B : Type 0} (old new part rest left all : List B) → new ≡ old ++ part → left ≡ part ++ rest → old ++ left ≡ all → new ++ rest ≡ all
 part_more old new part rest left all e f h = ap (λ t. t ++ rest) e ∙ append_assoc old part rest ∙ ap (λ t. old ++ t) (sym f) ∙ h
 
-pub no_part_left : (old left all : List ℕ) → left ≡ [] → old ++ left ≡ all → old ≡ all
+pub no_part_left : {B : Type 0} (old left all : List B) → left ≡ [] → old ++ left ≡ all → old ≡ all
 no_part_left old left all e h = sym (append-nil old) ∙ ap (λ t. old ++ t) (sym e) ∙ h
 
 -- The next of several modules, with what belongs to it.
