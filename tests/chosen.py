@@ -1,7 +1,7 @@
 #!/usr/bin/env python3
 """Links generated modules with COMDATs of the same names, and compares with a link of modules without those that are left out: chosen.py [--first SEED] [--count N]
 
-Of the COMDATs of one name the first counts, and the others are left out with their continuations, NBKPATs and fixups (but not their THREADs), if the selections of both allow it.
+Of the COMDATs of one name that is not local the first counts, and the others are left out with their continuations, NBKPATs and fixups (but not their THREADs), if the selections of both allow it.
 This script knows what it makes, so it leaves out the records itself. `omf-link exe` must give the same program of both, or the same lines, and fail where a name is
 still defined twice. Some modules are members of a library.
 OMF_LINK names the program (omf-link, if not set). The status is 1 where a program differs."""
@@ -12,7 +12,7 @@ import sys
 import tempfile
 
 import taken
-from lowered import COMDAT, COMDAT_EXTERNALS, CONTINUED, DATA, EXTERNALS, FIXUPS, LOCAL, NAMED_BACKPATCH, NAMES, SEGMENT, little, named, record, shortest
+from lowered import COMDAT, COMDAT_EXTERNALS, CONTINUED, DATA, EXTERNALS, FIXUPS, LOCAL, LOCAL_NAMES, NAMED_BACKPATCH, NAMES, SEGMENT, little, named, record, shortest
 
 MOST_FAILED = 10
 COMDATS = [b"c%d" % it for it in range(6)]
@@ -49,14 +49,20 @@ class Module:
         self.names = {name: at for at, name in enumerate(names, 1)}
         self.put(0x80, named(b"m%d" % number))
         self.put(NAMES, b"".join(map(named, names)))
+        local = [name for name, _, _, flags in bodies if flags & LOCAL]
+        self.local = {name: at for at, name in enumerate(local, len(names) + 1)}
+        self.put(LOCAL_NAMES, b"".join(map(named, local)))
         self.put(SEGMENT, b"\x28" + little(48, 2) + b"\x02\x03\x01")
         if number == 0:
             self.put(SEGMENT, b"\x74" + little(64, 2) + b"\x04\x04\x01")
         self.put(0x90, b"\0\x01" + named(b"p%d" % number) + b"\0\0\0")
-        self.externals = [shortest(it) for it in range(1, len(publics) + len(asked) + 1)]
+        own = source.sample(local, source.randint(0, len(local)))
+        self.externals = [shortest(it) for it in range(1, len(publics) + len(asked) + len(own) + 1)]
         self.put(EXTERNALS, b"".join(named(it) + b"\0" for it in publics))
         if asked:
             self.put(COMDAT_EXTERNALS, b"".join(shortest(self.names[it]) + b"\0" for it in asked))
+        if own:
+            self.put(COMDAT_EXTERNALS, b"".join(shortest(self.local[it]) + b"\0" for it in own))
         for name, body, selection, flags in bodies:
             self.add_data()
             self.add_comdat(name, body, selection, flags)
@@ -79,12 +85,12 @@ class Module:
 
     def add_comdat(self, name, body, selection, flags):
         self.comdats.append((name, body, selection, flags))
-        own = None if flags & LOCAL else name
+        own, index = (None, shortest(self.local[name])) if flags & LOCAL else (name, shortest(self.names[name]))
         allocation, offset = self.random.choice([0, 0, 1]), body.offset
         base = b"\0\x01" if allocation == 0 else b""
         for data in body.pieces:
             head = bytes([flags, selection << 4 | allocation, self.random.choice([0, 1, 2])])
-            self.put(COMDAT, head + little(offset, 2) + b"\0" + base + shortest(self.names[name]) + data, own)
+            self.put(COMDAT, head + little(offset, 2) + b"\0" + base + index + data, own)
             flags, offset = flags | CONTINUED, offset + len(data)
             thread = b""
             if self.random.random() < 0.3:
@@ -94,7 +100,7 @@ class Module:
                 self.put(FIXUPS, thread + self.fixup(self.random.randint(0, len(data) - 4)), own, thread)
         if body.patch:
             at, value = body.patch
-            self.put(NAMED_BACKPATCH, b"\x01" + shortest(self.names[name]) + little(body.offset + at, 2) + little(value, 2), own)
+            self.put(NAMED_BACKPATCH, b"\x01" + index + little(body.offset + at, 2) + little(value, 2), own)
 
     def without(self, names):
         return b"".join(rest if of in names else one for one, of, rest in self.records)

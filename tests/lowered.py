@@ -1,8 +1,8 @@
 #!/usr/bin/env python3
 """Lowers generated modules, and compares with a reader of its own, by the standard's text: lowered.py [--first SEED] [--count N] [--repeats]
 
-Each module has LNAMES and LLNAMES, CEXTDEFs with names of these, LEDATAs of both widths, BAKPATs that add values to their data, and COMDATs with
-NBKPATs; some files have several modules, with padding after them. What `omf-link lower` writes must be the bytes that this reader gives; where a record is at fault, it must name the file,
+Each module has LNAMES and LLNAMES, CEXTDEFs with names of these, LEDATAs of both widths, BAKPATs that add values to their data, VENDEXTs, and COMDATs
+with NBKPATs, local if an LLNAMES has their names; some files have several modules, with padding after them. What `omf-link lower` writes must be the bytes that this reader gives; where a record is at fault, it must name the file,
 the module and the record, and write nothing. With --repeats each module has LIDATAs with fixups instead of COMDATs.
 OMF_LINK names the program (omf-link, if not set). The status is 1 where a module differs."""
 import argparse
@@ -17,6 +17,7 @@ import tempfile
 LINK = os.environ.get("OMF_LINK") or "omf-link"
 NAMES, LOCAL_NAMES, EXTERNALS, COMDAT_EXTERNALS, DATA, BACKPATCH = 0x96, 0xCA, 0x8C, 0xBC, 0xA0, 0xB2
 SEGMENT, GROUP, REPEATED, COMDAT, FIXUPS, NAMED_BACKPATCH, COMMENT = 0x98, 0x9A, 0xA2, 0xC2, 0x9C, 0xC8, 0x88
+LOCAL_EXTERNALS, VENDOR = 0xB4, 0xCE
 CONTINUED, ITERATED, LOCAL = 1, 2, 4
 SIZES = {0: 1, 1: 2, 2: 4}
 LOCATIONS = {0: 1, 1: 2, 2: 2, 3: 4, 4: 1, 5: 2, 9: 4, 11: 6, 13: 4}
@@ -47,7 +48,7 @@ class Made:
         names = [b""] + [bytes(self.random.choices(b"abcXYZ_", k=self.random.randint(1, 6))) for _ in range(self.random.randint(2, 9))]
         names += self.random.sample([b"CODE", b"FAR_DATA", b"", b"f1", b"f2"], self.random.randint(0, 5))
         first = self.random.randint(1, len(names))
-        self.count, self.later = first, names[first:]
+        self.count, self.later, self.local = first, names[first:], set()
         self.records = [record(0x80, named(b"m")), record(NAMES, b"".join(map(named, names[:first])))]
         self.records += [self.segdef(it) for it in self.lengths]
         while self.random.random() < 0.3:
@@ -55,7 +56,8 @@ class Made:
             self.records.append(record(GROUP, b"\x01\xFF\x01"))
         for _ in range(self.random.randint(1, 10)):
             self.add_names()
-            self.random.choices([self.add_data, self.add_externals, self.add_patches, self.add_comment, self.add_comdats, self.add_thread], [35, 25, 15, 5, 40, 1])[0]()
+            self.random.choices([self.add_data, self.add_externals, self.add_patches, self.add_comment, self.add_vendor, self.add_comdats, self.add_thread],
+                                [35, 25, 15, 5, 3, 40, 1])[0]()
             if self.random.random() < 0.01:
                 self.records.append(self.segdef(5))
         self.records.append(record(0x8A, b"\0"))
@@ -73,7 +75,9 @@ class Made:
 
     def add_names(self):
         if self.later and self.random.random() < 0.5:
-            self.records.append(record(self.random.choice([NAMES, LOCAL_NAMES]), b"".join(map(named, self.later))))
+            kind = self.random.choice([NAMES, LOCAL_NAMES])
+            self.records.append(record(kind, b"".join(map(named, self.later))))
+            self.local |= set(range(self.count + 1, self.count + 1 + len(self.later))) if kind == LOCAL_NAMES else set()
             self.count, self.later = self.count + len(self.later), []
 
     def add_data(self):
@@ -105,7 +109,8 @@ class Made:
         if self.random.random() < 0.02:
             base = self.random.choice([b"\x00\x00\x34\x12", b"\x09\x01", b"\x00\x09"])
         allocation = self.random.choice([0, 0, 0, 1, 2, 3, 4])
-        flags = self.random.choice([0, 0, LOCAL, 8]) if self.random.random() < 0.97 else CONTINUED
+        flags = self.random.choice([0, LOCAL, LOCAL, 8] if name in self.local or self.random.random() < 0.02 else [0, 0, 0, 8])
+        flags = flags if self.random.random() < 0.97 else CONTINUED
         align = self.random.randint(0, 5) if self.random.random() < 0.98 else self.random.choice([6, 7])
         for _ in range(self.random.choice([1, 1, 1, 2, 3])):
             wide, iterated = self.random.random() < 0.4, self.random.random() < 0.3
@@ -153,6 +158,9 @@ class Made:
 
     def add_comment(self):
         self.records.append(record(COMMENT, b"\0\0hi"))
+
+    def add_vendor(self):
+        self.records.append(record(VENDOR, b"\x01\0" + self.random.randbytes(self.random.randrange(5))))
 
 
 class Fault(Exception):
@@ -207,7 +215,7 @@ class Lowered:
     or None for blocks."""
 
     def __init__(self, records):
-        self.names, self.records, self.data = [], [], []
+        self.names, self.local, self.records, self.data = [], set(), [], []
         self.segments, self.groups, self.comdats = [], 0, {}
         self.origins = []
         for number, one in enumerate(records):
@@ -230,6 +238,8 @@ class Lowered:
             self.take_comdat(number, kind & 1, contents)
         elif kind & 0xFE == SEGMENT and self.comdats:
             raise Fault(number)
+        elif kind == VENDOR:
+            return
         else:
             self.take(kind, contents)
             self.records.append(one)
@@ -239,6 +249,7 @@ class Lowered:
             at = 0
             while at < len(contents):
                 self.names.append(contents[at + 1:at + 1 + contents[at]])
+                self.local |= {len(self.names)} if kind == LOCAL_NAMES else set()
                 at += 1 + contents[at]
         elif kind & 0xFE == SEGMENT:
             self.segments.append((contents[0], contents[3 + 2 * (kind & 1):]))
@@ -268,14 +279,14 @@ class Lowered:
         if not 1 <= name <= len(self.names) or attributes >> 4 > 3 or attributes & 15 > 4 or align > 5 or end >= 1 << 32:
             raise Fault(number)
         text = self.names[name - 1]
-        if bool(flags & CONTINUED) != (text in self.comdats):
+        if bool(flags & CONTINUED) != (text in self.comdats) or (flags & LOCAL and name not in self.local):
             raise Fault(number)
         if not self.comdats and any(it > len(self.segments) for one in self.records for it in segments_in(one, is_thread=True)):
             raise Fault(number)
         if not flags & CONTINUED:
             self.add_comdat(text, align, pattern or self.allocated(name, attributes & 15))
             body = shortest(group) + shortest(self.comdats[text][0]) + named(text) + bytes(4) + shortest(kind)
-            self.records.append(record(0xB7 if flags & LOCAL else 0x91, body))
+            self.records.append(record(0xB7 if name in self.local else 0x91, body))
             self.records.append(record(COMMENT, b"\x80\xDCCOMDAT" + bytes([attributes >> 4])))
         self.comdats[text][3] = max(self.comdats[text][3], end)
         front = shortest(self.comdats[text][0]) + little(offset, width)
@@ -301,7 +312,7 @@ class Lowered:
             _, at = index_at(contents, at)
             if not 1 <= name <= len(self.names):
                 raise Fault(number)
-            self.records.append(record(EXTERNALS, named(self.names[name - 1]) + b"\0"))
+            self.records.append(record(LOCAL_EXTERNALS if name in self.local else EXTERNALS, named(self.names[name - 1]) + b"\0"))
 
     def take_patches(self, number, contents, width):
         segment, at = index_at(contents, 0)

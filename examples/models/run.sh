@@ -44,7 +44,7 @@ link_one chain exe "$work/f0.obj" "$work/one.lib" "$work/two.lib"
 link_one chain2 exe "$work/f0.obj" "$work/two.lib" "$work/one.lib"
 cmp -s "$work/chain.exe" "$work/chain2.exe" && { echo "the order of the libraries has no effect"; exit 1; }
 
-# The type of the first LEDATA of the member that nobody needs becomes CEH (VENDEXT), which is refused, with the checksum byte 0.
+# The type of the first LEDATA of the member that nobody needs becomes C2H, with the checksum byte 0: a COMDAT that continues none, which is refused.
 python3 - "$work/two.lib" "$work/part.obj" "$work/mixed.lib" << 'END'
 import sys
 
@@ -54,7 +54,7 @@ while member[at] != 0xA0:
     at += 3 + int.from_bytes(member[at + 1:at + 3], "little")
 at += library.index(member[:at])
 end = at + 2 + int.from_bytes(library[at + 1:at + 3], "little")
-open(sys.argv[3], "wb").write(library[:at] + b"\xCE" + library[at + 1:end] + b"\0" + library[end + 1:])
+open(sys.argv[3], "wb").write(library[:at] + b"\xC2" + library[at + 1:end] + b"\0" + library[end + 1:])
 END
 link_one chain3 exe "$work/f0.obj" "$work/one.lib" "$work/mixed.lib"
 cmp "$work/chain.exe" "$work/chain3.exe"
@@ -62,9 +62,9 @@ cmp "$work/chain.exe" "$work/chain3.exe"
 # A program that needs that member has no file, and the line names the record.
 nasm -f obj -dHUGE main.asm -o "$work/main.obj"
 "$link" exe -o "$work/none.exe" "$work/main.obj" "$work/mixed.lib" 2> "$work/told" && exit 1
-grep -q 'refused 4 UnsupportedType .* (VENDEXT)$' "$work/told"
+grep -q 'refused .* (COMDAT)$' "$work/told"
 [ ! -e "$work/none.exe" ]
-echo "${#made[@]} programs are linked; a needed member with a VENDEXT is refused"
+echo "${#made[@]} programs are linked; a needed member with a wrong COMDAT is refused"
 
 # A program whose exit status is not 7 writes its name to a file of the folder that the emulator has as drive C. DOSBox makes that file, empty, also
 # where nothing is written.

@@ -7,7 +7,7 @@ import libraries
 from aliases import asking
 from changes import records_of
 from libraries import record
-from modules import ALIAS, EXTERNALS, WEAK, bodies, index_at, name_places, named_externals, publics_of, titles_of
+from modules import ALIAS, EXTERNALS, LOCAL_EXTERNALS, WEAK, bodies, index_at, name_places, named_externals, publics_of, titles_of
 from promises import ROOT
 
 sys.path.append(str(ROOT / "tests"))
@@ -79,13 +79,13 @@ class Plan:
         is_varied = self.selections[name] == ANY or self.random.randrange(8) == 0
         return self.contents[name][is_varied and self.random.randrange(2)]
 
-    def records(self, name, index, bases, fixups):
-        """The COMDAT with this name. `fixups` makes some, for data of a size."""
+    def records(self, name, index, is_local, bases, fixups):
+        """The COMDAT with this name, which may be local. `fixups` makes some, for data of a size."""
         random_, body = self.random, self.body(name)
         allocation = self.allocations[name] if self.allocations[name] != WITH_BASE or bases else FAR_CODE
         selection = self.selections[name] if random_.randrange(24) else random_.randrange(4)
         base = b"\0" + shortest(random_.choice(bases)) if allocation == WITH_BASE else b""
-        flags, made = LOCAL if random_.randrange(12) == 0 else 0, []
+        flags, made = LOCAL if is_local and random_.randrange(4) else 0, []
         for offset, data, is_repeated in body.items():
             head = bytes([flags | ITERATED * is_repeated, selection << 4 | allocation, random_.randrange(3)])
             made.append(record(COMDAT, head + little(offset, 2) + b"\0" + base + shortest(index) + data))
@@ -106,8 +106,10 @@ def with_comdats(random_, module, plan, defined, fixup):
     first, names = count_names(parts) + 1, list(dict.fromkeys([*defined, *asked]))
     if not names:
         return module
-    indices = {it: at for at, it in enumerate(names, first)}
-    parts.append(record(NAMES, b"".join(map(named, names))))
+    local = [it for it in defined if random_.randrange(12) == 0]
+    names = [it for it in names if it not in local]
+    indices = {it: at for at, it in enumerate(names + local, first)}
+    parts += [record(kind, b"".join(map(named, some))) for kind, some in ((NAMES, names), (LOCAL_NAMES, local)) if some]
     if asked:
         parts.append(record(COMDAT_EXTERNALS, b"".join(shortest(indices[it]) + b"\0" for it in asked)))
     segments, groups = titles_of(module)
@@ -116,19 +118,19 @@ def with_comdats(random_, module, plan, defined, fixup):
     def fixups(size):
         return b"".join(fixup(random_, at, len(segments), len(groups) > 0, externals) for at in range(0, size - 5, 6))
     for name in defined:
-        parts += plan.records(name, indices[name], based_on(module), fixups)
+        parts += plan.records(name, indices[name], name in local, based_on(module), fixups)
     return b"".join([*parts, end])
 
 
 def by_index(random_, module):
-    """The module with CEXTDEFs in place of some of its EXTDEFs: of those after its last names, whose indices stay."""
+    """The module with CEXTDEFs in place of some of its EXTDEFs and LEXTDEFs: of those after its last names, whose indices stay."""
     made, count, whole = [], 0, count_names(parts_of(module))
     for one in parts_of(module):
         count += count_names([one])
-        if one[0] in EXTERNALS and count >= whole and random_.randrange(2):
+        if one[0] in EXTERNALS + LOCAL_EXTERNALS and count >= whole and random_.randrange(2):
             body = one[3:-1]
             names = [body[begin:end] for begin, end in name_places(one[0], body)]
-            made.append(record(random_.choice((NAMES, LOCAL_NAMES)), b"".join(map(named, names))))
+            made.append(record(LOCAL_NAMES if one[0] in LOCAL_EXTERNALS else NAMES, b"".join(map(named, names))))
             one = record(COMDAT_EXTERNALS, b"".join(shortest(at) + b"\0" for at in range(count + 1, count + len(names) + 1)))
             count += len(names)
         made.append(one)
@@ -257,14 +259,14 @@ def threads_of(kind, body):
 
 
 def comdat_name(one, names):
-    """The name of a COMDAT or NBKPAT record, and whether it is local."""
+    """The name of a COMDAT or NBKPAT record, and whether an LLNAMES has it."""
     body = one[3:-1]
     if one[0] & 0xFE == NAMED_BACKPATCH:
-        return names[next_index(body, 1)[0] - 1], False
+        return names[next_index(body, 1)[0] - 1]
     _, at = next_index(body, 5 + 2 * (one[0] & 1))
     for _ in range(2 if body[1] & 15 == 0 else 0):
         _, at = next_index(body, at)
-    return names[next_index(body, at)[0] - 1], body[0] & LOCAL != 0
+    return names[next_index(body, at)[0] - 1]
 
 
 def without(records, gone):
@@ -274,7 +276,7 @@ def without(records, gone):
         kind, body = one[0], one[3:-1]
         at = 0
         while kind in (NAMES, LOCAL_NAMES) and at < len(body):
-            names.append(body[at + 1:at + 1 + body[at]])
+            names.append((body[at + 1:at + 1 + body[at]], kind == LOCAL_NAMES))
             at += 1 + body[at]
         if kind & 0xFE == COMDAT or kind in DATA:
             is_gone = False

@@ -6,6 +6,7 @@ import re
 from libraries import record
 
 NAMES, LOCAL_NAMES, EXTERNALS, COMDAT_EXTERNALS, DATA, REPEATED, BACKPATCH, COMDAT = 0x96, 0xCA, 0x8C, 0xBC, 0xA0, 0xA2, 0xB2, 0xC2
+LOCAL_EXTERNALS, VENDOR = 0xB4, 0xCE
 HEADERS, ENDS, FRONT = (b"\x80", b"\x82"), (0x8A, 0x8B), 3
 PADDING = re.compile(rb"\0+|\x1A+|")
 # The bytes of a location of a BAKPAT, by its type.
@@ -183,7 +184,7 @@ class Lowered:
     bytes. `judge` is called with each record whose layout is not read here."""
 
     def __init__(self, judge=lambda one: None):
-        self.names, self.records, self.data, self.judge = [], [], [], judge
+        self.names, self.local, self.records, self.data, self.judge = [], [], [], [], judge
 
     def take(self, one):
         kind, contents = one[0], one[FRONT:-1]
@@ -193,6 +194,8 @@ class Lowered:
             self.take_patches(Fields(contents), 4 if kind & 1 else 2)
         elif kind & 0xFE == COMDAT:
             raise Unread
+        elif kind == VENDOR:
+            return
         else:
             self.take_other(one, Fields(contents))
             self.records.append(one)
@@ -201,6 +204,7 @@ class Lowered:
         if one[0] in (NAMES, LOCAL_NAMES):
             while fields.more():
                 self.names.append(fields.name())
+                self.local.append(one[0] == LOCAL_NAMES)
         elif one[0] & 0xFE in (DATA, REPEATED):
             width = 4 if one[0] & 1 else 2
             segment, offset, at = fields.index(), fields.number(width), fields.at
@@ -218,7 +222,7 @@ class Lowered:
             if not 1 <= name <= len(self.names):
                 raise Fault("21 UndefinedName", within)
             shortest = bytes([kind]) if kind < 128 else bytes([0x80 | kind >> 8, kind & 255])
-            self.records.append(record(EXTERNALS, named(self.names[name - 1]) + shortest))
+            self.records.append(record(LOCAL_EXTERNALS if self.local[name - 1] else EXTERNALS, named(self.names[name - 1]) + shortest))
 
     def take_patches(self, fields, width):
         segment, within = fields.index(), fields.within()

@@ -27,7 +27,7 @@ use Rattle.omf_check.specs.declared.profile.Profile.{Profile}
 use Rattle.omf_check.proofs.Moving.{item_more}
 use Rattle.omf_check.proofs.WellLaws.{well-read}
 use Rattle.omf_lowering.specs.Comdats.{given_by, made, new_of}
-use Rattle.omf_lowering.specs.Lowering.{Before, IsLowered, IsWideRecord, comdat_of, fault_of, faults_in, growths, growths_in, is_bakpat, is_cextdef, is_comdat, is_nbkpat, is_late, is_segdef, lowered_records, lowering_fault, named_fault, patches_in, pieces, replaced, replacement, so_far, start, thread_fault, up_to_next}
+use Rattle.omf_lowering.specs.Lowering.{Before, IsLowered, IsWideRecord, comdat_of, fault_of, faults_in, growths, growths_in, is_bakpat, is_cextdef, is_comdat, is_nbkpat, is_late, is_segdef, is_vendext, lowered_records, lowering_fault, named_fault, patches_in, pieces, replaced, replacement, so_far, start, thread_fault, up_to_next}
 use Rattle.omf_lowering.specs.Patches.{patched}
 use Rattle.omf_lowering.specs.Unrolled.{after_records}
 use Rattle.omf_lowering.specs.Values.{Tables}
@@ -48,9 +48,9 @@ by_list test (n ∷ ks) k all one =
     both true b e = (refl, e)
     both false b e = absurd cc
 
--- a type that this profile reads or carries is known, and none of CEXTDEF, BAKPAT, NBKPAT, COMDAT
+-- a type that this profile reads or carries is known, and none of CEXTDEF, BAKPAT, NBKPAT, COMDAT, VENDEXT
 abbrev is_plain : ℕ → Bool
-is_plain k = is_known k && (not (is_cextdef k) && (not (is_bakpat k) && (not (is_nbkpat k) && not (is_comdat k))))
+is_plain k = is_known k && (not (is_cextdef k) && (not (is_bakpat k) && (not (is_nbkpat k) && (not (is_comdat k) && not (is_vendext k)))))
 
 record Plain (k : ℕ) : Type 0 where
   known : is_known k ≡ true
@@ -58,14 +58,16 @@ record Plain (k : ℕ) : Type 0 where
   bakpat : is_bakpat k ≡ false
   nbkpat : is_nbkpat k ≡ false
   comdat : is_comdat k ≡ false
+  vendext : is_vendext k ≡ false
 
-plain_by : (a b c d e : Bool) → (a && (not b && (not c && (not d && not e)))) ≡ true → (a ≡ true) × (b ≡ false) × (c ≡ false) × (d ≡ false) × (e ≡ false)
-plain_by true false false false false h = (refl, refl, refl, refl, refl)
-plain_by true false false false true h = absurd cc
-plain_by true false false true e h = absurd cc
-plain_by true false true d e h = absurd cc
-plain_by true true c d e h = absurd cc
-plain_by false b c d e h = absurd cc
+plain_by : (a b c d e f : Bool) → (a && (not b && (not c && (not d && (not e && not f))))) ≡ true → (a ≡ true) × (b ≡ false) × (c ≡ false) × (d ≡ false) × (e ≡ false) × (f ≡ false)
+plain_by true false false false false false h = (refl, refl, refl, refl, refl, refl)
+plain_by true false false false false true h = absurd cc
+plain_by true false false false true f h = absurd cc
+plain_by true false false true e f h = absurd cc
+plain_by true false true d e f h = absurd cc
+plain_by true true c d e f h = absurd cc
+plain_by false b c d e f h = absurd cc
 
 plain_is : (k : ℕ) → is_taken k ≡ true → is_plain k ≡ true
 plain_is k e =
@@ -75,7 +77,9 @@ plain_is k e =
     ]
 
 plain : (k : ℕ) → is_taken k ≡ true → Plain k
-plain k e = let p = plain_by (is_known k) (is_cextdef k) (is_bakpat k) (is_nbkpat k) (is_comdat k) (plain_is k e) in record { known = p.0; cextdef = p.1; bakpat = p.2; nbkpat = p.3; comdat = p.4 }
+plain k e =
+    let p = plain_by (is_known k) (is_cextdef k) (is_bakpat k) (is_nbkpat k) (is_comdat k) (is_vendext k) (plain_is k e) in
+    record { known = p.0; cextdef = p.1; bakpat = p.2; nbkpat = p.3; comdat = p.4; vendext = p.5 }
 
 fifth : {A : Type 0} (a b c d : Bool) (x y z w v : A) → a ≡ false → b ≡ false → c ≡ false → d ≡ false → cond a x (cond b y (cond c z (cond d w v))) ≡ v
 fifth false false false false x y z w v e f g h = refl
@@ -110,7 +114,8 @@ IsSpelled r = IsTyped (typed r) r.body
 kept_one : (b : Before) (r : Raw) → IsTaken r → replacement b r ≡ r ∷ []
 kept_one b r taken =
     let p = plain r.kind taken in
-    fifth (is_cextdef r.kind) (is_bakpat r.kind) (is_nbkpat r.kind) (is_comdat r.kind) _ [] [] (given_by (made r.kind) (comdat_of b r)) (r ∷ []) p.cextdef p.bakpat p.nbkpat p.comdat
+    fifth (is_cextdef r.kind) (is_bakpat r.kind) (is_nbkpat r.kind) (is_comdat r.kind) _ [] [] (given_by (made r.kind) (comdat_of b r)) (cond (is_vendext r.kind) [] (r ∷ [])) p.cextdef p.bakpat p.nbkpat p.comdat
+    ∙ second (is_vendext r.kind) [] (r ∷ []) p.vendext
 
 kept_all : (b : Before) (xs : List Raw) → All IsTaken xs → (fold up_to_next b xs).records ≡ b.records ++ xs
 kept_all b [] taken = sym (append-nil b.records)

@@ -1,4 +1,4 @@
--- The data of an LIDATA, and the state after a CEXTDEF and after a COMDAT.
+-- The data of an LIDATA, and the state after a CEXTDEF, after a VENDEXT and after a COMDAT.
 use Rattle.std.proofs.Common.{◌≡◌, inl, inr, ℕ, ◌+◌, ◌-◌, Bool, true, false, cond, List, [], ◌∷◌, ◌++◌, length, map, Result, Ok, Err, refl, sym, ap, subst, ◌∙◌, append_assoc, append-nil, length-append}
 use Rattle.std.specs.Prelude.{OnOk, ◌||◌, ◌==◌}
 use Rattle.std.proofs.lemmas.Bool.{eqb-true, or_cases}
@@ -12,14 +12,14 @@ use Rattle.omf_records.specs.declared.record.Rec.{Rec as CodeRec}
 use Rattle.omf_records.specs.declared.record.Rec.TheVariants as code
 use Rattle.omf_records.specs.declared.record.Blocks.{Blocks}
 use Rattle.omf_lowering.specs.Comdats.{defined_by, given_by, growth, made, named_patches_by, new_of}
-use Rattle.omf_lowering.specs.Externals.{extdef, externals_by}
+use Rattle.omf_lowering.specs.Externals.{external_record, externals_by}
 use Rattle.omf_lowering.specs.Inner.State.{AreAppended, State, added}
-use Rattle.omf_lowering.specs.Lowering.{comdat_of, growths_in, instances_in, is_bakpat, is_cextdef, is_comdat, is_nbkpat, patches_in, replacement}
+use Rattle.omf_lowering.specs.Lowering.{comdat_of, growths_in, instances_in, is_bakpat, is_cextdef, is_comdat, is_nbkpat, is_vendext, patches_in, replacement}
 use Rattle.omf_lowering.specs.Patches.{piece_of, pieces_from, size_or_none}
 use Rattle.omf_lowering.specs.Values.{Instance, Resolved, Tables}
 use Rattle.omf_lowering.specs.declared.values.Piece.{Piece}
 use Rattle.omf_lowering.specs.declared.values.Patch.{Patch}
-use Rattle.omf_lowering.proofs.StateLaws.{extdefs_without, pieces-append}
+use Rattle.omf_lowering.proofs.StateLaws.{externals_without, pieces-append}
 
 iterated : ℕ → ℕ → ℕ → ℕ → ℕ → List Piece
 iterated number s o size at = (record { number = number; is_plain = false; segment = s; offset = o; size = size; at = at }) ∷ []
@@ -39,10 +39,13 @@ pub on_ok : {A E P Q : Type 0} (r : Result A E) → (P → Q) → OnOk r P → O
 on_ok (Ok x) f h = f h
 on_ok (Err e) f h = h
 
-pub added_cextdef : (s : State) (body : List ℕ) (sum : ℕ) (rs : List Raw) → rs ≡ s.before.records ++ map extdef (or_none (externals_by s.before.tables.names body))
+pub added_cextdef : (s : State) (body : List ℕ) (sum : ℕ) (rs : List Raw) → rs ≡ s.before.records ++ map external_record (or_none (externals_by s.before.tables body))
     → record s { before = record { tables = s.before.tables; instances = s.before.instances; records = rs } } ≡ added s (record { kind = 0xBC; body = body; checksum = sum })
 added_cextdef s body sum rs is =
-    rw (extdefs_without (length s.before.records) (or_none (externals_by s.before.tables.names body)), append-nil s.before.instances, append-nil s.data_before, append-nil s.patches, append-nil s.growths, is) refl
+    rw (externals_without (length s.before.records) (or_none (externals_by s.before.tables body)), append-nil s.before.instances, append-nil s.data_before, append-nil s.patches, append-nil s.growths, is) refl
+
+pub added_vendext : (s : State) (body : List ℕ) (sum : ℕ) → s ≡ added s (record { kind = 0xCE; body = body; checksum = sum })
+added_vendext s body sum = rw (append-nil s.before.instances, append-nil s.before.records, append-nil s.data_before, append-nil s.patches, append-nil s.growths) refl
 
 -- A COMDAT is of one of two types.
 of_comdat : (P : ℕ → Type 0) → P 0xC2 → P 0xC3 → (k : ℕ) → is_comdat k ≡ true → P k
@@ -83,12 +86,16 @@ module _ (s : State) (r : Raw) (x : Resolved) (comdat : is_comdat r.kind ≡ tru
   taken : is_taken r.kind ≡ false
   taken = of_comdat (λ k. is_taken k ≡ false) refl refl r.kind comdat
 
+  -- what would replace a record of another type
+  abbrev rest : List Raw
+  rest = cond (is_vendext r.kind) [] (r ∷ [])
+
   replaced_by : replacement s.before r ≡ made r.kind x
   replaced_by =
-      second_of (is_cextdef r.kind) _ (cond (is_bakpat r.kind) [] (cond (is_nbkpat r.kind) [] (cond (is_comdat r.kind) (given_by (made r.kind) (comdat_of s.before r)) (r ∷ [])))) cextdef
-      ∙ second_of (is_bakpat r.kind) [] (cond (is_nbkpat r.kind) [] (cond (is_comdat r.kind) (given_by (made r.kind) (comdat_of s.before r)) (r ∷ []))) bakpat
-      ∙ second_of (is_nbkpat r.kind) [] (cond (is_comdat r.kind) (given_by (made r.kind) (comdat_of s.before r)) (r ∷ [])) nbkpat
-      ∙ first_of (is_comdat r.kind) (given_by (made r.kind) (comdat_of s.before r)) (r ∷ []) comdat
+      second_of (is_cextdef r.kind) _ (cond (is_bakpat r.kind) [] (cond (is_nbkpat r.kind) [] (cond (is_comdat r.kind) (given_by (made r.kind) (comdat_of s.before r)) rest))) cextdef
+      ∙ second_of (is_bakpat r.kind) [] (cond (is_nbkpat r.kind) [] (cond (is_comdat r.kind) (given_by (made r.kind) (comdat_of s.before r)) rest)) bakpat
+      ∙ second_of (is_nbkpat r.kind) [] (cond (is_comdat r.kind) (given_by (made r.kind) (comdat_of s.before r)) rest) nbkpat
+      ∙ first_of (is_comdat r.kind) (given_by (made r.kind) (comdat_of s.before r)) rest comdat
       ∙ ap (given_by (made r.kind)) is
 
   pub added_comdat : (is_after : List Instance) (rs : List Raw) (ps : List Piece) (gs : List Patch)

@@ -1,5 +1,5 @@
 -- The state after one more record.
-use Rattle.std.proofs.Common.{◌≡◌, ℕ, suc, ◌+◌, List, [], ◌∷◌, ◌++◌, length, map, Result, Ok, Err, refl, sym, ap, ◌∙◌, append_assoc, append-nil, length-append, arith}
+use Rattle.std.proofs.Common.{◌≡◌, ℕ, suc, ◌+◌, Bool, true, false, List, [], ◌∷◌, ◌++◌, length, map, Result, Ok, Err, refl, sym, ap, ◌∙◌, append_assoc, append-nil, length-append, arith}
 use Rattle.std.proofs.lemmas.List.Sums.{fold-append}
 use Rattle.omf_frame.specs.Bytes.{with_before}
 use Rattle.omf_frame.specs.Fault.{Fault}
@@ -7,7 +7,7 @@ use Rattle.omf_frame.specs.Framing.{Raw}
 use Rattle.omf_records.specs.Inner.Reads.{and_then}
 use Rattle.omf_records.specs.Inner.Reading.{contents_or}
 use Rattle.omf_records.specs.Values.{At, ExternalItem, Externs}
-use Rattle.omf_lowering.specs.Externals.{extdef}
+use Rattle.omf_lowering.specs.Externals.{OwnExternal, external_record}
 use Rattle.omf_lowering.specs.Inner.State.{state_of, added}
 use Rattle.omf_lowering.specs.Lowering.{Before, so_far, start, up_to_next, replacement, replaced, pieces, patches_in, patches, growths_in, growths, faults, faults_in, lowering_fault}
 use Rattle.omf_lowering.specs.Patches.{piece_of, piece_in, pieces_from}
@@ -26,14 +26,18 @@ pieces-append first (x ∷ xs) ys =
     ap (λ l. piece_in first x ++ l) (pieces-append (first + 1) xs ys ∙ ap (λ n. pieces_from (first + 1) xs ++ pieces_from n ys) same)
     ∙ sym (append_assoc (piece_in first x) (pieces_from (first + 1) xs) (pieces_from (first + suc (length xs)) ys))
 
-no_piece : (number len : ℕ) (body : List ℕ) (r : Result (List (At ExternalItem)) Fault) → piece_of number 0x8C len (contents_or body (and_then r (λ x. Ok (Externs x)))) ≡ []
-no_piece number len body (Ok x) = refl
-no_piece number len body (Err e) = refl
+no_piece : (number kind len : ℕ) (body : List ℕ) (r : Result (List (At ExternalItem)) Fault) → piece_of number kind len (contents_or body (and_then r (λ x. Ok (Externs x)))) ≡ []
+no_piece number kind len body (Ok x) = refl
+no_piece number kind len body (Err e) = refl
 
--- EXTDEFs have no data
-pub extdefs_without : (first : ℕ) (es : List ExternalItem) → pieces_from first (map extdef es) ≡ []
-extdefs_without first [] = refl
-extdefs_without first (e ∷ es) = ap (λ l. l ++ pieces_from (first + 1) (map extdef es)) (no_piece first _ _ _) ∙ extdefs_without (first + 1) es
+external_without : (first : ℕ) (local : Bool) (item : ExternalItem) → piece_in first (external_record (record { is_local = local; item = item })) ≡ []
+external_without first true item = no_piece first 0xB4 _ _ _
+external_without first false item = no_piece first 0x8C _ _ _
+
+-- EXTDEFs and LEXTDEFs have no data
+pub externals_without : (first : ℕ) (es : List OwnExternal) → pieces_from first (map external_record es) ≡ []
+externals_without first [] = refl
+externals_without first (e ∷ es) = ap (λ l. l ++ pieces_from (first + 1) (map external_record es)) (external_without first e.is_local e.item) ∙ externals_without (first + 1) es
 
 pub so_far-more : (before : List Raw) (r : Raw) → so_far (before ++ r ∷ []) ≡ up_to_next (so_far before) r
 so_far-more before r = fold-append up_to_next start before (r ∷ [])

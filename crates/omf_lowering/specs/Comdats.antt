@@ -1,10 +1,11 @@
 -- A COMDAT as a segment of its own, with a public name, a mark and data (TIS OMF 1.1, "COMDAT", "SEGDEF", "PUBDEF", "COMENT", "LEDATA"). A linker joins pieces of one public
 -- segment, so a COMDAT with an explicit base becomes such a piece of it (this profile's rule).
-use Rattle.std.specs.Prelude.{ℕ, ◌+◌, ◌*◌, ◌-◌, ◌^◌, ◌%◌, List, [], ◌∷◌, ◌++◌, length, filter, fold, min, codes, bytes_eq, Bool, not, ◌==◌, ◌&&◌, nat_lt, nat_le, Option, Some, None, Result, Ok, Err, if◌then◌else◌}
+use Rattle.std.specs.Prelude.{ℕ, ◌+◌, ◌*◌, ◌-◌, ◌^◌, ◌%◌, List, [], ◌∷◌, ◌++◌, length, filter, fold, min, codes, bytes_eq, map, Bool, not, ◌==◌, ◌&&◌, nat_lt, nat_le, Option, Some, None, Result, Ok, Err, if◌then◌else◌}
 use Rattle.omf_frame.specs.Bytes.{is_one_of, last}
 use Rattle.omf_frame.specs.Fault.{Fault}
 use Rattle.omf_frame.specs.Fields.{index_bytes}
 use Rattle.omf_frame.specs.Framing.{Raw, is_taken, raw_of}
+use Rattle.omf_frame.specs.Types.{is_local as is_local_type}
 use Rattle.omf_frame.specs.declared.fault.Reason.TheVariants as reason
 -- computed: lengths_are_decided of omf_image.
 use Rattle.omf_image.specs.Inner.Expanding.{expanded_length}
@@ -23,21 +24,21 @@ use Rattle.omf_lowering.specs.Marks.{mark_contents}
 use Rattle.omf_lowering.specs.Inner.Readers.{nbkpat_whole}
 use Rattle.omf_lowering.specs.Patches.{placed, size_or_none}
 -- computed: readings_meet_layouts of omf_lowering.
-use Rattle.omf_lowering.specs.Values.{BaseItem, ComdatItem, Instance, Resolved, Tables, allocation, is_continued, is_iterated, is_local, selection}
+use Rattle.omf_lowering.specs.Values.{BaseItem, ComdatItem, Instance, Resolved, Tables, allocation, is_continued, is_iterated, is_local, is_local_name, selection}
 use Rattle.omf_lowering.specs.declared.values.Pattern.{Pattern}
 use Rattle.omf_lowering.specs.declared.values.Piece.{Piece}
 use Rattle.omf_lowering.specs.declared.values.Patch.{Patch}
 
--- The tables with what these contents define.
-abbrev pub defining : Tables → Contents → Tables
-defining t (Names items) = record t { names = t.names ++ defined_names (Names items) }
-defining t (Segment s) = record t { segments = t.segments ++ record { attribute = s.attribute; name = s.name.item; class = s.class.item; overlay = s.overlay } ∷ [] }
-defining t (Group g) = record t { groups = t.groups ++ g.name.item ∷ [] }
-defining t _ = t
+-- The tables with what the contents of a record of this type define. The names of an LLNAMES are local to the module (TIS OMF 1.1, "LLNAMES").
+abbrev pub defining : Tables → ℕ → Contents → Tables
+defining t kind (Names items) = record t { names = t.names ++ defined_names (Names items); locals = t.locals ++ map (λ n. is_local_type kind) items }
+defining t kind (Segment s) = record t { segments = t.segments ++ record { attribute = s.attribute; name = s.name.item; class = s.class.item; overlay = s.overlay } ∷ [] }
+defining t kind (Group g) = record t { groups = t.groups ++ g.name.item ∷ [] }
+defining t kind _ = t
 
 -- The tables with what a record defines. A record of a type that this profile does not read defines nothing.
 abbrev pub defined_by : Tables → Raw → Tables
-defined_by t r = if is_taken r.kind then defining t (typed r).contents else t
+defined_by t r = if is_taken r.kind then defining t r.kind (typed r).contents else t
 
 -- The most segments: an index has 15 bits.
 abbrev pub segment_limit : ℕ
@@ -99,6 +100,11 @@ abbrev pub text_by : At ℕ → Option (List ℕ) → Result (List ℕ) Fault
 text_by at None = Err (fault at.within reason.UndefinedName)
 text_by at (Some n) = Ok n
 
+-- A COMDAT is local if its name is. The local flag of a COMDAT whose name is not local is refused: a CEXTDEF before it is then an EXTDEF, for a public of another module
+-- (this profile's rule).
+abbrev pub local_by : ComdatItem → Bool → Result Bool Fault
+local_by x own = if is_local x.flags && not own then Err (fault x.name.within reason.UnsupportedType) else Ok own
+
 -- The COMDAT of a name.
 abbrev pub instance_of : List Instance → List ℕ → Option Instance
 instance_of instances text = last (filter (λ i. bytes_eq i.name text) instances)
@@ -121,8 +127,9 @@ resolved t instances number kind x = if is_full t instances x then Err (fault 0 
     and_then (end_by x.offset (data_size kind x)) (λ end.
     and_then (pattern_of t x x.base) (λ pattern.
     and_then (text_by x.name (entry t.names x.name.item)) (λ text.
+    and_then (local_by x (is_local_name t.locals x.name.item)) (λ local.
     and_then (own_of instances x (new_instance t instances number text)) (λ own.
-    Ok (record { item = x; end = end; pattern = pattern; own = own })))))
+    Ok (record { item = x; end = end; pattern = pattern; is_local = local; own = own }))))))
 
 -- The attributes of a COMDAT's segment: the alignment of the COMDAT, or of the pattern if that is 0; the combination and the width of the pattern.
 abbrev pub attribute_of : ℕ → ℕ → ℕ
@@ -144,9 +151,9 @@ abbrev pub group_of : Option BaseItem → ℕ
 group_of None = 0
 group_of (Some b) = b.group.item
 
--- The PUBDEF of a COMDAT, or the LPUBDEF of a local one: its name at the start of its segment.
+-- The PUBDEF of a COMDAT, or the LPUBDEF of one with a local name: its name at the start of its segment.
 abbrev pub pubdef : Resolved → Raw
-pubdef r = raw_of (if is_local r.item.flags then 0xB7 else 0x91)
+pubdef r = raw_of (if r.is_local then 0xB7 else 0x91)
     (index_bytes (group_of r.item.base) ++ (index_bytes r.own.segment ++ public_bytes 0x91 (record { name = r.own.name; offset = 0; type_index = r.item.type_index })))
 
 -- The LEDATA of a COMDAT, or the LIDATA of one with blocks, in its segment. Its fields have the width of the COMDAT's.

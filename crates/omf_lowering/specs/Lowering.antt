@@ -6,7 +6,7 @@ use Rattle.omf_frame.specs.Bytes.{is_one_of, with_before}
 use Rattle.omf_frame.specs.Fault.{Fault}
 use Rattle.omf_frame.specs.Framing.{Raw, raw_bytes, is_taken, is_end, front_record}
 use Rattle.omf_frame.specs.Types.{row}
-use Rattle.omf_frame.specs.declared.kinds.RecordType.TheVariants.{Cextdef, Bakpat, Comdat, Nbkpat, Segdef}
+use Rattle.omf_frame.specs.declared.kinds.RecordType.TheVariants.{Cextdef, Bakpat, Comdat, Nbkpat, Segdef, Vendext}
 use Rattle.omf_frame.specs.declared.fault.Place.{Place}
 use Rattle.omf_frame.specs.declared.fault.Reason.{Reason}
 use Rattle.omf_frame.specs.declared.fault.Reason.TheVariants as reason
@@ -17,7 +17,7 @@ use Rattle.omf_records.specs.Inner.Reading.{read_body}
 use Rattle.omf_records.specs.Inner.Reads.{and_then, or_none}
 use Rattle.omf_records.specs.Values.{Contents, is_wide}
 use Rattle.omf_lowering.specs.Comdats.{defined_by, given_by, growth, made, named_patches_by, new_of, resolved}
-use Rattle.omf_lowering.specs.Externals.{externals_by, extdef}
+use Rattle.omf_lowering.specs.Externals.{external_record, externals_by}
 -- computed: readings_meet_layouts of omf_lowering.
 use Rattle.omf_lowering.specs.Inner.Readers.{bakpat_whole, comdat_whole}
 use Rattle.omf_lowering.specs.Layouts.{Backpatches}
@@ -43,6 +43,9 @@ is_nbkpat kind = is_one_of (row Nbkpat).bytes kind
 abbrev pub is_comdat : ℕ → Bool
 is_comdat kind = is_one_of (row Comdat).bytes kind
 
+abbrev pub is_vendext : ℕ → Bool
+is_vendext kind = is_one_of (row Vendext).bytes kind
+
 abbrev pub is_segdef : ℕ → Bool
 is_segdef kind = is_one_of (row Segdef).bytes kind
 
@@ -56,14 +59,15 @@ pub record Before : Type 0 where
 abbrev pub comdat_of : Before → Raw → Result Resolved Fault
 comdat_of b r = and_then ((comdat_whole (is_wide r.kind)).read 3 r.body) (resolved b.tables b.instances (length b.records) r.kind)
 
--- What replaces a record: an EXTDEF for each external of a CEXTDEF, nothing for a BAKPAT or an NBKPAT, a segment of its own with a public name and data for a COMDAT, or
--- more data for one that is continued; every other record itself.
+-- What replaces a record: an EXTDEF or LEXTDEF for each external of a CEXTDEF, nothing for a BAKPAT or an NBKPAT, a segment of its own with a public name and data for a
+-- COMDAT, or more data for one that is continued, nothing for a VENDEXT, whose meaning is a vendor's (TIS OMF 1.1, "VENDEXT"; this profile's rule); every other record itself.
 abbrev pub replacement : Before → Raw → List Raw
 replacement b r =
-    if is_cextdef r.kind then map extdef (or_none (externals_by b.tables.names r.body))
+    if is_cextdef r.kind then map external_record (or_none (externals_by b.tables r.body))
     else if is_bakpat r.kind then []
     else if is_nbkpat r.kind then []
     else if is_comdat r.kind then given_by (made r.kind) (comdat_of b r)
+    else if is_vendext r.kind then []
     else r ∷ []
 
 -- The COMDATs that a record adds.
@@ -80,7 +84,7 @@ up_to_next b r = record {
 
 -- What a module has before its first record: nothing.
 abbrev pub no_tables : Tables
-no_tables = record { names = []; segments = []; groups = [] }
+no_tables = record { names = []; locals = []; segments = []; groups = [] }
 
 abbrev pub start : Before
 start = record { tables = no_tables; instances = []; records = [] }
@@ -151,7 +155,7 @@ thread_fault b = if (length b.instances == 0) && list_any (names_thread_past (le
 -- a record that this profile reads.
 abbrev pub fault_by : Before → List Piece → Raw → Option Fault
 fault_by b data_before r =
-    if is_cextdef r.kind then fault_of (externals_by b.tables.names r.body)
+    if is_cextdef r.kind then fault_of (externals_by b.tables r.body)
     else if is_bakpat r.kind then own_fault_in b.tables b.instances data_before ((bakpat_whole (is_wide r.kind)).read 3 r.body)
     else if is_nbkpat r.kind then fault_of (named_patches_by b.tables b.instances data_before r.kind r.body)
     else if is_comdat r.kind then option_or (fault_of (comdat_of b r)) (thread_fault b)

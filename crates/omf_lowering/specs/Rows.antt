@@ -59,3 +59,11 @@ g = hex (codes "C2 0D 00 00 10 02 00 00 00 00 01 04 B8 00 00 62")
 -- what replaces it after f
 abbrev pub g_made : List ℕ
 g_made = hex (codes "99 09 00 48 03 00 00 00 02 01 01 0F") ++ hex (codes "91 0D 00 00 03 04 43 4F 44 45 00 00 00 00 00 40") ++ f_mark ++ hex (codes "A0 07 00 03 00 00 B8 00 00 9E")
+
+-- an LLNAMES with the name u, which has index 5 after the base
+abbrev pub u : List ℕ
+u = hex (codes "CA 03 00 01 75 BD")
+
+-- the LPUBDEF of a COMDAT u
+abbrev pub u_public : List ℕ
+u_public = hex (codes "B7 0A 00 00 02 01 75 00 00 00 00 00 C7")

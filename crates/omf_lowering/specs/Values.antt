@@ -1,7 +1,8 @@
 -- The values of COMDATs (TIS OMF 1.1, "COMDAT"). A byte of packed bits is kept whole; definitions after the records extract its bits.
-use Rattle.std.specs.Prelude.{ℕ, ◌/◌, ◌%◌, Bool, List, Option}
+use Rattle.std.specs.Prelude.{ℕ, ◌/◌, ◌%◌, Bool, false, List, Option, unwrap_or}
 use Rattle.omf_frame.specs.Bytes.{has_bit}
 use Rattle.omf_records.specs.Values.{At}
+use Rattle.omf_check.specs.Tables.{entry}
 use Rattle.omf_lowering.specs.declared.values.Pattern.{Pattern}
 
 -- The base of a COMDAT with an explicit segment: group index, segment index, and a frame number if the segment index is 0.
@@ -38,11 +39,16 @@ selection attributes = attributes / 16
 abbrev pub allocation : ℕ → ℕ
 allocation attributes = attributes % 16
 
--- The tables of a module: its names, what each SEGDEF is a pattern of, and the name index of each GRPDEF.
+-- The tables of a module: its names, whether each is local, what each SEGDEF is a pattern of, and the name index of each GRPDEF.
 pub record Tables : Type 0 where
   pub names : List (List ℕ)
+  pub locals : List Bool
   pub segments : List Pattern
   pub groups : List ℕ
+
+-- Whether the name with an index is local.
+abbrev pub is_local_name : List Bool → ℕ → Bool
+is_local_name locals index = unwrap_or (entry locals index) false
 
 -- A COMDAT in the lowered module: its name, the index of its segment, and the number of the SEGDEF of this segment among the records, from 0.
 pub record Instance : Type 0 where
@@ -50,9 +56,10 @@ pub record Instance : Type 0 where
   pub segment : ℕ
   pub number : ℕ
 
--- A COMDAT with what it refers to: the end of its data in its segment, the pattern of its segment, and the instance that it is of.
+-- A COMDAT with what it refers to: the end of its data in its segment, the pattern of its segment, whether its name is local, and the instance that it is of.
 pub record Resolved : Type 0 where
   pub item : ComdatItem
   pub end : ℕ
   pub pattern : Pattern
+  pub is_local : Bool
   pub own : Instance

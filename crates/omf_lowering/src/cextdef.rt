@@ -1,9 +1,8 @@
-//! A CEXTDEF as EXTDEFs (TIS OMF 1.1, "CEXTDEF" and "EXTDEF").
+//! A CEXTDEF as EXTDEFs and LEXTDEFs (TIS OMF 1.1, "CEXTDEF", "EXTDEF" and "LEXTDEF").
 
 ghost use Rattle.std.specs.Prelude.{◌≡◌, ◌+◌, ◌<◌, ◌≤◌, ◌++◌, ◌∷◌, [], length, map, IfOk, IfErr, OnOk, None};
 ghost use Rattle.omf_records.specs.Inner.Reads.{or_none};
-ghost use Rattle.omf_records.specs.Values.{ExternalItem};
-ghost use Rattle.omf_lowering.specs.Externals.{all_of, extdef, externals_by, named};
+ghost use Rattle.omf_lowering.specs.Externals.{OwnExternal, all_of, external_record, externals_by, named};
 ghost use Rattle.omf_lowering.specs.Inner.State.{IsStop};
 ghost use Rattle.omf_lowering.specs.Lowering.{fault_of};
 
@@ -11,6 +10,7 @@ use crate::entries::{Entry, entries};
 use crate::fault::Stop;
 use crate::fields::{index_at, placed_index_at};
 use crate::record::Record;
+use crate::tables::{Tables, is_local_name};
 use crate::values::NamedExternal;
 use omf_frame::{Field, Index, Name, Reason};
 use omf_records::{At, LayoutFault};
@@ -34,67 +34,75 @@ impl Entry for NamedExternal {
     }
 }
 
-/// The EXTDEF with one external.
-fn extdef(alloc: Global, name: &Name<'_>, type_index: Index) -> Result<Record, AllocError>
-    ensures { IfOk result (λ r. r ≡ extdef (record { name = name.now; type_index = type_index })) }
+/// The EXTDEF with one external, or the LEXTDEF with a local one.
+fn external_record(
+    alloc: Global,
+    is_local: bool,
+    name: &Name<'_>,
+    type_index: Index,
+) -> Result<Record, AllocError>
+    ensures { IfOk result (λ r. r ≡ external_record (record { is_local = is_local; item = record { name = name.now; type_index = type_index } })) }
 {
     let mut body = Vec::new(alloc);
     name.put(&mut body)?;
     type_index.put(&mut body)?;
-    Ok(Record::made(0x8C, body))
+    let kind = if is_local { 0xB4 } else { 0x8C };
+    Ok(Record::made(kind, body))
 }
 
-/// Appends the EXTDEF of an external, by the table of names.
-fn push_extdef(
+/// Appends the record of an external, by the table of names.
+fn push_external(
     alloc: Global,
     records: &mut Vec<Record>,
-    names: &[Name<'_>],
+    tables: &Tables<'_>,
     external: &At<NamedExternal>,
 ) -> Result<(), Stop>
-    ensures ok { OnOk result ((e : ExternalItem) × (named names.now external.now ≡ Ok e) × (records.new.items ≡ records.old.items ++ extdef e ∷ [])) }
-    ensures err { IfErr result (λ stop. IsStop stop (fault_of (named names.now external.now))) }
+    ensures ok { OnOk result ((e : OwnExternal) × (named tables.now external.now ≡ Ok e) × (records.new.items ≡ records.old.items ++ external_record e ∷ [])) }
+    ensures err { IfErr result (λ stop. IsStop stop (fault_of (named tables.now external.now))) }
 {
     let name = &external.item.name;
     let index = usize::from(name.item.0);
-    if index == 0 || index > names.len() {
+    if index == 0 || index > tables.names.len() {
         return Err(Stop::At(LayoutFault {
             reason: Reason::UndefinedName,
             within: name.within,
         }));
     }
-    let record = extdef(alloc, &names[index - 1], external.item.type_index)?;
+    let is_local = is_local_name(&tables.locals, name.item);
+    let text = &tables.names[index - 1];
+    let record = external_record(alloc, is_local, text, external.item.type_index)?;
     Ok(records.push(record)?)
 }
 
-/// Appends the EXTDEFs of externals, by the table of names.
-fn push_extdefs(
+/// Appends the records of externals, by the table of names.
+fn push_externals(
     alloc: Global,
     records: &mut Vec<Record>,
-    names: &[Name<'_>],
+    tables: &Tables<'_>,
     externals: &[At<NamedExternal>],
 ) -> Result<(), Stop>
-    ensures ok { OnOk result (records.new.items ≡ records.old.items ++ map extdef (or_none (all_of (named names.now) externals.now))) }
-    ensures sound { OnOk result (fault_of (all_of (named names.now) externals.now) ≡ None) }
-    ensures err { IfErr result (λ stop. IsStop stop (fault_of (all_of (named names.now) externals.now))) }
+    ensures ok { OnOk result (records.new.items ≡ records.old.items ++ map external_record (or_none (all_of (named tables.now) externals.now))) }
+    ensures sound { OnOk result (fault_of (all_of (named tables.now) externals.now) ≡ None) }
+    ensures err { IfErr result (λ stop. IsStop stop (fault_of (all_of (named tables.now) externals.now))) }
 {
     for external in externals {
-        push_extdef(alloc, records, names, external)?;
+        push_external(alloc, records, tables, external)?;
     }
     Ok(())
 }
 
-/// Appends the EXTDEFs of a CEXTDEF with these contents, by the table of names.
+/// Appends the EXTDEFs and LEXTDEFs of a CEXTDEF with these contents, by the table of names.
 pub(crate) fn lower_externals(
     alloc: Global,
     records: &mut Vec<Record>,
-    names: &[Name<'_>],
+    tables: &Tables<'_>,
     body: &[u8],
 ) -> Result<(), Stop>
     requires { length body.now ≤ 65534 }
-    ensures ok { OnOk result (records.new.items ≡ records.old.items ++ map extdef (or_none (externals_by names.now body.now))) }
-    ensures sound { OnOk result (fault_of (externals_by names.now body.now) ≡ None) }
-    ensures err { IfErr result (λ stop. IsStop stop (fault_of (externals_by names.now body.now))) }
+    ensures ok { OnOk result (records.new.items ≡ records.old.items ++ map external_record (or_none (externals_by tables.now body.now))) }
+    ensures sound { OnOk result (fault_of (externals_by tables.now body.now) ≡ None) }
+    ensures err { IfErr result (λ stop. IsStop stop (fault_of (externals_by tables.now body.now))) }
 {
     let externals = entries::<NamedExternal>(alloc, body, false, 0)?;
-    push_extdefs(alloc, records, names, &externals)
+    push_externals(alloc, records, tables, &externals)
 }

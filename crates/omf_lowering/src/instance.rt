@@ -8,11 +8,12 @@ ghost use Rattle.omf_image.specs.Limits.{profile_limits};
 ghost use Rattle.omf_records.specs.Inner.Reads.{and_then};
 ghost use Rattle.omf_records.specs.Layout.{fault};
 ghost use Rattle.omf_records.specs.Values.{width};
-ghost use Rattle.omf_lowering.specs.Comdats.{allocated, class_of, data_size, end_by, explicit, index_of, instance_at, instance_of, is_full, is_joined, joined, new_instance, own_of, pattern_of, resolved, text_by};
+ghost use Rattle.omf_lowering.specs.Comdats.{allocated, class_of, data_size, end_by, explicit, index_of, instance_at, instance_of, is_full, is_joined, joined, local_by, new_instance, own_of, pattern_of, resolved, text_by};
 ghost use Rattle.omf_lowering.specs.Patches.{size_or_none};
+ghost use Rattle.omf_lowering.specs.Values.{is_local_name};
 
-use crate::comdat::{Base, Comdat, is_continued, is_iterated};
-use crate::tables::Tables;
+use crate::comdat::{Base, Comdat, is_continued, is_iterated, is_local};
+use crate::tables::{Tables, is_local_name};
 use crate::values::Pattern;
 use omf_frame::{Index, Name, Reason, Width};
 use omf_image::{Limits, expanded_len};
@@ -48,6 +49,7 @@ pub(crate) struct Resolved<'a> {
     pub end: u32,
     /// The pattern of its segment.
     pub pattern: Pattern,
+    pub is_local: bool,
     /// The instance that it is of.
     pub own: Instance<'a>,
 }
@@ -57,7 +59,7 @@ impl<'a> Model for Resolved<'a> {
 
     ghost Value = { ResolvedItem };
 
-    ghost view = { λ r. record { item = r.item; end = r.end; pattern = r.pattern; own = r.own } };
+    ghost view = { λ r. record { item = r.item; end = r.end; pattern = r.pattern; is_local = r.is_local; own = r.own } };
 }
 
 /// A fault at an offset in the record.
@@ -221,6 +223,18 @@ fn text_at<'a>(names: &[Name<'a>], at: &At<Index>) -> Result<Name<'a>, LayoutFau
     Ok(Name(name.0))
 }
 
+/// Whether a COMDAT is local: whether its name is, by the table of names.
+fn local_by(tables: &Tables<'_>, item: &Comdat<'_>) -> Result<bool, LayoutFault>
+    ensures { result ≡ local_by item.now (is_local_name tables.now.locals item.now.name.item) }
+{
+    let own = is_local_name(&tables.locals, item.name.item);
+    if is_local(item.flags) && !own {
+        Err(refused(item.name.within, Reason::UnsupportedType))
+    } else {
+        Ok(own)
+    }
+}
+
 /// A copy of a COMDAT.
 fn copy_of<'a>(instance: &Instance<'a>) -> Instance<'a>
     ensures { result ≡ instance.now }
@@ -321,11 +335,13 @@ pub(crate) fn resolve<'a>(
     let end = end_by(&item.offset, data_size(kind, &item))?;
     let pattern = pattern_of(tables, &item)?;
     let text = text_at(&tables.names, &item.name)?;
+    let is_local = local_by(tables, &item)?;
     let own = own_of(tables, instances, number, &item, text)?;
     Ok(Resolved {
         item,
         end,
         pattern,
+        is_local,
         own,
     })
 }

@@ -5,7 +5,7 @@ ghost use Rattle.byteorder.specs.Endian.{little_bytes};
 ghost use Rattle.omf_records.specs.Values.{width};
 ghost use Rattle.omf_lowering.specs.Comdats.{attribute_of, data_kind, data_record, group_of, made, mark, pubdef, segdef};
 
-use crate::comdat::{Base, is_continued, is_iterated, is_local};
+use crate::comdat::{Base, is_continued, is_iterated};
 use crate::instance::Resolved;
 use crate::marks::mark_contents;
 use crate::record::Record;
@@ -48,7 +48,7 @@ fn group_of(base: &Option<Base>) -> Index
     }
 }
 
-/// The PUBDEF of a COMDAT, or the LPUBDEF of a local one.
+/// The PUBDEF of a COMDAT, or the LPUBDEF of one with a local name.
 fn pubdef(alloc: Global, of: &Resolved<'_>) -> Result<Record, AllocError>
     ensures { IfOk result (λ r. r ≡ pubdef of.now) }
 {
@@ -58,7 +58,7 @@ fn pubdef(alloc: Global, of: &Resolved<'_>) -> Result<Record, AllocError>
     of.own.name.put(&mut body)?;
     Le32(0).put(&mut body)?;
     of.item.type_index.put(&mut body)?;
-    let kind = if is_local(of.item.flags) { 0xB7 } else { 0x91 };
+    let kind = if of.is_local { 0xB7 } else { 0x91 };
     Ok(Record::made(kind, body))
 }
 

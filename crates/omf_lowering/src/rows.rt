@@ -6,17 +6,21 @@ ghost use Rattle.omf_check.specs.Rows.{H, N, S, F, M};
 ghost use Rattle.omf_frame.specs.Rows.{hex};
 ghost use Rattle.omf_frame.specs.declared.fault.Reason.TheVariants as reason;
 ghost use Rattle.omf_lowering.specs.Lowering.{fault_at};
-ghost use Rattle.omf_lowering.specs.Rows.{Refuses, base, f, f_data, f_mark, f_public, f_segment, front, g, g_made, lowers, two_bytes, word};
+ghost use Rattle.omf_lowering.specs.Rows.{Refuses, base, f, f_data, f_mark, f_public, f_segment, front, g, g_made, lowers, two_bytes, u, u_public, word};
 
 pub mod unrolled;
 
-/// An external of a CEXTDEF has the name that its index has in the table of names.
+/// An external of a CEXTDEF has the name that its index has in the table of names. It is local if an LLNAMES has the name.
 pub fn externals()
     ensures one { lowers (H ++ N ++ hex (codes "BC 03 00 02 00 3F") ++ M) ≡ H ++ N ++ hex (codes "8C 04 00 01 54 00 1B") ++ M }
     ensures two { lowers (H ++ N ++ hex (codes "BC 05 00 02 00 01 05 37") ++ M) ≡ H ++ N ++ hex (codes "8C 04 00 01 54 00 1B") ++ hex (codes "8C 03 00 00 05 6C") ++ M }
     ensures long { lowers (H ++ N ++ hex (codes "BC 04 00 80 02 00 BE") ++ M) ≡ H ++ N ++ hex (codes "8C 04 00 01 54 00 1B") ++ M }
     ensures local { lowers (H ++ N ++ hex (codes "CA 03 00 01 55 DD") ++ hex (codes "BC 03 00 03 00 3E") ++ M)
-        ≡ H ++ N ++ hex (codes "CA 03 00 01 55 DD") ++ hex (codes "8C 04 00 01 55 00 1A") ++ M }
+        ≡ H ++ N ++ hex (codes "CA 03 00 01 55 DD") ++ hex (codes "B4 04 00 01 55 00 F2") ++ M }
+    ensures mixed { lowers (H ++ N ++ hex (codes "CA 03 00 01 55 DD") ++ hex (codes "BC 07 00 02 00 03 05 01 00 32") ++ M)
+        ≡ H ++ N ++ hex (codes "CA 03 00 01 55 DD") ++ hex (codes "8C 04 00 01 54 00 1B") ++ hex (codes "B4 04 00 01 55 05 ED") ++ hex (codes "8C 03 00 00 00 71") ++ M }
+    ensures after_local { lowers (H ++ hex (codes "CA 03 00 01 55 DD") ++ hex (codes "96 03 00 01 55 11") ++ hex (codes "BC 03 00 02 00 3F") ++ M)
+        ≡ H ++ hex (codes "CA 03 00 01 55 DD") ++ hex (codes "96 03 00 01 55 11") ++ hex (codes "8C 04 00 01 55 00 1A") ++ M }
     ensures none { lowers (H ++ hex (codes "BC 01 00 43") ++ M) ≡ H ++ M }
 {}
 
@@ -60,7 +64,7 @@ pub fn value_faults()
     ensures cut { Refuses front (hex (codes "B2 06 00 01 01 03 00 00 43")) 7 reason.Short }
 {}
 
-/// Framing: a fault is that of the first of the input's end, the type, the length and the checksum. Records of the standard that are not lowered are kept.
+/// Framing: a fault is that of the first of the input's end, the type, the length and the checksum. A VENDEXT has no other fault.
 pub fn framing()
     ensures end { Refuses H [] 0 reason.NoEnd }
     ensures unknown { Refuses H (hex (codes "7F")) 0 reason.UnknownType }
@@ -69,7 +73,14 @@ pub fn framing()
     ensures checksum { Refuses front (hex (codes "B2 07 00 01 01 01 00 34 12 01")) 9 reason.Checksum }
     ensures layout { Refuses H (hex (codes "96 03 00 05 41 21")) 3 reason.Short }
     ensures vendor { fault_at (records_in H) (hex (codes "CE 05 00 01 00 AA BB C7")) ≡ None }
-    ensures kept { lowers (H ++ hex (codes "CE 05 00 01 00 AA BB C7") ++ M) ≡ H ++ hex (codes "CE 05 00 01 00 AA BB C7") ++ M }
+    ensures vendor_checksum { Refuses H (hex (codes "CE 05 00 01 00 AA BB C8")) 7 reason.Checksum }
+{}
+
+/// A VENDEXT is left out. Records of the standard that are not lowered are kept.
+pub fn vendors()
+    ensures left_out { lowers (H ++ hex (codes "CE 05 00 01 00 AA BB C7") ++ N ++ M) ≡ H ++ N ++ M }
+    ensures data { lowers (front ++ hex (codes "CE 05 00 01 00 AA BB C7") ++ F ++ M) ≡ front ++ F ++ M }
+    ensures library { lowers (H ++ hex (codes "F1 02 00 00 0D") ++ M) ≡ H ++ hex (codes "F1 02 00 00 0D") ++ M }
 {}
 
 /// A COMDAT with an explicit base: a piece of the base segment with its own alignment, and a public name at its start.
@@ -83,9 +94,20 @@ pub fn comdats()
         ≡ base ++ hex (codes "9A 04 00 02 FF 01 60") ++ f_segment ++ hex (codes "91 0A 00 01 02 01 66 00 00 00 00 00 FB") ++ f_mark ++ f_data ++ M }
     ensures wide { lowers (base ++ hex (codes "C3 0F 00 00 10 05 00 00 00 00 00 00 01 03 B8 00 00 5D") ++ M)
         ≡ base ++ hex (codes "99 09 00 A8 03 00 00 00 02 01 01 AF") ++ f_public ++ f_mark ++ hex (codes "A1 09 00 02 00 00 00 00 B8 00 00 9C") ++ M }
-    ensures local { lowers (base ++ hex (codes "C2 0D 00 04 10 02 00 00 00 00 01 03 B8 00 00 5F") ++ M)
-        ≡ base ++ f_segment ++ hex (codes "B7 0A 00 00 02 01 66 00 00 00 00 00 D6") ++ f_mark ++ f_data ++ M }
     ensures second { lowers (base ++ f ++ g ++ M) ≡ base ++ f_segment ++ f_public ++ f_mark ++ f_data ++ g_made ++ M }
+{}
+
+/// A COMDAT whose name is of an LLNAMES is local, with or without its flag, and its CEXTDEF is an LEXTDEF.
+pub fn local_comdats()
+    ensures local { lowers (base ++ u ++ hex (codes "C2 0D 00 04 10 02 00 00 00 00 01 05 B8 00 00 5D") ++ M)
+        ≡ base ++ u ++ f_segment ++ u_public ++ f_mark ++ f_data ++ M }
+    ensures unflagged { lowers (base ++ u ++ hex (codes "C2 0D 00 00 10 02 00 00 00 00 01 05 B8 00 00 61") ++ M)
+        ≡ base ++ u ++ f_segment ++ u_public ++ f_mark ++ f_data ++ M }
+    ensures asked { lowers (base ++ u ++ hex (codes "BC 03 00 05 00 3C") ++ hex (codes "C2 0D 00 04 10 02 00 00 00 00 01 05 B8 00 00 5D") ++ M)
+        ≡ base ++ u ++ hex (codes "B4 04 00 01 75 00 D2") ++ f_segment ++ u_public ++ f_mark ++ f_data ++ M }
+    ensures continued { lowers (base ++ u ++ hex (codes "C2 0D 00 04 10 02 00 00 00 00 01 05 B8 00 00 5D") ++ hex (codes "C2 0B 00 05 10 02 03 00 00 00 01 05 90 83") ++ M)
+        ≡ base ++ u ++ hex (codes "99 09 00 48 04 00 00 00 02 01 01 0E") ++ u_public ++ f_mark ++ f_data ++ hex (codes "A0 05 00 02 03 00 90 C6") ++ M }
+    ensures flagged { Refuses base (hex (codes "C2 0D 00 04 10 02 00 00 00 00 01 03 B8 00 00 5F")) 11 reason.UnsupportedType }
 {}
 
 /// A COMDAT that the linker allocates: a segment of its name, of the class CODE if a name has that text.

@@ -2,8 +2,9 @@
 
 ghost use Rattle.std.specs.Prelude.{◌≡◌, ◌++◌, IfSome, IfNone, OnOk, None, Some, map};
 ghost use Rattle.omf_check.specs.Tables.{defined_names, entry};
-ghost use Rattle.omf_records.specs.Inner.Seen.{contents_seen};
+ghost use Rattle.omf_records.specs.Inner.Seen.{contents_seen, kind_seen};
 ghost use Rattle.omf_lowering.specs.Comdats.{defining};
+ghost use Rattle.omf_lowering.specs.Values.{is_local_name};
 
 use crate::values::Pattern;
 use omf_frame::{Index, Name};
@@ -11,10 +12,11 @@ use omf_records::{Items, Rec, Segment};
 use std::alloc::{AllocError, Global};
 use std::marker::Model;
 
-/// The tables of a module: its names, its segments, and the name index of each group.
+/// The tables of a module: its names and whether each is local, its segments, and the name index of each group.
 #[derive(Drop)]
 pub(crate) struct Tables<'a> {
     pub names: Vec<Name<'a>>,
+    pub locals: Vec<bool>,
     pub segments: Vec<Pattern>,
     pub groups: Vec<Index>,
 }
@@ -24,17 +26,35 @@ impl<'a> Model for Tables<'a> {
 
     ghost Value = { TablesItem };
 
-    ghost view = { λ t. record { names = t.names.items; segments = t.segments.items; groups = t.groups.items } };
+    ghost view = { λ t. record { names = t.names.items; locals = t.locals.items; segments = t.segments.items; groups = t.groups.items } };
 }
 
-/// Appends the names of an LNAMES.
-fn push_names<'a>(names: &mut Vec<Name<'a>>, items: Items<Name<'a>>) -> Result<(), AllocError>
-    ensures { OnOk result (names.new.items ≡ names.old.items ++ map (λ n. n.item) items.entry) }
+/// Appends the names of an LNAMES, or the local ones of an LLNAMES.
+fn push_names<'a>(
+    names: &mut Vec<Name<'a>>,
+    locals: &mut Vec<bool>,
+    is_local: bool,
+    items: Items<Name<'a>>,
+) -> Result<(), AllocError>
+    ensures names { OnOk result (names.new.items ≡ names.old.items ++ map (λ n. n.item) items.entry) }
+    ensures locals { OnOk result (locals.new.items ≡ locals.old.items ++ map (λ n. is_local) items.entry) }
 {
     for item in items {
         names.push(item.item)?;
+        locals.push(is_local)?;
     }
     Ok(())
+}
+
+/// Whether the name with an index is local.
+pub(crate) fn is_local_name(locals: &[bool], index: Index) -> bool
+    ensures { result ≡ is_local_name locals.now index }
+{
+    let index = usize::from(index.0);
+    if index == 0 || index > locals.len() {
+        return false;
+    }
+    locals[index - 1]
 }
 
 /// What a SEGDEF is a pattern of.
@@ -59,6 +79,7 @@ impl<'a> Tables<'a> {
     {
         Tables {
             names: Vec::new(alloc),
+            locals: Vec::new(alloc),
             segments: Vec::new(alloc),
             groups: Vec::new(alloc),
         }
@@ -66,11 +87,15 @@ impl<'a> Tables<'a> {
 
     /// Appends what a record defines.
     pub(crate) fn define(&mut self, rec: &Rec<'a>) -> Result<(), AllocError>
-        ensures { OnOk result (self.new ≡ defining self.old (contents_seen rec.now)) }
+        ensures { OnOk result (self.new ≡ defining self.old (kind_seen rec.now) (contents_seen rec.now)) }
     {
         match rec {
-            Rec::Names(items) => push_names(&mut self.names, items.iter()),
-            Rec::LocalNames(items) => push_names(&mut self.names, items.iter()),
+            Rec::Names(items) => {
+                push_names(&mut self.names, &mut self.locals, false, items.iter())
+            }
+            Rec::LocalNames(items) => {
+                push_names(&mut self.names, &mut self.locals, true, items.iter())
+            }
             Rec::Segment { segment, .. } => Ok(self.segments.push(pattern_of(segment))?),
             Rec::Group { name, .. } => Ok(self.groups.push(name.item)?),
             _ => Ok(()),

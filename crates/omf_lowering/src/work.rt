@@ -6,10 +6,10 @@ ghost use Rattle.omf_records.specs.Inner.Reading.{read_body};
 ghost use Rattle.omf_records.specs.Inner.Reads.{and_then, or_none};
 ghost use Rattle.omf_records.specs.Values.{is_wide};
 ghost use Rattle.omf_lowering.specs.Comdats.{defined_by, growth, new_of, resolved};
-ghost use Rattle.omf_lowering.specs.Externals.{extdef, externals_by};
+ghost use Rattle.omf_lowering.specs.Externals.{external_record, externals_by};
 ghost use Rattle.omf_lowering.specs.Inner.Readers.{comdat_whole};
 ghost use Rattle.omf_lowering.specs.Inner.State.{State, IsStop, added, seen, state_of};
-ghost use Rattle.omf_lowering.specs.Lowering.{fault_by, fault_of, is_bakpat, is_cextdef, is_comdat, is_late, is_nbkpat, named_fault};
+ghost use Rattle.omf_lowering.specs.Lowering.{fault_by, fault_of, is_bakpat, is_cextdef, is_comdat, is_late, is_nbkpat, is_vendext, named_fault};
 ghost use Rattle.omf_lowering.specs.Patches.{patched, piece_in, pieces_from, with_patch};
 
 use crate::bakpat::{backpatches_in, lower_named, lower_patches, named_in};
@@ -153,21 +153,6 @@ fn comdat_at<'a>(
     resolve(tables, instances, number, front.kind, item)
 }
 
-/// Appends the EXTDEFs of a CEXTDEF with these contents.
-fn append_externals(
-    alloc: Global,
-    records: &mut Vec<Record>,
-    tables: &Tables<'_>,
-    body: &[u8],
-) -> Result<(), Stop>
-    requires { length body.now ≤ 65534 }
-    ensures ok { OnOk result (records.new.items ≡ records.old.items ++ map extdef (or_none (externals_by tables.now.names body.now))) }
-    ensures sound { OnOk result (fault_of (externals_by tables.now.names body.now) ≡ None) }
-    ensures err { IfErr result (λ stop. IsStop stop (fault_of (externals_by tables.now.names body.now))) }
-{
-    lower_externals(alloc, records, &tables.names, body)
-}
-
 /// Whether a record is a SEGDEF after a COMDAT.
 fn is_late(instances: &[Instance<'_>], kind: u8) -> bool
     ensures { result ≡ is_late instances.now kind }
@@ -196,6 +181,7 @@ impl<'a> Work<'a> {
         requires bakpat { is_bakpat front.now.kind ≡ false }
         requires nbkpat { is_nbkpat front.now.kind ≡ false }
         requires comdat { is_comdat front.now.kind ≡ false }
+        requires vendext { is_vendext front.now.kind ≡ false }
         requires short { length front.now.body.now ≤ 65534 }
         ensures ok { OnOk result (self.new ≡ added self.old (seen front.now)) }
         ensures sound { OnOk result (fault_by self.old.before self.old.data_before (seen front.now) ≡ None) }
@@ -287,10 +273,11 @@ impl<'a> Work<'a> {
         ensures err { IfErr result (λ stop. IsStop stop (fault_by self.old.before self.old.data_before (seen front.now))) }
     {
         match front.kind {
-            0xBC => append_externals(alloc, &mut self.records, &self.tables, front.body),
+            0xBC => lower_externals(alloc, &mut self.records, &self.tables, front.body),
             0xB2 | 0xB3 => self.take_patches(alloc, front),
             0xC8 | 0xC9 => self.take_named(alloc, front),
             0xC2 | 0xC3 => self.take_comdat(alloc, front),
+            0xCE => Ok(()),
             _ => self.keep(alloc, front),
         }
     }

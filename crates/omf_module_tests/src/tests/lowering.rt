@@ -17,6 +17,13 @@ const EXTERNAL_T: &str = "8C 04 00 01 54 00 1B";
 
 const EXTERNAL_EMPTY: &str = "8C 03 00 00 05 6C";
 
+// An LLNAMES with the name U, a CEXTDEF of it, and the LEXTDEF that this becomes.
+const LOCAL_NAME: &str = "CA 03 00 01 55 DD";
+
+const LOCAL_EXTERNAL_BY_NAME: &str = "BC 03 00 01 00 40";
+
+const LOCAL_EXTERNAL: &str = "B4 04 00 01 55 00 F2";
+
 // BAKPATs of segment 1: 1234H to the word at 1; 148H to the byte at 0; FFFFFFFFH to the doubleword at 0.
 const WORD: &str = "B2 07 00 01 01 01 00 34 12 FE";
 
@@ -36,7 +43,7 @@ const DATA_AT_2: &str = "A0 06 00 01 02 00 05 00 52";
 
 const TWO_BYTES: &str = "A2 0A 00 01 00 00 02 00 00 00 01 AA A6";
 
-// A VENDEXT, which stays.
+// A VENDEXT, which is left out.
 const EXTENSION: &str = "CE 05 00 01 00 AA BB C7";
 
 // A COMDAT of the name 2 in segment 1, with the data AA BB, and the segment, the public name, the mark and the data that replace it.
@@ -56,7 +63,7 @@ const NAMED_WORD: &str = "C8 07 00 01 02 00 00 02 01 2B";
 const COMDAT_DATA_WORD: &str = "A0 06 00 02 00 00 AC BC F0";
 
 /// Records, and the records of the lowered module.
-static LOWERED: [(Rows, Rows); 10] = [
+static LOWERED: [(Rows, Rows); 11] = [
     (
         &[HEADER, NAMES, SEGMENT, DATA, FIXUP, END],
         &[HEADER, NAMES, SEGMENT, DATA, FIXUP, END],
@@ -84,7 +91,11 @@ static LOWERED: [(Rows, Rows); 10] = [
         &[HEADER, NAMES, SEGMENT, DATA, WORD, DATA_AT_2, END],
         &[HEADER, NAMES, SEGMENT, DATA_WORD, DATA_AT_2, END],
     ),
-    (&[HEADER, EXTENSION, END], &[HEADER, EXTENSION, END]),
+    (&[HEADER, EXTENSION, END], &[HEADER, END]),
+    (
+        &[HEADER, LOCAL_NAME, LOCAL_EXTERNAL_BY_NAME, END],
+        &[HEADER, LOCAL_NAME, LOCAL_EXTERNAL, END],
+    ),
     (
         &[HEADER, NAMES, SEGMENT, COMDAT, END],
         &[
