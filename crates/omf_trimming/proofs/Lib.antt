@@ -1,6 +1,9 @@
+pub mod AcceptedLaws
+pub mod AnewLaws
 pub mod ChoiceAllLaws
 pub mod ChoiceLaws
 pub mod ChoiceStayLaws
+pub mod LeftLaws
 pub mod SegmentLaws
 pub mod MarkLaws
 pub mod ProgramLaws
@@ -11,3 +14,5 @@ pub mod UnreachedLaws
 pub mod UseLaws
 pub mod WithoutLaws
 pub mod ReachedLaws
+pub mod RecLaws
+pub mod TripleLaws

@@ -1,5 +1,5 @@
 -- What is left of a module's records where segments are left out.
-use Rattle.std.proofs.Common.{◌≡◌, ℕ, suc, ◌+◌, ◌-◌, ◌≤◌, ◌<◌, List, [], ◌∷◌, ◌++◌, length, length-append, take, refl, sym, ap, ap₂, ◌∙◌, subst, arith, append_assoc, append-nil, false, Bool}
+use Rattle.std.proofs.Common.{◌≡◌, ℕ, suc, ◌+◌, ◌-◌, ◌≤◌, ◌<◌, List, [], ◌∷◌, ◌++◌, length, length-append, take, refl, sym, ap, ap₂, ◌∙◌, subst, arith, append_assoc, append-nil, true, false, cond, Bool}
 use Rattle.std.specs.Prelude.{All, flat_map, Option, Some, None, Result, Ok}
 use Rattle.std.specs.List.{last_or}
 use Rattle.std.proofs.lemmas.Grind.{flat_map-append}
@@ -11,7 +11,7 @@ use Rattle.omf_frame.specs.Framing.{Raw, after_front, front_record, present, raw
 use Rattle.omf_frame.proofs.FramingLaws.{after_raw, front_raw, present_raw}
 use Rattle.omf_image.specs.declared.limits.Limits.{Limits}
 use Rattle.omf_records.specs.Inner.Reading.{read_body, typed}
-use Rattle.omf_records.specs.Values.{Contents, Iterated, Plain, Rec, Segment}
+use Rattle.omf_records.specs.Values.{Contents, Fixups, Iterated, Plain, PublicItems, Publics, Rec, Segment}
 use Rattle.omf_check.specs.Listed.{IsReadable, StartsWithRecord}
 use Rattle.omf_check.specs.Module.{records_in}
 use Rattle.omf_check.specs.Tables.{data_in, defined_segments, last_data, segments}
@@ -19,9 +19,11 @@ use Rattle.omf_check.specs.WellFormed.{IsWellFormed, recs}
 use Rattle.omf_check.specs.declared.profile.Profile.{Profile}
 use Rattle.omf_check.proofs.ListedLaws.{rec_is}
 use Rattle.omf_check.proofs.WellLaws.{well-read}
-use Rattle.omf_trimming.specs.Without.{are_of, count_after, rest_by, rest_of, without}
-use Rattle.omf_trimming.specs.Inner.Rest.{RestSoFar, gone_after, rest_after}
+use Rattle.omf_trimming.specs.Without.{Left, Whole, Nothing, Anew, are_of, count_after, emptied, left_by, left_publics, raws_left, rest_of, threads_alone, without, written}
+use Rattle.omf_trimming.specs.Inner.Rest.{RestSoFar, bytes_by, gone_after, publics_left, rest_after}
 use Rattle.omf_trimming.specs.declared.without.LeftPublics.{LeftPublics}
+use Rattle.omf_trimming.specs.declared.without.LeftPublics.TheVariants.{AtStart, Gone}
+use Rattle.omf_trimming.proofs.LeftLaws.{data-more}
 
 -- What is left of the records so far, this many, and the records to come make the module without these segments.
 pub record IsRest (p : LeftPublics) (gone bytes : List ℕ) (number : ℕ) (s : RestSoFar) (left : List ℕ) : Type 0 where
@@ -35,7 +37,7 @@ pub record IsRest (p : LeftPublics) (gone bytes : List ℕ) (number : ℕ) (s : 
   pub same : s.gone ≡ gone
   pub defined : s.segments ≡ length (segments (recs before))
   pub went : s.after_gone ≡ are_of gone (last_data (recs before))
-  pub held : s.bytes ++ with_before (rest_of p gone) before rest ≡ without p gone bytes
+  pub held : s.bytes ++ flat_map raw_bytes (with_before (rest_of p gone) before rest) ≡ without p gone bytes
 
 pub rest-starts : (p : LeftPublics) (gone : List ℕ) (profile : Profile) (limits : Limits) (bytes left : List ℕ) (s : RestSoFar) → IsWellFormed profile limits bytes (records_in bytes) → left ≡ bytes
     → s ≡ (let y : RestSoFar = record { publics = p; gone = gone; segments = 0; after_gone = false; bytes = [] } in y) → IsRest p gone bytes 0 s left
@@ -69,28 +71,42 @@ count-low : (n : ℕ) (c : Contents) → count_after n c ≤ n + 1
 count-low n (Segment s) = omega arith
 count-low n _ = omega arith
 
-count-is : (n kind : ℕ) (c : Contents) → count_after n c ≡ n + length (defined_segments kind c)
+pub count-is : (n kind : ℕ) (c : Contents) → count_after n c ≡ n + length (defined_segments kind c)
 count-is n kind (Segment s) = omega arith
 count-is n kind _ = omega arith
 
-segments-more : (ms : List Rec) (r : Rec) → length (segments (ms ++ r ∷ [])) ≡ length (segments ms) + length (defined_segments r.kind r.contents)
+pub segments-more : (ms : List Rec) (r : Rec) → length (segments (ms ++ r ∷ [])) ≡ length (segments ms) + length (defined_segments r.kind r.contents)
 segments-more ms r =
     let own = λ (x : Rec). defined_segments x.kind x.contents in
     ap (λ xs. length xs) (flat_map-append own ms (r ∷ [])) ∙ length-append (segments ms) (own r ++ []) ∙ ap (λ xs. length (segments ms) + length xs) (append-nil (own r))
-
-last-more : {A : Type 0} (o : Option A) (xs ys : List A) → last_or o (xs ++ ys) ≡ last_or (last_or o xs) ys
-last-more o [] ys = refl
-last-more o (x ∷ xs) ys = last-more (Some x) xs ys
-
-pub data-more : (ms : List Rec) (r : Rec) → last_data (ms ++ r ∷ []) ≡ last_or (last_data ms) (data_in r.contents)
-data-more ms r =
-    let own = λ (x : Rec). data_in x.contents in
-    ap (λ xs. last_or None xs) (flat_map-append own ms (r ∷ [])) ∙ last-more None (flat_map own ms) (own r ++ []) ∙ ap (λ xs. last_or (last_data ms) xs) (append-nil (own r))
 
 gone-is : (gone : List ℕ) (s : RestSoFar) (o : Option Contents) (c : Contents) → s.gone ≡ gone → s.after_gone ≡ are_of gone o → gone_after s c ≡ are_of gone (last_or o (data_in c))
 gone-is gone s o (Plain d) e f = ap (λ (g : List ℕ). is_one_of g d.segment.item) e
 gone-is gone s o (Iterated d) e f = ap (λ (g : List ℕ). is_one_of g d.segment.item) e
 gone-is gone s o _ e f = f
+
+-- The bytes of what is left of a record.
+abbrev left_bytes : Raw → Left → List ℕ
+left_bytes r l = flat_map raw_bytes (raws_left r l)
+
+bytes-if : (r : Raw) (b : Bool) (one other : List ℕ) (l k : Left) → one ≡ left_bytes r l → other ≡ left_bytes r k → cond b one other ≡ left_bytes r (cond b l k)
+bytes-if r true one other l k e f = e
+bytes-if r false one other l k e f = f
+
+itself : (r : Raw) → raw_bytes r ≡ flat_map raw_bytes (r ∷ [])
+itself r = sym (append-nil (raw_bytes r))
+
+publics-bytes : (p : LeftPublics) (r : Raw) (q : PublicItems) → publics_left p r.kind q ≡ left_bytes r (left_publics p q)
+publics-bytes Gone r q = refl
+publics-bytes AtStart r q = sym (append-nil (publics_left AtStart r.kind q))
+
+bytes-left : (p : LeftPublics) (gone : List ℕ) (n : ℕ) (b : Bool) (r : Raw) (c : Contents) → bytes_by p gone n b (raw_bytes r) r.kind c ≡ left_bytes r (left_by p gone n b c)
+bytes-left p gone n b r (Segment s) = bytes-if r (is_one_of gone n) _ _ (Anew (Segment (emptied s))) Whole (itself (written r.kind (Segment (emptied s)))) (itself r)
+bytes-left p gone n b r (Publics q) = bytes-if r (is_one_of gone q.segment.item) _ _ (left_publics p q) Whole (publics-bytes p r q) (itself r)
+bytes-left p gone n b r (Plain d) = bytes-if r (is_one_of gone d.segment.item) _ _ Nothing Whole refl (itself r)
+bytes-left p gone n b r (Iterated d) = bytes-if r (is_one_of gone d.segment.item) _ _ Nothing Whole refl (itself r)
+bytes-left p gone n b r (Fixups subs) = bytes-if r b _ _ (Anew (Fixups (threads_alone subs))) Whole (itself (written r.kind (Fixups (threads_alone subs)))) (itself r)
+bytes-left p gone n b r _ = itself r
 
 module _ (p : LeftPublics) (gone bytes : List ℕ) (number : ℕ) (s : RestSoFar) (left : List ℕ) (a : IsRest p gone bytes number s left) (count : ℕ) (few : count ≡ length (records_in bytes)) (low : number < count) where
   pub some : 0 < length a.rest
@@ -149,7 +165,9 @@ module _ (p : LeftPublics) (gone bytes : List ℕ) (number : ℕ) (s : RestSoFar
       let earlier = recs a.before in
       let later : recs (a.before ++ first ∷ []) ≡ earlier ++ typed first ∷ [] = map-append typed a.before (first ∷ []) in
       let others = with_before (rest_of p gone) (a.before ++ first ∷ []) more in
-      let own = rest_by s.publics s.gone (s.segments + 1) s.after_gone (raw_bytes first) first.kind c in
+      let later_bytes = flat_map raw_bytes others in
+      let own = bytes_by s.publics s.gone (s.segments + 1) s.after_gone (raw_bytes first) first.kind c in
+      let now = rest_of p gone a.before first in
       let counts : t.segments ≡ count_after s.segments c = ap (λ (x : RestSoFar). x.segments) f in
       record {
         before = a.before ++ first ∷ [];
@@ -163,16 +181,18 @@ module _ (p : LeftPublics) (gone bytes : List ℕ) (number : ℕ) (s : RestSoFar
         defined = counts ∙ count-is s.segments first.kind c ∙ ap (λ (n : ℕ). n + length (defined_segments first.kind c)) a.defined ∙ sym (segments-more earlier (typed first)) ∙ ap (λ (rs : List Rec). length (segments rs)) (sym later);
         went = ap (λ (x : RestSoFar). x.after_gone) f ∙ gone-is gone s (last_data earlier) c a.same a.went ∙ ap (are_of gone) (sym (data-more earlier (typed first)) ∙ ap last_data (sym later));
         held =
-            ap (λ (x : RestSoFar). x.bytes ++ others) f ∙ append_assoc s.bytes own others
-            ∙ ap (λ (q : LeftPublics). s.bytes ++ (rest_by q s.gone (s.segments + 1) s.after_gone (raw_bytes first) first.kind c ++ others)) a.mode
-            ∙ ap (λ (g : List ℕ). s.bytes ++ (rest_by p g (s.segments + 1) s.after_gone (raw_bytes first) first.kind c ++ others)) a.same
-            ∙ ap (λ (n : ℕ). s.bytes ++ (rest_by p gone (n + 1) s.after_gone (raw_bytes first) first.kind c ++ others)) a.defined
-            ∙ ap (λ (b : Bool). s.bytes ++ (rest_by p gone (length (segments earlier) + 1) b (raw_bytes first) first.kind c ++ others)) a.went
-            ∙ ap (λ (rs : List Raw). s.bytes ++ with_before (rest_of p gone) a.before rs) (sym parts.2) ∙ a.held;
+            ap (λ (x : RestSoFar). x.bytes ++ later_bytes) f ∙ append_assoc s.bytes own later_bytes
+            ∙ ap (λ (q : LeftPublics). s.bytes ++ (bytes_by q s.gone (s.segments + 1) s.after_gone (raw_bytes first) first.kind c ++ later_bytes)) a.mode
+            ∙ ap (λ (g : List ℕ). s.bytes ++ (bytes_by p g (s.segments + 1) s.after_gone (raw_bytes first) first.kind c ++ later_bytes)) a.same
+            ∙ ap (λ (n : ℕ). s.bytes ++ (bytes_by p gone (n + 1) s.after_gone (raw_bytes first) first.kind c ++ later_bytes)) a.defined
+            ∙ ap (λ (b : Bool). s.bytes ++ (bytes_by p gone (length (segments earlier) + 1) b (raw_bytes first) first.kind c ++ later_bytes)) a.went
+            ∙ ap (λ (xs : List ℕ). s.bytes ++ (xs ++ later_bytes)) (bytes-left p gone (length (segments earlier) + 1) (are_of gone (last_data earlier)) first c)
+            ∙ ap (λ (xs : List ℕ). s.bytes ++ xs) (sym (flat_map-append raw_bytes now others))
+            ∙ ap (λ (rs : List Raw). s.bytes ++ flat_map raw_bytes (with_before (rest_of p gone) a.before rs)) (sym parts.2) ∙ a.held;
       }
 
 pub rest-ends : (p : LeftPublics) (gone bytes : List ℕ) (number count : ℕ) (s : RestSoFar) (left : List ℕ) → IsRest p gone bytes number s left → count ≡ length (records_in bytes) → count ≤ number → s.bytes ≡ without p gone bytes
 rest-ends p gone bytes number count s left a few high =
     let c = a.counted in
     let none : a.rest ≡ [] = nil_from_length a.rest (let z : length a.rest ≡ 0 = omega (arith, c, few, high) in z) in
-    sym (append-nil s.bytes) ∙ ap (λ (rs : List Raw). s.bytes ++ with_before (rest_of p gone) a.before rs) (sym none) ∙ a.held
+    sym (append-nil s.bytes) ∙ ap (λ (rs : List Raw). s.bytes ++ flat_map raw_bytes (with_before (rest_of p gone) a.before rs)) (sym none) ∙ a.held

@@ -7,7 +7,7 @@ use Rattle.omf_check.specs.Tables.{entry}
 use Rattle.omf_check.specs.declared.segment.SegInfo.{SegInfo}
 use Rattle.omf_trimming.specs.Reaching.{Node, always_stays}
 use Rattle.omf_trimming.specs.Inner.Reaching.{root_if}
-use Rattle.omf_trimming.proofs.SegmentLaws.{entry-suc}
+use Rattle.omf_placement.proofs.NamedLaws.{entry-suc}
 use Rattle.omf_trimming.specs.declared.optional.LeftOut.{LeftOut}
 
 pub root-flat : (o : LeftOut) (ns : List (List ℕ)) (j : ℕ) (ss : List (ℕ × SegInfo)) → flat_map (root_if o ns j) ss ≡ map (λ s. (let n : Node = (j, s.0) in n)) (filter (λ s. always_stays o ns s.1) ss)

@@ -13,7 +13,7 @@ use Rattle.omf_reloc.specs.Inner.Pieces.{one_by_one}
 use Rattle.omf_reloc.specs.Plain.{End, Fixed, Kept, Piece, PlainFixup, piece_of}
 use Rattle.omf_trimming.specs.Reaching.{piece_uses, record_uses, segment_of, targets_of, uses}
 use Rattle.omf_trimming.specs.Inner.Uses.{Buckets, bucket_with, filled, module_uses, piece_after, uses_from, with_use}
-use Rattle.omf_trimming.proofs.RestLaws.{data-more}
+use Rattle.omf_trimming.proofs.LeftLaws.{data-more}
 
 -- One piece, with each of its fixups a piece of its own.
 fixups-one : (last kind : ℕ) (fs : List PlainFixup) (ps : List Piece) → uses_from last (map (λ f. Fixed kind (f ∷ [])) fs ++ ps) ≡ piece_uses last (Fixed kind fs) ++ uses_from last ps

@@ -7,3 +7,4 @@ pub mod ReachingLaws
 pub mod ReachingRows
 pub mod Trimmed
 pub mod Without
+pub mod WithoutLaws

@@ -1,11 +1,12 @@
 -- The segments of a program that its starts and its data reach, and the modules without those of the others that may be left out: debug information, which a linker lays in
 -- no memory, and code (this profile's rule; as Open Watcom's OPTION ELIMINATE, which leaves out code alone).
-use Rattle.std.specs.Prelude.{◌≡◌, ℕ, ◌+◌, ◌-◌, ◌≤◌, List, [], ◌∷◌, ◌++◌, length, drop, map, flat_map, filter, codes, bytes_eq, All, Contains, Bool, true, false, not, ◌==◌, ◌&&◌, ◌||◌, Option, Some, None, is_some, option_to_list, slice_get, if◌then◌else◌}
+use Rattle.std.specs.Prelude.{◌≡◌, ℕ, ◌+◌, ◌≤◌, List, [], ◌∷◌, ◌++◌, length, map, flat_map, filter, codes, bytes_eq, All, Contains, Bool, true, false, not, ◌==◌, ◌&&◌, ◌||◌, Option, Some, None, is_some, option_to_list, slice_get, if◌then◌else◌}
 use Rattle.std.specs.List.{AllZip, enumerate_from, list_any}
 use Rattle.omf_frame.specs.Bytes.{with_before}
 use Rattle.omf_records.specs.Values.{Contents, GroupItem, Iterated, Plain, Rec}
 use Rattle.omf_records.specs.declared.method.Kind.{Kind}
 use Rattle.omf_records.specs.declared.method.Kind.TheVariants as kinds
+use Rattle.omf_check.specs.Classes.{is_code_class}
 use Rattle.omf_check.specs.Module.{Module, recs_of, typed_modules}
 use Rattle.omf_check.specs.Tables.{entry, groups, last_data, names, segments, subrecords}
 use Rattle.omf_check.specs.Threads.{PlainReference}
@@ -102,11 +103,8 @@ next_in links n m = flat_map (means links m n.0) (targets_of n.1 (uses m))
 abbrev pub next : List (List Rec) → Node → List Node
 next ms n = flat_map (next_in (linkage ms) n) (option_to_list (slice_get ms n.0))
 
--- The classes of segments that may be left out: of code those that end in CODE; of debug information DEBSYM and DEBTYP, Microsoft's, of segments $$SYMBOLS and $$TYPES, and
+-- The classes of segments that may be left out: of code, and of debug information DEBSYM and DEBTYP, Microsoft's, of segments $$SYMBOLS and $$TYPES, and
 -- DWARF, Watcom's (this profile's rule).
-abbrev pub is_code_class : List ℕ → Bool
-is_code_class c = bytes_eq (drop (length c - 4) c) (codes "CODE")
-
 abbrev pub is_debug_class : List ℕ → Bool
 is_debug_class c = bytes_eq c (codes "DEBSYM") || (bytes_eq c (codes "DEBTYP") || bytes_eq c (codes "DWARF"))
 

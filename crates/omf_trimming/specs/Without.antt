@@ -1,16 +1,12 @@
 -- A module without some of its segments, as a linker leaves them out.
-use Rattle.std.specs.Prelude.{◌≡◌, ◌⊎◌, ℕ, ◌+◌, ◌*◌, ◌%◌, List, [], ◌∷◌, length, filter, map, Bool, true, false, Option, Some, None, if◌then◌else◌}
+use Rattle.std.specs.Prelude.{◌≡◌, ℕ, ◌+◌, ◌*◌, ◌%◌, List, [], ◌∷◌, length, filter, map, flat_map, Bool, true, false, Option, Some, None, if◌then◌else◌}
 use Rattle.omf_frame.specs.Bytes.{is_one_of, with_before}
 use Rattle.omf_frame.specs.Framing.{Raw, raw_bytes, raw_of}
-use Rattle.omf_frame.specs.declared.fault.Place.{Place}
-use Rattle.omf_frame.specs.declared.fault.Reason.{Reason}
-use Rattle.omf_image.specs.Limits.{profile_limits}
 -- computed: readings_meet_layouts and contents_are_typed_once of omf_records.
 use Rattle.omf_records.specs.Inner.Reading.{typed}
 use Rattle.omf_records.specs.Shortest.{contents_bytes}
-use Rattle.omf_records.specs.Values.{At, Contents, Fixup, Fixups, Iterated, Plain, PublicItem, PublicItems, Publics, Segment, SegmentItem, Subrecord, Thread, combination}
+use Rattle.omf_records.specs.Values.{At, Contents, Fixup, Fixups, Iterated, Plain, PublicItem, PublicItems, Publics, Rec, Segment, SegmentItem, Subrecord, Thread, combination}
 use Rattle.omf_check.specs.Module.{Module, records_in}
-use Rattle.omf_check.specs.Refusal.{IsRefused}
 use Rattle.omf_check.specs.Tables.{last_data, segments}
 use Rattle.omf_check.specs.WellFormed.{recs}
 use Rattle.omf_trimming.specs.declared.without.LeftPublics.{LeftPublics}
@@ -38,7 +34,7 @@ abbrev pub at_start : At PublicItem → At PublicItem
 at_start p = record p { item = record p.item { offset = 0 } }
 
 abbrev pub started : PublicItems → PublicItems
-started p = record p { frame = None; items = map at_start p.items }
+started p = record p { items = map at_start p.items }
 
 -- Whether data are of one of these segments.
 abbrev pub are_of : List ℕ → Option Contents → Bool
@@ -46,39 +42,58 @@ are_of gone (Some (Plain d)) = is_one_of gone d.segment.item
 are_of gone (Some (Iterated d)) = is_one_of gone d.segment.item
 are_of gone _ = false
 
--- The bytes that are left of a record of these bytes, if these segments are left out: of a SEGDEF of one of them, which would define the segment with this index, an
--- empty SEGDEF; of a PUBDEF or LPUBDEF in one of them nothing, or its publics at the start of the segment; of data in one nothing; of a FIXUPP after such data the
--- THREADs. Every other record stays byte for byte.
-abbrev pub written : ℕ → Contents → List ℕ
-written kind c = raw_bytes (raw_of kind (contents_bytes kind c))
+-- What is left of a record: all of it, nothing, or a record of its type with other contents.
+pub data Left : Type 0 where
+  Whole : Left
+  Nothing : Left
+  Anew : Contents → Left
 
-abbrev pub public_rest : LeftPublics → ℕ → PublicItems → List ℕ
-public_rest Gone kind p = []
-public_rest AtStart kind p = written kind (Publics (started p))
+-- What is left if these segments are left out: of a SEGDEF of one of them, which would define the segment with this index, an empty SEGDEF; of a PUBDEF or LPUBDEF in one
+-- of them nothing, or its publics at the start of the segment; of data in one nothing; of a FIXUPP after such data the THREADs. Every other record stays.
+abbrev pub left_publics : LeftPublics → PublicItems → Left
+left_publics Gone p = Nothing
+left_publics AtStart p = Anew (Publics (started p))
 
-abbrev pub rest_by : LeftPublics → List ℕ → ℕ → Bool → List ℕ → ℕ → Contents → List ℕ
-rest_by publics gone segment after_gone bytes kind (Segment s) = if is_one_of gone segment then written kind (Segment (emptied s)) else bytes
-rest_by publics gone segment after_gone bytes kind (Publics p) = if is_one_of gone p.segment.item then public_rest publics kind p else bytes
-rest_by publics gone segment after_gone bytes kind (Plain d) = if is_one_of gone d.segment.item then [] else bytes
-rest_by publics gone segment after_gone bytes kind (Iterated d) = if is_one_of gone d.segment.item then [] else bytes
-rest_by publics gone segment after_gone bytes kind (Fixups subs) = if after_gone then written kind (Fixups (threads_alone subs)) else bytes
-rest_by publics gone segment after_gone bytes kind _ = bytes
+abbrev pub left_by : LeftPublics → List ℕ → ℕ → Bool → Contents → Left
+left_by publics gone segment after_gone (Segment s) = if is_one_of gone segment then Anew (Segment (emptied s)) else Whole
+left_by publics gone segment after_gone (Publics p) = if is_one_of gone p.segment.item then left_publics publics p else Whole
+left_by publics gone segment after_gone (Plain d) = if is_one_of gone d.segment.item then Nothing else Whole
+left_by publics gone segment after_gone (Iterated d) = if is_one_of gone d.segment.item then Nothing else Whole
+left_by publics gone segment after_gone (Fixups subs) = if after_gone then Anew (Fixups (threads_alone subs)) else Whole
+left_by publics gone segment after_gone _ = Whole
 
-abbrev pub rest_of : LeftPublics → List ℕ → List Raw → Raw → List ℕ
-rest_of publics gone before r = rest_by publics gone (length (segments (recs before)) + 1) (are_of gone (last_data (recs before))) (raw_bytes r) r.kind (typed r).contents
+abbrev pub left_after : LeftPublics → List ℕ → List Rec → Contents → Left
+left_after publics gone before c = left_by publics gone (length (segments before) + 1) (are_of gone (last_data before)) c
 
--- The bytes of a module without these segments.
+-- The records that are left: byte for byte, or with the other contents in their shortest encoding.
+abbrev pub written : ℕ → Contents → Raw
+written kind c = raw_of kind (contents_bytes kind c)
+
+abbrev pub raws_left : Raw → Left → List Raw
+raws_left r Whole = r ∷ []
+raws_left r Nothing = []
+raws_left r (Anew c) = written r.kind c ∷ []
+
+abbrev pub rest_of : LeftPublics → List ℕ → List Raw → Raw → List Raw
+rest_of publics gone before r = raws_left r (left_after publics gone (recs before) (typed r).contents)
+
+-- The records of a module without these segments, and its bytes.
+abbrev pub records_without : LeftPublics → List ℕ → List Raw → List Raw
+records_without publics gone rs = with_before (rest_of publics gone) [] rs
+
 abbrev pub without : LeftPublics → List ℕ → List ℕ → List ℕ
-without publics gone bytes = with_before (rest_of publics gone) [] (records_in bytes)
+without publics gone bytes = flat_map raw_bytes (records_without publics gone (records_in bytes))
 
--- A module that would be refused without these segments, and so stays as it was.
-pub record IsKept (publics : LeftPublics) (gone : List ℕ) (m out : Module) : Type 0 where
-  pub same : out ≡ m
-  pub why : Reason
-  pub at : Place
-  pub refused : IsRefused m.profile profile_limits (without publics gone m.bytes) why at
+-- The typed records that are left, and those of a module.
+abbrev pub recs_left : Rec → Left → List Rec
+recs_left t Whole = t ∷ []
+recs_left t Nothing = []
+recs_left t (Anew c) = (record { kind = t.kind; contents = c }) ∷ []
+
+abbrev pub recs_without : LeftPublics → List ℕ → List Rec → List Rec
+recs_without publics gone m = with_before (λ before t. recs_left t (left_after publics gone before t.contents)) [] m
 
 -- A module without these segments. Without none it is itself.
 abbrev pub IsWithout : LeftPublics → List ℕ → Module → Module → Type 0
 IsWithout publics [] m out = out ≡ m
-IsWithout publics (s ∷ ss) m out = (out ≡ record m { bytes = without publics (s ∷ ss) m.bytes }) ⊎ IsKept publics (s ∷ ss) m out
+IsWithout publics (s ∷ ss) m out = out ≡ record m { bytes = without publics (s ∷ ss) m.bytes }

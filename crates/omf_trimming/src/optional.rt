@@ -3,9 +3,9 @@
 ghost use Rattle.std.specs.Prelude.{◌≡◌, ◌==◌, ◌++◌, IfOk, OnOk, length, not};
 ghost use Rattle.omf_check.specs.Module.{recs_of, typed_modules};
 ghost use Rattle.omf_check.specs.Tables.{names};
-ghost use Rattle.omf_trimming.specs.Reaching.{always_stays, has_optional, is_code_class, is_debug_class, is_optional_class, is_optional_name, optional_segment, optional_segments};
+ghost use Rattle.omf_trimming.specs.Reaching.{always_stays, has_optional, is_debug_class, is_optional_class, is_optional_name, optional_segment, optional_segments};
 
-use omf_check::{Checked, SegInfo};
+use omf_check::{Checked, SegInfo, is_code_class};
 use omf_frame::Name;
 use std::alloc::{AllocError, Global};
 
@@ -16,14 +16,6 @@ pub struct LeftOut {
     pub code: bool,
     /// Segments of debug information: the classes DEBSYM, DEBTYP and DWARF.
     pub debug: bool,
-}
-
-/// Whether a class is one of code: its last letters are CODE.
-fn is_code_class(class: &[u8]) -> bool
-    ensures { result ≡ is_code_class class.now }
-{
-    let front = class.len().saturating_sub(4);
-    class.split_at(front).1 == b"CODE".as_slice()
 }
 
 /// Whether a class is one of debug information.

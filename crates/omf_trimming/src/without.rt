@@ -1,7 +1,10 @@
 //! A module without some segments.
 
 ghost use Rattle.std.specs.Prelude.{◌≡◌, IfOk};
-ghost use Rattle.omf_trimming.specs.Without.{IsWithout, without};
+ghost use Rattle.omf_check.specs.Module.{records_in};
+ghost use Rattle.omf_check.specs.WellFormed.{IsWellFormed};
+ghost use Rattle.omf_image.specs.Limits.{profile_limits};
+ghost use Rattle.omf_trimming.specs.Without.{IsWithout, records_without, without};
 
 mod rest;
 
@@ -20,14 +23,15 @@ pub enum LeftPublics {
     AtStart,
 }
 
-/// The bytes of a module without these segments.
+/// The bytes of a module without these segments, which are a module again.
 fn without_bytes(
     alloc: Global,
     module: &Checked,
     publics: LeftPublics,
     gone: &[u16],
 ) -> Result<Vec<u8>, AllocError>
-    ensures { IfOk result (λ v. v.items ≡ without publics gone.now «module».now.bytes) }
+    ensures bytes { IfOk result (λ v. v.items ≡ without publics gone.now «module».now.bytes) }
+    ensures well_formed { IfOk result (λ v. IsWellFormed «module».now.profile profile_limits v.items (records_without publics gone.now (records_in «module».now.bytes))) }
 {
     let mut rest = Rest::new(alloc, publics, gone);
     let mut left = module.bytes();
@@ -40,11 +44,11 @@ fn without_bytes(
     Ok(rest.out)
 }
 
-/// A module without these segments: it is checked again. If it were refused, it would stay as it was.
+/// A module without these segments. It is checked again, since only a check makes a `Checked`; its bytes are never refused.
 ///
 /// # Errors
 ///
-/// `AllocError` if memory runs out. The same if the check reads less than these bytes, which is not met: a MODEND is the last record.
+/// `AllocError` if memory runs out.
 pub(crate) fn without(
     alloc: Global,
     module: Checked,
@@ -58,8 +62,8 @@ pub(crate) fn without(
     }
     let bytes = without_bytes(alloc, &module, publics, gone)?;
     match check(alloc, &mut Bytes::new(&bytes), module.profile()) {
-        Ok(checked) if checked.bytes().len() == bytes.len() => Ok(checked),
-        Ok(_) | Err(CheckFault::Memory | CheckFault::Read) => Err(AllocError),
-        Err(CheckFault::Refused { .. }) => Ok(module),
+        Ok(checked) => Ok(checked),
+        Err(CheckFault::Memory | CheckFault::Read) => Err(AllocError),
+        Err(CheckFault::Refused { .. }) => unreachable!(),
     }
 }

@@ -2,18 +2,8 @@
 
 ghost use Rattle.std.specs.Prelude.{◌≡◌, ◌∷◌, [], codes, false, true};
 ghost use Rattle.omf_check.specs.Threads.{T0, T1};
-ghost use Rattle.omf_trimming.specs.Reaching.{is_code_class, is_debug_class, next, optional_segments, roots, unreached, uses};
+ghost use Rattle.omf_trimming.specs.Reaching.{is_debug_class, next, optional_segments, roots, unreached, uses};
 ghost use Rattle.omf_trimming.specs.ReachingRows.{asks, code_out, debug_out, defines, one_refers, starts, symbols};
-
-/// A class is one of code if its last letters are CODE.
-pub fn classes_of_code()
-    ensures code { is_code_class (codes "CODE") ≡ true }
-    ensures far { is_code_class (codes "MAIN_CODE") ≡ true }
-    ensures data { is_code_class (codes "DATA") ≡ false }
-    ensures lower { is_code_class (codes "code") ≡ false }
-    ensures longer { is_code_class (codes "CODES") ≡ false }
-    ensures short { is_code_class (codes "ODE") ≡ false }
-{}
 
 /// The classes of debug information.
 pub fn classes_of_debug_information()

@@ -5,10 +5,10 @@ ghost use Rattle.byteorder.specs.Endian.{little_bytes};
 ghost use Rattle.omf_frame.specs.Bytes.{is_one_of};
 ghost use Rattle.omf_frame.specs.Framing.{raw_bytes, raw_of};
 ghost use Rattle.omf_records.specs.Inner.Seen.{contents_seen, kind_seen};
-ghost use Rattle.omf_records.specs.Shortest.{contents_bytes, public_bytes};
+ghost use Rattle.omf_records.specs.Shortest.{contents_bytes, option_bytes, public_bytes};
 ghost use Rattle.omf_records.specs.Values.{Fixups, Publics as PublicsContents, Segment as SegmentContents, width};
-ghost use Rattle.omf_trimming.specs.Without.{at_start, emptied, public_rest, started, threads_alone, written};
-ghost use Rattle.omf_trimming.specs.Inner.Rest.{public_items, rest_after, thread_bytes, with_bytes};
+ghost use Rattle.omf_trimming.specs.Without.{at_start, emptied, started, threads_alone};
+ghost use Rattle.omf_trimming.specs.Inner.Rest.{bytes_of, public_items, publics_left, rest_after, thread_bytes, with_bytes};
 
 use crate::without::LeftPublics;
 use omf_check::Publics;
@@ -49,7 +49,7 @@ fn put_emptied(
     kind: u8,
     segment: &Segment,
 ) -> Result<(), AllocError>
-    ensures { OnOk result (out.new.items ≡ out.old.items ++ written kind (SegmentContents (emptied segment.now))) }
+    ensures { OnOk result (out.new.items ≡ out.old.items ++ bytes_of kind (SegmentContents (emptied segment.now))) }
 {
     let attribute = segment.attribute.byte();
     let mut body = Vec::new(alloc);
@@ -73,6 +73,16 @@ fn put_started(out: &mut Vec<u8>, kind: u8, public: &Public<'_>) -> Result<(), A
     moved.put(kind, out)
 }
 
+/// Appends the base frame number of a PUBDEF, if it has one.
+fn put_frame(out: &mut Vec<u8>, frame: Option<u16>) -> Result<(), AllocError>
+    ensures { OnOk result (out.new.items ≡ out.old.items ++ option_bytes (little_bytes 2) frame) }
+{
+    match frame {
+        Some(frame) => Le16(frame).put(out),
+        None => Ok(()),
+    }
+}
+
 /// The contents of a PUBDEF with its publics at the start of their segment.
 fn started(alloc: Global, kind: u8, publics: &Publics<'_>) -> Result<Vec<u8>, AllocError>
     ensures { IfOk result (λ v. v.items ≡ contents_bytes kind (PublicsContents (started (public_items publics.now)))) }
@@ -80,6 +90,7 @@ fn started(alloc: Global, kind: u8, publics: &Publics<'_>) -> Result<Vec<u8>, Al
     let mut body = Vec::new(alloc);
     publics.group.item.put(&mut body)?;
     publics.segment.item.put(&mut body)?;
+    put_frame(&mut body, publics.frame)?;
     for public in publics.items.iter() {
         put_started(&mut body, kind, &public.item)?;
     }
@@ -170,7 +181,7 @@ impl<'a> Rest<'a> {
         publics: &Publics<'_>,
         bytes: &[u8],
     ) -> Result<(), AllocError>
-        ensures { OnOk result (self.new ≡ with_bytes self.old (if is_one_of self.old.gone publics.now.segment.item then public_rest self.old.publics kind (public_items publics.now) else bytes.now)) }
+        ensures { OnOk result (self.new ≡ with_bytes self.old (if is_one_of self.old.gone publics.now.segment.item then publics_left self.old.publics kind (public_items publics.now) else bytes.now)) }
     {
         if !self.is_gone(u64::from(publics.segment.item.0)) {
             return self.out.extend_from_slice(bytes);
@@ -198,7 +209,7 @@ impl<'a> Rest<'a> {
         bytes: &[u8],
     ) -> Result<(), AllocError>
         requires { self.old.segments < 4294967296 }
-        ensures { OnOk result (self.new ≡ with_bytes (record self.old { segments = self.old.segments + 1 }) (if is_one_of self.old.gone (self.old.segments + 1) then written kind (SegmentContents (emptied segment.now)) else bytes.now)) }
+        ensures { OnOk result (self.new ≡ with_bytes (record self.old { segments = self.old.segments + 1 }) (if is_one_of self.old.gone (self.old.segments + 1) then bytes_of kind (SegmentContents (emptied segment.now)) else bytes.now)) }
     {
         let number = self.segments + 1;
         self.segments = number;
@@ -217,7 +228,7 @@ impl<'a> Rest<'a> {
         subrecords: Items<Subrecord<'_>>,
         bytes: &[u8],
     ) -> Result<(), AllocError>
-        ensures { OnOk result (self.new ≡ with_bytes self.old (if self.old.after_gone then written kind (Fixups (threads_alone subrecords.entry)) else bytes.now)) }
+        ensures { OnOk result (self.new ≡ with_bytes self.old (if self.old.after_gone then bytes_of kind (Fixups (threads_alone subrecords.entry)) else bytes.now)) }
     {
         if self.after_gone {
             put_record(&mut self.out, kind, threads_of(alloc, kind, subrecords)?)

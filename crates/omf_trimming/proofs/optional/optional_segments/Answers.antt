@@ -4,7 +4,8 @@ use Rattle.omf_check.specs.Module.{records_in}
 use Rattle.omf_check.specs.Tables.{entry, names, segments}
 use Rattle.omf_check.specs.WellFormed.{recs}
 use Rattle.omf_trimming.specs.Reaching.{optional_segment}
-use Rattle.omf_trimming.proofs.SegmentLaws.{all_taken, next_entry, one_more}
+use Rattle.omf_placement.proofs.StepLaws.{next_entry}
+use Rattle.omf_trimming.proofs.SegmentLaws.{all_taken, one_more}
 use Rattle.omf_trimming.proofs.optional.optional_segments.Goals as goal
 
 pub loop-before-preserved : goal.loop-before-preserved

@@ -1,11 +1,15 @@
-use Rattle.std.proofs.Common.{◌∙◌, List, ℕ, ap}
+use Rattle.std.proofs.Common.{◌∙◌, List, ℕ, ap, subst, sym}
 use Rattle.omf_frame.specs.Framing.{Raw, front_record, present, raw_bytes}
 use Rattle.omf_image.specs.Limits.{profile_limits}
 use Rattle.omf_records.specs.Inner.Reading.{typed}
 use Rattle.omf_records.specs.Inner.Seen.{contents_seen, kind_seen}
 use Rattle.omf_records.specs.Values.{Rec}
+use Rattle.omf_check.specs.Module.{records_in}
+use Rattle.omf_check.specs.WellFormed.{IsWellFormed}
 use Rattle.omf_check.proofs.ListedLaws.{front_of, front_short, front_taken, well_read}
 use Rattle.omf_trimming.specs.Inner.Rest.{RestSoFar, rest_after}
+use Rattle.omf_trimming.specs.Without.{records_without}
+use Rattle.omf_trimming.proofs.AcceptedLaws.{well-formed-rest}
 use Rattle.omf_trimming.proofs.RestLaws.{bytes-are, first, rec-is, rest-ends, rest-goes-on, rest-starts, starts-rest}
 use Rattle.omf_trimming.proofs.without.without_bytes.Goals as goal
 
@@ -53,8 +57,17 @@ loop-number-preserved c =
     rest-goes-on c.args.publics gone m l.number l.rest l.left.now l.invariant count few low c.put.new.self after c.split_record.ensures.rest
     (c.in_ok-put.ensures ∙ ap (λ (x : Rec). rest_after l.rest c.split_at.result.0.now x.kind x.contents) record_is ∙ ap (λ (b : List ℕ). rest_after l.rest b r.kind (typed r).contents) own)
 
-pub returns : goal.returns
-returns c =
+pub returns-clause-bytes : goal.returns-clause-bytes
+returns-clause-bytes c =
     let l = c.loop-number in
     ap (λ (x : RestSoFar). x.bytes) c.rest-2.view_is
     ∙ rest-ends c.args.publics c.args.gone.now c.args.«module».now.bytes l.number c.record_count-number-end.result l.rest l.left.now l.invariant c.record_count-number-end.ensures c.loop-number-test.false
+
+pub returns-clause-well_formed : goal.returns-clause-well_formed
+returns-clause-well_formed c =
+    let l = c.loop-number in
+    let m = c.args.«module».now in
+    let gone = c.args.gone.now in
+    let well = well-formed-rest c.args.publics gone m.profile profile_limits m.bytes c.bytes-left.ensures.well_formed in
+    let all = ap (λ (x : RestSoFar). x.bytes) c.rest-2.view_is ∙ rest-ends c.args.publics gone m.bytes l.number c.record_count-number-end.result l.rest l.left.now l.invariant c.record_count-number-end.ensures c.loop-number-test.false in
+    subst (λ (b : List ℕ). IsWellFormed m.profile profile_limits b (records_without c.args.publics gone (records_in m.bytes))) (sym all) well

@@ -6,7 +6,8 @@ use Rattle.omf_check.specs.Tables.{entry, names, segments}
 use Rattle.omf_check.specs.WellFormed.{recs}
 use Rattle.omf_trimming.specs.Reaching.{roots_of}
 use Rattle.omf_trimming.specs.Inner.Reaching.{root_if}
-use Rattle.omf_trimming.proofs.SegmentLaws.{all_taken, next_entry, one_more}
+use Rattle.omf_placement.proofs.StepLaws.{next_entry}
+use Rattle.omf_trimming.proofs.SegmentLaws.{all_taken, one_more}
 use Rattle.omf_trimming.proofs.RootLaws.{entry-there, roots-start}
 use Rattle.omf_trimming.proofs.reaching.roots.push_roots.Goals as goal
 
