@@ -9,7 +9,6 @@ use Rattle.std.specs.Ordering.{is_eq}
 use Rattle.std.proofs.Math.Seq.{drop-append_seam, take-append_seam}
 use Rattle.std.proofs.lemmas.Bool.{cases_Bool, cond-true, cond-false, eq-eqb, eqb-true, le-ltb}
 use Rattle.std.proofs.lemmas.Grind.{flat_map-append}
-use Rattle.std.proofs.lemmas.List.{drop_more}
 use Rattle.std.proofs.lemmas.List.Elements.{Contains-get_or}
 use Rattle.std.proofs.lemmas.List.Folds.{find-append}
 use Rattle.std.proofs.lemmas.Slice.Eq.{bytes_eq-Decides}
@@ -372,15 +371,6 @@ module _ {A B : Type 0} (R : A → B → Type 0) where
 
 pub is-empty : (bytes : List ℕ) (b : Bool) → b ≡ (length bytes == 0) → b ≡ true → length bytes ≡ 0
 is-empty bytes b e t = eqb-true (length bytes) 0 (sym e ∙ t)
-
-pub drop-next : {A : Type 0} (xs : List A) (i : ℕ) (x : A) → x ≡ get_or xs i x → i < length xs → drop i xs ≡ x ∷ drop (i + 1) xs
-drop-next xs i x e h = drop_more xs i x h ∙ ap (λ y. y ∷ drop (i + 1) xs) (sym e)
-
-pub drop-none : {A : Type 0} (xs : List A) (i : ℕ) → length xs ≤ i → drop i xs ≡ []
-drop-none [] zero h = refl
-drop-none [] (suc i) h = refl
-drop-none (x ∷ xs) zero h = absurd (omega (arith, h))
-drop-none (x ∷ xs) (suc i) h = drop-none xs i (omega (arith, h))
 
 pub contains-at : {A : Type 0} (xs : List A) (i : ℕ) (x : A) → x ≡ get_or xs i x → i < length xs → Contains xs x
 contains-at xs i x e h = subst (Contains xs) (sym e) (Contains-get_or xs i x h)

@@ -1,1 +1,2 @@
 pub mod AliasLaws
+pub mod CircleLaws

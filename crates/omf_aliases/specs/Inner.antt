@@ -1,1 +1,2 @@
 pub mod Aliases
+pub mod Circles

@@ -1,3 +1,4 @@
 pub mod AliasRows
 pub mod Aliases
+pub mod Circles
 pub mod Inner

@@ -5,6 +5,7 @@ ghost use Rattle.omf_check.specs.Module.{recs_of, typed_modules};
 ghost use Rattle.omf_externals.specs.Names.{AreApart, HasMore, IsNameTable, all_names, has_name, names_asked, names_of, public_names};
 
 use omf_check::{Checked, Undecoded};
+use omf_frame::Name;
 use omf_names::NameKey;
 use omf_records::{Items, Public};
 use std::alloc::{AllocError, Global};
@@ -18,12 +19,32 @@ pub struct NameTable<'a> {
 }
 
 impl<'a> NameTable<'a> {
+    /// Returns the table without a name.
+    pub fn new(alloc: Global) -> NameTable<'a>
+        ensures { IsNameTable result [] }
+    {
+        NameTable {
+            names: BTreeMap::new(alloc),
+            repeats: false,
+        }
+    }
+
     /// Adds a name.
     fn add(&mut self, name: &'a [u8]) -> Result<(), AllocError>
         ensures { OnOk result (HasMore self.old self.new (name.entry.now ∷ [])) }
     {
         if self.names.insert(NameKey::of(name), ())?.is_some() {
             self.repeats = true;
+        }
+        Ok(())
+    }
+
+    /// Adds names. It fails if memory runs out.
+    pub fn add_all(&mut self, names: &[Name<'a>]) -> Result<(), AllocError>
+        ensures { OnOk result (HasMore self.old self.new names.entry.now) }
+    {
+        for name in names {
+            self.add(name.0)?;
         }
         Ok(())
     }

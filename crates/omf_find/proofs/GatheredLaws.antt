@@ -1,6 +1,6 @@
 -- What is taken so far, and what is left.
-use Rattle.std.proofs.Common.{◌≡◌, ℕ, ◌+◌, ◌<◌, List, [], ◌∷◌, ◌++◌, length, drop, map, get_or, refl, sym, ap, subst, ◌∙◌, append_assoc}
-use Rattle.std.proofs.lemmas.List.{append-nil, drop_more, map-append}
+use Rattle.std.proofs.Common.{◌≡◌, ℕ, ◌+◌, ◌<◌, List, [], ◌∷◌, ◌++◌, map, refl, sym, ap, subst, ◌∙◌, append_assoc}
+use Rattle.std.proofs.lemmas.List.{append-nil, map-append}
 use Rattle.omf_check.specs.declared.profile.Profile.{Profile}
 use Rattle.omf_library.specs.declared.spans.Span.{Span}
 use Rattle.omf_find.specs.Gathered.{Adds, AreTaken, IsTaken, Taken}
@@ -41,7 +41,3 @@ pub all_taken : (profile : Profile) (file : ℕ) (members : List Span) (number :
 all_taken profile file members number rest old now f r =
     let none : AreTaken profile file number rest [] = rw r refl in
     (f.0, subst (AreTaken profile file 0 members) (append-nil f.0) (f.2 [] none), f.1)
-
--- what is left of a list
-pub rest_more : {A : Type 0} (xs : List A) (i : ℕ) (x : A) → x ≡ get_or xs i x → i < length xs → drop i xs ≡ x ∷ drop (i + 1) xs
-rest_more xs i x e h = drop_more xs i x h ∙ ap (λ y. y ∷ drop (i + 1) xs) (sym e)

@@ -1,11 +1,11 @@
 -- Steps over the modules of a program.
-use Rattle.std.proofs.Common.{◌≡◌, ℕ, zero, suc, ◌+◌, ◌<◌, ◌≤◌, List, [], ◌∷◌, ◌++◌, drop, take, get_or, length, map, max, refl, sym, ◌∙◌, ap, ap₂, ◌-◌, subst, arith}
-use Rattle.std.specs.Prelude.{All, Option, Some, None, slice_get, Result, Ok, Err, flat_map, fold, replicate}
-use Rattle.std.proofs.Math.Seq.{drop-cons, drop-nil}
+use Rattle.std.proofs.Common.{◌≡◌, ℕ, zero, suc, ◌+◌, ◌<◌, ◌≤◌, List, [], ◌∷◌, ◌++◌, drop, take, length, map, max, refl, sym, ◌∙◌, ap, ap₂, ◌-◌, subst, arith}
+use Rattle.std.specs.Prelude.{All, Some, None, slice_get, Result, Ok, Err, flat_map, fold, replicate}
+use Rattle.std.proofs.Math.Seq.{drop-cons}
 use Rattle.std.proofs.lemmas.Option.{get_or_from_slice_get}
 use Rattle.omf_check.specs.Tables.{entry}
 use Rattle.omf_placement.proofs.NamedLaws.{entry-suc}
-use Rattle.std.proofs.lemmas.List.{drop_more, map-append}
+use Rattle.std.proofs.lemmas.List.{map-append}
 use Rattle.std.proofs.lemmas.List.Sums.{fold-append}
 use Rattle.std.proofs.lemmas.List.Elements.{All-nil, All-cons, All-head, All-tail}
 use Rattle.omf_frame.specs.declared.fault.Place.{Place}
@@ -32,14 +32,6 @@ entry_there xs i low =
     let s = some_at xs i low in
     let a : suc i ≡ i + 1 = omega arith in
     (s.0, sym (ap (entry xs) a) ∙ entry-suc xs i ∙ s.1, drop-cons xs i s.0 low ∙ ap (λ y. y ∷ drop (suc i) xs) (get_or_from_slice_get xs i s.0 s.0 s.1) ∙ ap (λ k. s.0 ∷ drop k xs) a)
-
-pub next-of : {A : Type 0} (xs : List A) (i : ℕ) (x : A) → x ≡ get_or xs i x → i < length xs → drop i xs ≡ x ∷ drop (i + 1) xs
-next-of xs i x e h = drop_more xs i x h ∙ ap (λ y. y ∷ drop (i + 1) xs) (sym e)
-
-pub none-left : {A : Type 0} (xs : List A) (i : ℕ) → length xs ≤ i → drop i xs ≡ []
-none-left [] i h = drop-nil i
-none-left (x ∷ xs) zero h = absurd (omega (arith, h))
-none-left (x ∷ xs) (suc i) h = none-left xs i (omega (arith, h))
 
 pub all-drop : {A : Type 0} (P : A → Type 0) (xs : List A) (i : ℕ) → All P xs → All P (drop i xs)
 all-drop P xs zero h = h

@@ -1,4 +1,4 @@
-use Rattle.std.proofs.Common.{◌∙◌, ap, sym, arith}
+use Rattle.std.proofs.Common.{◌∙◌, arith}
 use Rattle.omf_check.specs.Module.{recs_of}
 use Rattle.omf_placement.proofs.WeakLaws.{entries_more, no_entries}
 use Rattle.omf_aliases.specs.Aliases.{default_of}

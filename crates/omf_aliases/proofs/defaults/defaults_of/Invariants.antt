@@ -1,4 +1,4 @@
-use Rattle.std.proofs.Common.{◌≡◌, ℕ, ◌+◌, ◌++◌, ◌≤◌, List, length}
+use Rattle.std.proofs.Common.{◌≡◌, ◌+◌, ◌++◌, ◌≤◌, List, length}
 use Rattle.omf_check.specs.Module.{recs_of}
 use Rattle.omf_check.specs.Tables.{externals}
 use Rattle.omf_records.specs.Values.{Rec}

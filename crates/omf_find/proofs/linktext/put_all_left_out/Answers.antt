@@ -2,8 +2,7 @@ use Rattle.std.proofs.Common.{◌+◌, ◌++◌, ap, drop, get_or, refl}
 use Rattle.std.specs.Prelude.{flat_map, map, string_bytes}
 use Rattle.std.proofs.lemmas.List.{get_or_default}
 use Rattle.omf_find.specs.LinkText.{left_out_line}
-use Rattle.omf_find.proofs.GatheredLaws.{rest_more}
-use Rattle.omf_placement.proofs.StepLaws.{no_part_left, none_left, part_more}
+use Rattle.omf_placement.proofs.StepLaws.{next_item, no_part_left, none_left, part_more}
 use Rattle.omf_find.proofs.linktext.put_all_left_out.Goals as goal
 
 pub loop-module-init : goal.loop-module-init
@@ -17,7 +16,7 @@ loop-module-preserved c =
     let low = c.loop-module-test.true in
     let m = get_or ms i 0 in
     part_more _ _ (line m) (flat_map line (drop (i + 1) ms)) (flat_map line (drop i ms)) (c.args.text.now.items ++ flat_map line ms) c.in_ok-put_left_out.ensures
-    (ap (flat_map line) (rest_more ms i m (get_or_default ms i 0 m low) low)) c.loop-module.invariant
+    (ap (flat_map line) (next_item ms i m (get_or_default ms i 0 m low) low)) c.loop-module.invariant
 
 pub returns : goal.returns
 returns c =

@@ -2,9 +2,8 @@ use Rattle.std.proofs.Common.{◌≡◌, ◌+◌, ◌++◌, ◌∙◌, List, ℕ
 use Rattle.std.specs.Prelude.{Bool, map, string_bytes}
 use Rattle.omf_linking.specs.Locator.KeyForms.{is_repeated}
 use Rattle.omf_find.specs.LinkText.{part_by, part_name, part_text}
-use Rattle.omf_find.proofs.GatheredLaws.{rest_more}
+use Rattle.omf_placement.proofs.StepLaws.{next_item, none_left, one_more, all_printed}
 use Rattle.omf_find.proofs.PartLaws.{as_many, same_at}
-use Rattle.omf_placement.proofs.StepLaws.{none_left, one_more, all_printed}
 use Rattle.omf_find.proofs.linktext.put_parts.Goals as goal
 
 pub bounds-names-before : goal.bounds-names-before
@@ -30,7 +29,7 @@ loop-before-preserved c =
     let again : c.is_repeated.result ≡ is_repeated names (part_name g part)
     = c.is_repeated.ensures (map string_bytes c.deref-names.result.now) c.in_ok-table.ensures ∙ ap₂ is_repeated known (c.as_bytes.ensures.value ∙ own) in
     one_more (part_text files g names) parts i c.args.text.now.items text part _
-    (rest_more parts i part c.index-parts-before.is c.loop-before-test.true)
+    (next_item parts i part c.index-parts-before.is c.loop-before-test.true)
     (c.in_ok-put_part.ensures ∙ ap₂ (λ (name : List ℕ) (repeated : Bool). text ++ part_by files g part (i + 1) name repeated) (c.as_str.ensures.value ∙ own) again)
     c.loop-before.invariant
 

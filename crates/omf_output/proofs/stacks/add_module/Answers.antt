@@ -8,7 +8,8 @@ use Rattle.omf_check.specs.declared.segment.SegInfo.{SegInfo}
 use Rattle.omf_placement.specs.Derive.{PlacedModule}
 use Rattle.omf_output.specs.Stacks.{interval_at}
 use Rattle.omf_output.proofs.StackLaws.{one-more}
-use Rattle.omf_output.proofs.Steps.{entry_there, none-left}
+use Rattle.omf_placement.proofs.StepLaws.{none_left}
+use Rattle.omf_output.proofs.Steps.{entry_there}
 use Rattle.omf_output.proofs.stacks.add_module.Goals as goal
 
 pub loop-before-preserved : goal.loop-before-preserved
@@ -32,5 +33,5 @@ returns c =
     let m : PlacedModule = (recs (records_in c.args.module.now.bytes), c.args.placement.now) in
     let k = c.loop-before.before in
     let end = c.loop-before.invariant.end in
-    let none : drop k (segments m.0) ≡ [] = none-left (segments m.0) k (omega (arith, c.loop-before-test.false, end)) in
+    let none : drop k (segments m.0) ≡ [] = none_left (segments m.0) k (omega (arith, c.loop-before-test.false, end)) in
     sym (append-nil c.loop-before.intervals.items) ∙ sym (ap (λ l. c.loop-before.intervals.items ++ filter_map (interval_at j m) (enumerate_from (k + 1) l)) none) ∙ c.loop-before.invariant.left

@@ -1,4 +1,4 @@
-use Rattle.std.proofs.Common.{◌≡◌, ℕ, List}
+use Rattle.std.proofs.Common.{◌≡◌, List}
 use Rattle.omf_records.specs.Values.{Rec}
 use Rattle.omf_aliases.specs.Aliases.{end_among, most}
 use Rattle.omf_aliases.specs.Inner.Aliases.{AreAliases}

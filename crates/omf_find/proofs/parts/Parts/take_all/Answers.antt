@@ -3,8 +3,7 @@ use Rattle.std.specs.Prelude.{MatchOption, Option, ⊤}
 use Rattle.omf_finding.specs.declared.findings.Verdict.{Verdict}
 use Rattle.omf_find.specs.declared.parts.Part.{Part}
 use Rattle.omf_find.specs.Parts.{Adds, IsHeldIf, IsPart}
-use Rattle.omf_find.proofs.GatheredLaws.{rest_more}
-use Rattle.omf_placement.proofs.StepLaws.{none_left}
+use Rattle.omf_placement.proofs.StepLaws.{next_item, none_left}
 use Rattle.omf_find.proofs.PartLaws.{none_added, one_more_added, all_added, held_at}
 use Rattle.omf_find.proofs.parts.Parts.take_all.Goals as goal
 
@@ -29,7 +28,7 @@ loop-number-preserved c =
     let m = c.index-modules-number.result in
     let taken = subst (λ (v : Option Verdict). (one : List Part) × (left : List ℕ) × IsPart p n m v one left × Adds c.loop-number.self c.take.new.self one left) c.verdict_of-verdict.ensures c.in_ok-take.ensures in
     one_more_added p ms vs n m (drop (n + 1) ms) (drop n ms) c.args.self.now c.loop-number.self c.take.new.self c.loop-number.invariant
-    (rest_more ms n m c.index-modules-number.is c.loop-number-test.true) taken
+    (next_item ms n m c.index-modules-number.is c.loop-number-test.true) taken
 
 pub returns : goal.returns
 returns c =

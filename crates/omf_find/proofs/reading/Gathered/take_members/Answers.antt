@@ -1,6 +1,7 @@
 use Rattle.std.proofs.Common.{◌+◌, drop}
 use Rattle.std.proofs.lemmas.List.{drop_all, get_or_default}
-use Rattle.omf_find.proofs.GatheredLaws.{all_taken, none_taken, one_more_taken, rest_more}
+use Rattle.omf_placement.proofs.StepLaws.{next_item}
+use Rattle.omf_find.proofs.GatheredLaws.{all_taken, none_taken, one_more_taken}
 use Rattle.omf_find.proofs.reading.Gathered.take_members.Goals as goal
 
 pub loop-member-init : goal.loop-member-init
@@ -11,7 +12,7 @@ loop-member-preserved c =
     let ms = c.args.members.now in
     let i = c.loop-member.member in
     one_more_taken c.args.profile c.args.file ms i _ (drop (i + 1) ms) (drop i ms) c.args.self.now c.loop-member.self c.take.new.self c.loop-member.invariant
-    (rest_more ms i _ (get_or_default ms i _ _ c.loop-member-test.true) c.loop-member-test.true) c.in_ok-take.ensures
+    (next_item ms i _ (get_or_default ms i _ _ c.loop-member-test.true) c.loop-member-test.true) c.in_ok-take.ensures
 
 pub returns : goal.returns
 returns c =

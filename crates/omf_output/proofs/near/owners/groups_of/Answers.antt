@@ -7,7 +7,8 @@ use Rattle.omf_check.specs.WellFormed.{recs}
 use Rattle.omf_output.specs.Inner.Owners.{IsTable}
 use Rattle.omf_output.specs.Near.{members_of}
 use Rattle.omf_output.proofs.OwnerLaws.{table-more}
-use Rattle.omf_output.proofs.Steps.{entry_there, none-left}
+use Rattle.omf_placement.proofs.StepLaws.{none_left}
+use Rattle.omf_output.proofs.Steps.{entry_there}
 use Rattle.omf_output.proofs.near.owners.groups_of.Goals as goal
 
 pub loop-before-preserved : goal.loop-before-preserved
@@ -28,5 +29,5 @@ returns c =
     let m = recs (records_in c.args.module.now.bytes) in
     let k = c.loop-before.before in
     let end = c.loop-before.invariant.end in
-    let none = none-left (groups m) k (omega (arith, c.loop-before-test.false, end)) in
+    let none = none_left (groups m) k (omega (arith, c.loop-before-test.false, end)) in
     subst (λ l. IsTable m (flat_map members_of (enumerate_from (k + 1) l)) c.loop-before.table.items) none c.loop-before.invariant.table

@@ -12,7 +12,7 @@ use Rattle.omf_output.specs.Inner.GroupFrames.{IsFrameTable}
 use Rattle.omf_output.specs.Near.{group_frames}
 use Rattle.omf_output.proofs.FrameLaws.{groups-split}
 use Rattle.omf_output.proofs.LowLaws.{group-here}
-use Rattle.omf_output.proofs.Steps.{none-left}
+use Rattle.omf_placement.proofs.StepLaws.{none_left}
 use Rattle.omf_output.proofs.near.frames.FrameTable.add_module.Goals as goal
 
 pub loop-before-preserved : goal.loop-before-preserved
@@ -33,4 +33,4 @@ returns c =
     let k = c.loop-before.before in
     let end = c.loop-before.invariant.end in
     fill-end IsFrameTable c.args.self.now.by_name c.loop-before.self.by_name _ _
-    (ap (λ gs. flat_map (group_frames m) (enumerate_from (k + 1) gs)) (none-left (groups m.0) k (omega (arith, c.loop-before-test.false, end)))) c.loop-before.invariant.filled
+    (ap (λ gs. flat_map (group_frames m) (enumerate_from (k + 1) gs)) (none_left (groups m.0) k (omega (arith, c.loop-before-test.false, end)))) c.loop-before.invariant.filled
