@@ -4,7 +4,7 @@ other output.
 
 usage: tests/devices/outputs.py
 
-No program may destroy a file by `-o` or `--map`. An output that is an input or another output is refused with status 2 and a line, before anything
+No program may destroy a file by `-o`, `--map` or `--symbols`. An output that is an input or another output is refused with status 2 and a line, before anything
 is read, and all files stay as they are; whatever else is there is written into, or replaced as a whole, and keeps its mode. A device node is made
 where the user may make one (root). OMF_LIB and OMF_LINK name the programs. The status is 0 where every promise held."""
 import os
@@ -167,11 +167,13 @@ def replaced(folder):
 
 
 def all_or_none(folder):
-    """Where the map cannot be written the program is not, or the line names it."""
+    """Where the map or the symbols cannot be written the program is not, or the line names it."""
     for name in ("folder", "no/such", "round"):
         folder.fails([LINK, *EXE, "-o", "a.exe", "--map", name], 3, name.encode())
         folder.fails([LINK, *EXE, "-o", "target", "--map", name], 3, name.encode())
         folder.fails([LINK, *EXE, "-o", name, "--map", "a.map"], 3, name.encode())
+        for names in ((name, "a.map", "a.sym"), ("a.exe", name, "a.sym"), ("target", "a.map", name)):
+            folder.fails([LINK, *EXE, "-o", names[0], "--map", names[1], "--symbols", f"nm={names[2]}"], 3, name.encode())
     for one, other in (("x.tmp", "x"), ("x", "x.tmp")):
         before = folder.state()
         done = folder.run([LINK, *EXE, "-o", one, "--map", other])
@@ -183,7 +185,11 @@ def all_or_none(folder):
     done = folder.run([LINK, *EXE, "-o", "b.exe", "--map", "/dev/full"])
     promised(done.returncode == 3 and done.stderr.endswith(b'omf-link: "b.exe" is written\n'), f"--map /dev/full: {done.stderr[:200]}")
     promised((folder.path / "b.exe").read_bytes() == (folder.path / "p.exe").read_bytes(), "b.exe: other bytes")
-    print("two outputs: both, none, or the line names the one that is written")
+    done = folder.run([LINK, *EXE, "-o", "c.exe", "--map", "c.map", "--symbols", "nm=/dev/full"])
+    promised(done.returncode == 3 and done.stderr.endswith(b'omf-link: "c.exe" is written\nomf-link: "c.map" is written\n'), f"--symbols nm=/dev/full: {done.stderr[:200]}")
+    promised((folder.path / "c.exe").read_bytes() == (folder.path / "p.exe").read_bytes(), "c.exe: other bytes")
+    promised((folder.path / "c.map").read_bytes() == (folder.path / "m").read_bytes(), "c.map: other bytes")
+    print("two or three outputs: all, none, or lines name those that are written")
 
 
 def main():

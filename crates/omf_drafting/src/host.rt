@@ -5,7 +5,7 @@ use omf_cmd::Program;
 use omf_frame::{Buffered, Sink};
 use omf_host::{
     OutputFile, Status, Streams, Unwritten, put_quoted, put_unread, put_unwritten, read_input,
-    write_outputs,
+    write_outputs, write_three,
 };
 use std::alloc::{AllocError, Global};
 use std::io::BufReader;
@@ -30,7 +30,7 @@ pub fn read_or_tell<K, E: Sink>(
     }
 }
 
-/// Writes the lines of an output that could not be written, and of the output that is written nevertheless. The reason of the standard output is
+/// Writes the lines of an output that could not be written, and of those that are written nevertheless. The reason of the standard output is
 /// written at the end.
 fn tell_unwritten<K, E: Sink>(
     alloc: Global,
@@ -41,9 +41,11 @@ fn tell_unwritten<K, E: Sink>(
     if unwritten.name != "-" {
         put_unwritten(&mut lines, unwritten.name, &unwritten.error)?;
     }
-    if let Some(name) = unwritten.written {
-        put_quoted(&mut lines, name.as_bytes())?;
-        lines.push_str(" is written\n")?;
+    for written in [unwritten.written, unwritten.also] {
+        if let Some(name) = written {
+            put_quoted(&mut lines, name.as_bytes())?;
+            lines.push_str(" is written\n")?;
+        }
     }
     streams.report(alloc, lines.as_bytes())
 }
@@ -56,6 +58,23 @@ pub fn write_or_tell<K: Sink, E: Sink>(
     streams: &mut Streams<K, E>,
 ) -> Result<Status, AllocError> {
     match write_outputs(rt, &mut streams.output, first, second)? {
+        None => Ok(Status::Done),
+        Some(unwritten) => {
+            tell_unwritten(rt.alloc(), streams, &unwritten)?;
+            Ok(Status::Failed)
+        }
+    }
+}
+
+/// Writes three outputs (`omf_host::write_three`), as `write_or_tell` does two.
+pub fn write_three_or_tell<K: Sink, E: Sink>(
+    rt: &HostRuntime,
+    first: OutputFile<'_>,
+    second: OutputFile<'_>,
+    third: OutputFile<'_>,
+    streams: &mut Streams<K, E>,
+) -> Result<Status, AllocError> {
+    match write_three(rt, &mut streams.output, first, second, third)? {
         None => Ok(Status::Done),
         Some(unwritten) => {
             tell_unwritten(rt.alloc(), streams, &unwritten)?;

@@ -5,11 +5,27 @@ use Rattle.omf_frame.specs.Device.{Device}
 use Rattle.omf_host.specs.declared.writing.OutputFile.{OutputFile}
 use Rattle.omf_host.specs.declared.writing.Unwritten.{Unwritten}
 
--- The output that failed, and the one that is written nevertheless. If the first failed, none is; if the second failed, none or the first.
--- All others are as they were before.
+-- What is written though an output failed: nothing, one output, or two. All others are as they were before.
+abbrev pub IsNoneWritten : Unwritten → Type 0
+IsNoneWritten u = (u.written ≡ None) × (u.also ≡ None)
+
+abbrev pub IsOneWritten : List ℕ → Unwritten → Type 0
+IsOneWritten first u = (option_map (λ w. w.now) u.written ≡ Some first) × (u.also ≡ None)
+
+abbrev pub AreTwoWritten : List ℕ → List ℕ → Unwritten → Type 0
+AreTwoWritten first second u = (option_map (λ w. w.now) u.written ≡ Some first) × (option_map (λ w. w.now) u.also ≡ Some second)
+
+-- The output that failed, and what is written nevertheless: none, or those before it.
 abbrev pub IsLeft : List ℕ → Option (List ℕ) → Option Unwritten → Type 0
 IsLeft first second None = ⊤
-IsLeft first second (Some u) = ((u.name.now ≡ first) × (u.written ≡ None)) ⊎ ((second ≡ Some u.name.now) × ((u.written ≡ None) ⊎ (option_map (λ w. w.now) u.written ≡ Some first)))
+IsLeft first second (Some u) = ((u.name.now ≡ first) × IsNoneWritten u) ⊎ ((second ≡ Some u.name.now) × (IsNoneWritten u ⊎ IsOneWritten first u))
+
+-- The same of three outputs.
+abbrev pub AreLeft : List ℕ → List ℕ → List ℕ → Option Unwritten → Type 0
+AreLeft first second third None = ⊤
+AreLeft first second third (Some u) =
+    ((u.name.now ≡ first) × IsNoneWritten u)
+    ⊎ (((u.name.now ≡ second) × (IsNoneWritten u ⊎ IsOneWritten first u)) ⊎ ((u.name.now ≡ third) × (IsNoneWritten u ⊎ AreTwoWritten first second u)))
 
 -- Whether a name is that of the standard output.
 abbrev pub is_standard : List ℕ → Bool
@@ -32,3 +48,8 @@ AreOnOutput first (Some second) old new = (between : Device) × IsOnOutput first
 abbrev pub AreAllOnOutput : OutputFile → Option OutputFile → Device → Device → Option Unwritten → Type 0
 AreAllOnOutput first second old new None = AreOnOutput first second old new
 AreAllOnOutput first second old new (Some _) = ⊤
+
+-- The same of three outputs.
+abbrev pub AreThreeOnOutput : OutputFile → OutputFile → OutputFile → Device → Device → Option Unwritten → Type 0
+AreThreeOnOutput first second third old new None = (one : Device) × (two : Device) × IsOnOutput first old one × IsOnOutput second one two × IsOnOutput third two new
+AreThreeOnOutput first second third old new (Some _) = ⊤

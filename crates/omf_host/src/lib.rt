@@ -19,6 +19,7 @@
 mod clash;
 mod digits;
 mod ending;
+mod endings;
 mod files;
 mod lines;
 mod misuse;
@@ -37,6 +38,7 @@ mod writing;
 
 pub use clash::{RunFiles, refuse_clash};
 pub use ending::Status;
+pub use endings::{is_file, object_file, object_files, unless_failed, with_ending};
 pub use files::{Written, read_input, write_new};
 pub use lines::{put_failure, put_title, put_unread, put_unwritten};
 pub use misuse::{About, explain, misuse_line, misused_by};
@@ -48,4 +50,4 @@ pub use streams::Streams;
 pub use terminal::{Progress, standard_streams};
 pub use text::{is_plain, put_byte, put_decimal, put_eight, put_four, put_name, put_quoted};
 pub use words::{SpelledArguments, arguments, program_and_arguments, spelled_arguments, words_of};
-pub use writing::{OutputFile, Unwritten, write_outputs};
+pub use writing::{OutputFile, Unwritten, write_outputs, write_three};

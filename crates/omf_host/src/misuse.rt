@@ -215,6 +215,15 @@ fn extra_argument<'a>(form: &str, arguments: &'a [String]) -> Option<Misuse<'a>>
     }
 }
 
+/// That a file is missing, if there is a text of a link: without a text, modules and text are the standard input.
+fn missing_module<'a>(form: &str, arguments: &[String]) -> Option<Misuse<'a>> {
+    if is_given("-t", arguments) && next_argument(form, arguments).is_none() {
+        Some(Misuse::NoArgument("FILE"))
+    } else {
+        None
+    }
+}
+
 /// What is wrong with the arguments after the task, or with all arguments of a program without tasks.
 fn wrong_in<'a>(form: &'a str, arguments: &'a [String]) -> Misuse<'a> {
     wrong_option(form, arguments)
@@ -223,6 +232,7 @@ fn wrong_in<'a>(form: &'a str, arguments: &'a [String]) -> Misuse<'a> {
         .or(one_or_the_other(form, arguments))
         .or(extra_argument(form, arguments))
         .or(repeated_option(form, arguments))
+        .or(missing_module(form, arguments))
         .unwrap_or(Misuse::Other)
 }
 
@@ -342,7 +352,8 @@ pub struct About {
     /// The same in color, as a terminal shows it.
     pub colored_name: &'static str,
     /// How it is called, a line or more for each way, as `usage: omf-x task [--option VALUE] FILE ..`: what is in brackets may be left out, names in
-    /// capitals are for values (ADDRESS, SIZE, SELECTOR, BYTE are hexadecimal; N, BYTES, PARAGRAPHS decimal), and an option with `..` may be given several times.
+    /// capitals are for values (ADDRESS, SIZE, SELECTOR, BYTE are hexadecimal; N, BYTES, PARAGRAPHS decimal; ORDER and TOOL=FILE are as in `omf-link`),
+    /// and an option with `..` may be given several times.
     pub usage: &'static str,
     /// What its tasks and its options do.
     pub details: &'static str,

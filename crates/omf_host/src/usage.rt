@@ -141,6 +141,25 @@ pub(crate) fn next_argument<'a>(
     None
 }
 
+/// Whether a value is an order: dos, input, or classes with commas between them, each with a name.
+fn is_order(value: &str) -> bool {
+    if value.eq_ignore_ascii_case("dos") {
+        return value == "dos";
+    }
+    if value.eq_ignore_ascii_case("input") {
+        return value == "input";
+    }
+    !value.split(',').any(|class| class.is_empty())
+}
+
+/// Whether a value is a tool, an equals sign, and the name of a file.
+fn is_file_for_tool(value: &str) -> bool {
+    match value.split_once('=') {
+        Some((tool, file)) => is_one_of("ghidra|ida|r2|nm", tool) && !file.is_empty(),
+        None => false,
+    }
+}
+
 /// Whether a value is one that its option takes, by the word for it in the text.
 pub(crate) fn is_allowed(word: &str, value: &str) -> bool {
     match word {
@@ -157,6 +176,8 @@ pub(crate) fn is_allowed(word: &str, value: &str) -> bool {
             Some(paragraphs) => paragraphs <= 65_535,
             None => false,
         },
+        "ORDER" => is_order(value),
+        "TOOL=FILE" => is_file_for_tool(value),
         _ if word.contains('|') => is_one_of(word, value),
         _ => !value.is_empty(),
     }
@@ -172,6 +193,8 @@ pub(crate) fn what_is_allowed(word: &str) -> &'static str {
         "N" => "no decimal number",
         "BYTES" => "no number from 1 to 65534",
         "PARAGRAPHS" => "no number from 0 to 65535",
+        "ORDER" => "neither dos nor input nor a list of classes as CODE,DATA",
+        "TOOL=FILE" => "none of ghidra=FILE, ida=FILE, r2=FILE, nm=FILE",
         _ if word.contains('|') => "none of ",
         _ => "no name",
     }

@@ -1,8 +1,8 @@
 //! The outputs of a run: all are written, or none.
 
-ghost use Rattle.std.specs.Prelude.{◌≡◌, IfOk, None, Some, false, option_map};
-ghost use Rattle.omf_host.specs.Outputs.{AreAllOnOutput, IsLeft, IsPutIf, is_standard};
-ghost use Rattle.omf_host.specs.Inner.Outputs.{ArePutIf, goes_on_output};
+ghost use Rattle.std.specs.Prelude.{◌≡◌, IfErr, IfOk, None, Some, false, option_map};
+ghost use Rattle.omf_host.specs.Outputs.{AreAllOnOutput, AreLeft, AreThreeOnOutput, IsLeft, IsNoneWritten, IsOneWritten, IsPutIf, is_standard};
+ghost use Rattle.omf_host.specs.Inner.Outputs.{ArePutIf, AreReady, AreThreePutIf, IsNotReady, goes_on_output};
 
 use crate::files::{Written, fill_beside, move_new};
 use crate::spot::{Node, followed};
@@ -26,6 +26,8 @@ pub struct Unwritten<'a> {
     pub name: &'a str,
     /// The output that is written nevertheless. All others are as they were.
     pub written: Option<&'a str>,
+    /// The second one that is, if the third of three outputs could not be written.
+    pub also: Option<&'a str>,
     /// The system's reason.
     pub error: io::Error,
 }
@@ -149,11 +151,24 @@ fn made_ready(rt: &HostRuntime, output: OutputFile<'_>) -> Result<io::Result<Rea
 
 /// The answer where no output is written.
 fn none_written<'a>(name: &'a str, error: io::Error) -> Unwritten<'a>
-    ensures { (result.name.now ≡ name.now) × (result.written ≡ None) }
+    ensures { (result.name.now ≡ name.now) × IsNoneWritten result }
 {
     Unwritten {
         name,
         written: None,
+        also: None,
+        error,
+    }
+}
+
+/// The answer where an output is written, and after it this one is not.
+fn one_written<'a>(name: &'a str, written: &'a str, error: io::Error) -> Unwritten<'a>
+    ensures { (result.name.now ≡ name.now) × IsOneWritten written.now result }
+{
+    Unwritten {
+        name,
+        written: Some(written),
+        also: None,
         error,
     }
 }
@@ -177,6 +192,32 @@ fn write_one<'a, K: Sink>(
     }
 }
 
+/// Makes two outputs ready to be written, or none.
+fn both_ready<'a>(
+    rt: &HostRuntime,
+    first: OutputFile<'a>,
+    second: OutputFile<'a>,
+) -> Result<Result<(Ready, Ready), Unwritten<'a>>, AllocError>
+    ensures ready { IfOk result (λ r. IfOk r (AreReady first.entry second.entry)) }
+    ensures left { IfOk result (λ r. IfErr r (IsNotReady first.entry.name.now second.entry.name.now)) }
+{
+    let one = match made_ready(rt, first)? {
+        Ok(one) => one,
+        Err(error) => return Ok(Err(none_written(first.name, error))),
+    };
+    match made_ready(rt, second) {
+        Ok(Ok(two)) => Ok(Ok((one, two))),
+        Ok(Err(error)) => {
+            one.undo(rt);
+            Ok(Err(none_written(second.name, error)))
+        }
+        Err(AllocError) => {
+            one.undo(rt);
+            Err(AllocError)
+        }
+    }
+}
+
 /// Writes two outputs that are ready.
 fn finish_two<'a, K: Sink>(
     rt: &HostRuntime,
@@ -193,9 +234,36 @@ fn finish_two<'a, K: Sink>(
     }
     match second.0.finish(rt, writer, second.1.bytes) {
         Ok(()) => None,
+        Err(error) => Some(one_written(second.1.name, first.1.name, error)),
+    }
+}
+
+/// Writes three outputs that are ready.
+fn finish_three<'a, K: Sink>(
+    rt: &HostRuntime,
+    writer: &mut K,
+    first: (Ready, OutputFile<'a>),
+    second: (Ready, OutputFile<'a>),
+    third: (Ready, OutputFile<'a>),
+) -> Option<Unwritten<'a>>
+    ensures left { AreLeft first.entry.1.name.now second.entry.1.name.now third.entry.1.name.now result }
+    ensures text { AreThreePutIf first.entry second.entry third.entry (K.seen writer.old) (K.seen writer.new) result }
+{
+    if let Err(error) = first.0.finish(rt, writer, first.1.bytes) {
+        second.0.undo(rt);
+        third.0.undo(rt);
+        return Some(none_written(first.1.name, error));
+    }
+    if let Err(error) = second.0.finish(rt, writer, second.1.bytes) {
+        third.0.undo(rt);
+        return Some(one_written(second.1.name, first.1.name, error));
+    }
+    match third.0.finish(rt, writer, third.1.bytes) {
+        Ok(()) => None,
         Err(error) => Some(Unwritten {
-            name: second.1.name,
+            name: third.1.name,
             written: Some(first.1.name),
+            also: Some(second.1.name),
             error,
         }),
     }
@@ -211,20 +279,9 @@ fn write_two<'a, K: Sink>(
     ensures left { IfOk result (IsLeft first.entry.name.now (Some second.entry.name.now)) }
     ensures text { IfOk result (AreAllOnOutput first.entry (Some second.entry) (K.seen writer.old) (K.seen writer.new)) }
 {
-    let one = match made_ready(rt, first)? {
-        Ok(one) => one,
-        Err(error) => return Ok(Some(none_written(first.name, error))),
-    };
-    match made_ready(rt, second) {
-        Ok(Ok(two)) => Ok(finish_two(rt, writer, (one, first), (two, second))),
-        Ok(Err(error)) => {
-            one.undo(rt);
-            Ok(Some(none_written(second.name, error)))
-        }
-        Err(AllocError) => {
-            one.undo(rt);
-            Err(AllocError)
-        }
+    match both_ready(rt, first, second)? {
+        Ok((one, two)) => Ok(finish_two(rt, writer, (one, first), (two, second))),
+        Err(unwritten) => Ok(Some(unwritten)),
     }
 }
 
@@ -252,5 +309,42 @@ pub fn write_outputs<'a, K: Sink>(
     match second {
         None => write_one(rt, writer, first),
         Some(second) => write_two(rt, writer, first, second),
+    }
+}
+
+/// Writes three outputs of a run, as `write_outputs` does two: where one cannot be written, mostly none is.
+///
+/// # Errors
+///
+/// `AllocError` if out of memory. Nothing is written then.
+pub fn write_three<'a, K: Sink>(
+    rt: &HostRuntime,
+    writer: &mut K,
+    first: OutputFile<'a>,
+    second: OutputFile<'a>,
+    third: OutputFile<'a>,
+) -> Result<Option<Unwritten<'a>>, AllocError>
+    ensures left { IfOk result (AreLeft first.entry.name.now second.entry.name.now third.entry.name.now) }
+    ensures text { IfOk result (AreThreeOnOutput first.entry second.entry third.entry (K.seen writer.old) (K.seen writer.new)) }
+{
+    let (one, two) = match both_ready(rt, first, second)? {
+        Ok(ready) => ready,
+        Err(unwritten) => return Ok(Some(unwritten)),
+    };
+    match made_ready(rt, third) {
+        Ok(Ok(three)) => {
+            let (first, second) = ((one, first), (two, second));
+            Ok(finish_three(rt, writer, first, second, (three, third)))
+        }
+        Ok(Err(error)) => {
+            one.undo(rt);
+            two.undo(rt);
+            Ok(Some(none_written(third.name, error)))
+        }
+        Err(AllocError) => {
+            one.undo(rt);
+            two.undo(rt);
+            Err(AllocError)
+        }
     }
 }

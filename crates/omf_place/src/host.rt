@@ -6,8 +6,8 @@ use omf_drafting::options::AskedOptions;
 use omf_drafting::place::{Place, options_of};
 use omf_frame::{Bytes, Sink};
 use omf_host::{
-    About, Status, Streams, end, explain, misused_by, out_of_memory, program_and_arguments,
-    question_in, standard_streams,
+    About, Status, Streams, end, explain, misused_by, object_file, out_of_memory,
+    program_and_arguments, question_in, standard_streams,
 };
 use std::alloc::AllocError;
 use std::process::ExitCode;
@@ -33,14 +33,15 @@ standard input.
 ",
 };
 
-/// Drafts a placement for a file. Returns the status.
+/// Drafts a placement for a file, whose name may lack its ending. Returns the status.
 fn on_file<K: Sink, E: Sink>(
     rt: &HostRuntime,
     options: AskedOptions,
     name: &str,
     streams: &mut Streams<K, E>,
 ) -> Result<Status, AllocError> {
-    let Some(bytes) = read_or_tell(rt, name, streams)? else {
+    let name = object_file(rt, name)?;
+    let Some(bytes) = read_or_tell(rt, name.as_str(), streams)? else {
         return Ok(Status::Failed);
     };
     perform::<Place, _, _, _>(rt.alloc(), options, &mut Bytes::new(&bytes), streams)

@@ -50,6 +50,7 @@ const TASKS: About = About {
     usage: "usage: omf-tool list|check [--all] LIB NAME ..
        omf-tool make [--base ADDRESS | --flat SELECTOR] [--kind a|b ..]
            [--size SIZE] [--stack BYTES] [--fill BYTE] -o OUT FILE
+       omf-tool map [--order ORDER] [--symbols TOOL=FILE] [-t TEXT] [FILE ..]
 ",
     details: "",
 };
@@ -140,6 +141,26 @@ fn wrong_values_are_shown(rt: HostRuntime) -> Result<(), Fail> {
         (
             "make --stack FF",
             "tool: --stack: \"FF\" is no number from 1 to 65534\n",
+        ),
+        (
+            "map --order DOS x",
+            "tool: --order: \"DOS\" is neither dos nor input nor a list of classes as CODE,DATA\n",
+        ),
+        (
+            "map --order CODE, x",
+            "tool: --order: \"CODE,\" is neither dos nor input nor a list of classes as CODE,DATA\n",
+        ),
+        (
+            "map --symbols gdb=y x",
+            "tool: --symbols: \"gdb=y\" is none of ghidra=FILE, ida=FILE, r2=FILE, nm=FILE\n",
+        ),
+        (
+            "map --symbols ida= x",
+            "tool: --symbols: \"ida=\" is none of ghidra=FILE, ida=FILE, r2=FILE, nm=FILE\n",
+        ),
+        (
+            "map --order CODE,DATA --symbols ida=y -t z",
+            "tool: no \"FILE\" is given\n",
         ),
         (
             "make --base 0x7C00 --size 64K --stack 100H --fill 0",
