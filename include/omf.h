@@ -364,9 +364,10 @@ struct omf_program {
     uint16_t order;       /* --order: 1 dos, 2 input; any other number: DOS order if a module asks for it */
     bool is_com;          /* a .COM file, as of `omf-link com` */
     bool ignore_case;     /* --ignore-case */
-    bool allow_twice;     /* --allow twice, group, near: what is found is no fault, and its line is in `lines` */
+    bool allow_twice;     /* --allow twice, group, near, mixed: what is found is no fault, and its line is in `lines` */
     bool allow_group;
     bool allow_near;
+    bool allow_mixed;
 };
 
 /* Makes a DOS program of files, exactly as `omf-link exe` and `com` do (docs/DOS.md): communals, needed members and looks with it. Default libraries are

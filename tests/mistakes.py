@@ -99,6 +99,8 @@ SAME = [
      "omf-link bin --base=07C00H --size=0x200 --fill=0FFH -t=program.link start.obj say.obj mark.obj"],
     ["omf-link bin --base 0 --size 10000 -t program.link start.obj say.obj mark.obj", "omf-link bin --base 0 --size 64K -t program.link start.obj say.obj mark.obj"],
     ["omf-link exe --stack 4096 -o - main.obj show.obj report.obj", "omf-link exe --stack 4K -o - main.obj show.obj report.obj", "omf-link exe --stack 0x1000 -o - main.obj show.obj report.obj", "omf-link exe --stack=4096 -o - main.obj show.obj report.obj"],
+    ["omf-link image -t program.link start.obj say.obj mark.obj", "omf-link image -t program.link start say mark", "omf-link image -t program.link ./start say.obj mark"],
+    ["omf-link draft start.obj mark.obj", "omf-link draft start mark"], ["omf-link lower -o - mark.obj", "omf-link lower -o - mark"], ["omf-place hello.obj", "omf-place hello"],
     ["omf-link map -t plain.link start.obj", "omf-link map -t mark.link start.obj", "omf-link map -t marked.link start.obj", "omf-link map -t=plain.link start.obj"],
     ["omf-place --base 7C00 first.omf", "omf-place --base 0x7C00 first.omf", "omf-place --base 7C00H first.omf"],
     ["omf-link --help", "omf-link -h", "omf-link help", "omf-link exe --help", "omf-link bin -h"],

@@ -69,7 +69,7 @@ _Placement = type("_Placement", (ctypes.Structure,), {"_fields_": [
 
 _File = type("_File", (ctypes.Structure,), {"_fields_": [
     ("bytes", ctypes.c_char_p), ("length", ctypes.c_size_t), ("name", ctypes.c_char_p), ("name_length", ctypes.c_size_t)]})
-_Program = _struct("_Program", (ctypes.c_uint16, "stack order"), (ctypes.c_bool, "is_com ignore_case allow_twice allow_group allow_near"))
+_Program = _struct("_Program", (ctypes.c_uint16, "stack order"), (ctypes.c_bool, "is_com ignore_case allow_twice allow_group allow_near allow_mixed"))
 
 _TABLES = {"records": _Record, "headers": _Header, "comments": _Comment, "data": _Data, "start_reference": _StartReference, "segments": _Segment, "groups": _Group, "group_members": _Member, "externals": _External, "publics": _Public,
            "fixups": _Fixup}
@@ -692,15 +692,15 @@ def link_exe(files: Iterable[Union[Data, Tuple[str, Data]]], stack: int = 0, ord
     """A DOS program of files, as `omf-link exe` makes it (docs/DOS.md): an .EXE file, or a .COM file if is_com is true.
 
     Each file has modules or is a library; a pair gives it the name that lines of faults show, else that is its number. stack, order ("dos", "input"),
-    ignore_case and allow ("twice", "group", "near") are the options of `omf-link exe`. Libraries that modules ask for are not looked for. What is found
+    ignore_case and allow ("twice", "group", "near", "mixed") are the options of `omf-link exe`. Libraries that modules ask for are not looked for. What is found
     and allowed, and a program without a stack, is a warning. Raises NotLinked, with the lines of `omf-link`.
     """
     named = [(each if isinstance(each, tuple) else (str(number), each)) for number, each in enumerate(files, 1)]
     rows = (_File * len(named))(*((bytes(data), len(data), name.encode(), len(name.encode())) for name, data in named))
     allowed = set(allow)
-    if not (allowed <= {"twice", "group", "near"} and order in (None, "dos", "input") and 0 <= stack <= 65534):
+    if not (allowed <= {"twice", "group", "near", "mixed"} and order in (None, "dos", "input") and 0 <= stack <= 65534):
         raise ValueError("an option that omf-link does not have")
-    asked = _Program(stack, {None: 0, "dos": 1, "input": 2}[order], is_com, ignore_case, "twice" in allowed, "group" in allowed, "near" in allowed)
+    asked = _Program(stack, {None: 0, "dos": 1, "input": 2}[order], is_com, ignore_case, *(it in allowed for it in ("twice", "group", "near", "mixed")))
     arguments = (rows, len(rows), ctypes.byref(asked))
     answer = _library.omf_exe(*arguments, None, 0, None, 0)
     program, lines = (ctypes.c_uint8 * answer.size)(), (ctypes.c_uint8 * answer.start)()

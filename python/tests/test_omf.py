@@ -289,6 +289,10 @@ class Links(unittest.TestCase):
     def test_what_is_allowed_is_a_warning(self):
         with self.assertWarnsRegex(UserWarning, 'twice "f"'):
             self.assertEqual(omf.link_exe([STARTS, DEFINES], allow=["twice"])[:2], b"MZ")
+        wide = DEFINES.replace(bytes.fromhex("98070028010002010100 9008000001016600000000"), bytes.fromhex("98070029010002010100"))
+        self.assertIn("mixed: ", str(self.fault_of(omf.link_exe, [STARTS, wide])))
+        with self.assertWarnsRegex(UserWarning, "mixed: "):
+            self.assertEqual(omf.link_exe([STARTS, wide], allow=["mixed"])[-2:], bytes.fromhex("CB90"))
         with self.assertWarnsRegex(UserWarning, "no stack"):
             omf.link_exe([STARTS])
 

@@ -448,6 +448,12 @@ static const uint8_t starts_f[] = {
     0x8A, 0x07, 0x00, 0xC1, 0x00, 0x01, 0x01, 0x00, 0x00, 0x00,                                                       /* MODEND */
 };
 
+/* A 32-bit part of the segment T of one byte. */
+static const uint8_t wide[] = {
+    0x80, 0x03, 0x00, 0x01, 0x42, 0x00, 0x96, 0x04, 0x00, 0x00, 0x01, 0x54, 0x00, 0x98, 0x07, 0x00, 0x29, 0x01, 0x00, 0x02, 0x01, 0x01, 0x00, /* THEADR, LNAMES, SEGDEF */
+    0xA0, 0x05, 0x00, 0x01, 0x00, 0x00, 0xC3, 0x00, 0x8A, 0x02, 0x00, 0x00, 0x00,                                      /* LEDATA, MODEND */
+};
+
 static const char addresses[] = "M \"A\"\nS \"T\" 7C00 real\nS \"S\" 7D00 real\n";
 static const uint8_t memory[] = {0x90, 0x90, 0xB8, 0xC0, 0x07, 0xCB, 0x90, 0x90};
 static const uint8_t program[] = {
@@ -465,7 +471,7 @@ static void joins(const void *first, size_t first_length, const void *second, si
     input_length = first_length + second_length;
 }
 
-static const struct omf_program plain = {0, 0, false, false, false, false, false};
+static const struct omf_program plain = {0, 0, false, false, false, false, false, false};
 
 /* The program of the input as one file. */
 static struct omf_answer program_of(const struct omf_program *asked, uint8_t *out, size_t room, uint8_t *lines, size_t line_room) {
@@ -581,6 +587,8 @@ static void programs(void) {
     no_program("start");
     joins(starts_f, sizeof starts_f, defines, sizeof defines);
     no_program("twice \"f\"");
+    joins(starts_f, sizeof starts_f, wide, sizeof wide);
+    no_program("mixed: ");
     joins(with_stack, sizeof with_stack, addresses, strlen(addresses));
     no_program("neither a module nor padding");
     joins(absolute, sizeof absolute, framed, sizeof framed - 8);
@@ -589,7 +597,7 @@ static void programs(void) {
 
 /* What is allowed is a program with lines, and both are handed out or none; and a program may have no stack. */
 static void allowed(void) {
-    static const struct omf_program twice = {0, 0, false, false, true, false, false};
+    static const struct omf_program twice = {0, 0, false, false, true, false, false, false};
     uint8_t out[64], lines[256], before[256];
     joins(starts_f, sizeof starts_f, defines, sizeof defines);
     memset(before, 7, sizeof before);
@@ -604,6 +612,16 @@ static void allowed(void) {
     if (is.status != OMF_DONE || is.size != size || is.start != told || out[0] != 'M' || out[size] != 7 || lines[told] != 7) fail("allowed", "another answer");
     if (memcmp(lines, "twice \"f\"", 9) != 0) fail("allowed", "other lines");
     if (omf_exe(NULL, 0, &plain, NULL, 0, NULL, 0).reason != OMF_NO_PROGRAM) fail("allowed", "no files");
+}
+
+/* Parts of 16 and 32 bits that are allowed are the program CBH C3H, with their line. */
+static void mixed(void) {
+    static const struct omf_program asked = {0, 0, false, false, false, false, false, true};
+    uint8_t out[64], lines[256];
+    joins(starts_f, sizeof starts_f, wide, sizeof wide);
+    const struct omf_answer is = program_of(&asked, out, sizeof out, lines, sizeof lines);
+    if (is.status != OMF_DONE || is.size < 2 || out[is.size - 2] != 0xCB || out[is.size - 1] != 0xC3) fail("mixed", "another program");
+    if (is.start < 7 || memcmp(lines, "mixed: ", 7) != 0) fail("mixed", "other lines");
 }
 
 int main(void) {
@@ -634,6 +652,7 @@ int main(void) {
     memories();
     programs();
     allowed();
+    mixed();
     if (omf_groups(others, sizeof others, false, NULL, 0).status != OMF_DONE) fail("no groups", "another answer");
     if (failures == 0) printf("every table has its rows, every image and every link its bytes\n");
     return failures > 0;

@@ -47,7 +47,7 @@ pub record AreOptionsOf (row : ProgramRow) (o : ExeOptions) : Type 0 where
   pub twice : o.allows_twice ≡ row.allow_twice
   pub long : o.allows_long ≡ row.allow_group
   pub near : o.allows_near ≡ row.allow_near
-  pub mixed : o.allows_mixed ≡ false
+  pub mixed : o.allows_mixed ≡ row.allow_mixed
   pub code : o.unreached.code ≡ false
   pub debug : o.unreached.debug ≡ true
 
@@ -68,13 +68,13 @@ pub record AreNotWritten (files : List InputFile) (o : ExeOptions) : Type 0 wher
 abbrev pub HaveNoProgram : List InputFile → ExeOptions → Type 0
 HaveNoProgram files o = GiveNone o.ignore_case files ⊎ AreNotWritten files o
 
--- The lines of what is found and allowed: of names with more than one public, of what is too long, of near references into another frame; and that of a stack with another length than is asked for.
+-- The lines of what is found and allowed: of names with more than one public, of 16-bit with 32-bit parts, of what is too long, of near references into another frame; and that of a stack with another length than is asked for.
 abbrev pub text_if : Option (String Global) → List ℕ
 text_if None = []
 text_if (Some t) = string_bytes t
 
 abbrev pub warnings : MadeProgram → List ℕ
-warnings m = text_if m.repeated ++ (text_if m.long ++ (text_if m.near ++ text_if m.stack))
+warnings m = text_if m.repeated ++ (text_if m.mixed ++ (text_if m.long ++ (text_if m.near ++ text_if m.stack)))
 
 -- The result for a program, with the sizes of the program and of the lines, and 1 if it has no stack.
 abbrev pub program_sizes : ℕ → MadeProgram → List ℕ → Answer

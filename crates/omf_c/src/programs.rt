@@ -86,7 +86,7 @@ fn options_of<'a>(alloc: Global, row: &ProgramRow) -> ExeOptions<'a>
         allows_twice: row.allow_twice,
         allows_long: row.allow_group,
         allows_near: row.allow_near,
-        allows_mixed: false,
+        allows_mixed: row.allow_mixed,
         unreached: LeftOut {
             code: false,
             debug: true,
@@ -124,6 +124,7 @@ fn warnings(alloc: Global, made: &MadeProgram) -> Result<Vec<u8>, AllocError>
 {
     let mut lines = Vec::new(alloc);
     add_if(&mut lines, &made.repeated)?;
+    add_if(&mut lines, &made.mixed)?;
     add_if(&mut lines, &made.long)?;
     add_if(&mut lines, &made.near)?;
     add_if(&mut lines, &made.stack)?;

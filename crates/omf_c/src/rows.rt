@@ -295,4 +295,6 @@ pub struct ProgramRow {
     pub allow_group: bool,
     /// Whether near references may be into another frame.
     pub allow_near: bool,
+    /// Whether 16-bit and 32-bit parts may be one segment.
+    pub allow_mixed: bool,
 }

@@ -335,6 +335,7 @@ const PLAIN: ProgramRow = ProgramRow {
     allow_twice: false,
     allow_group: false,
     allow_near: false,
+    allow_mixed: false,
 };
 
 /// Whether the program of the module is handed out.

@@ -1,5 +1,5 @@
 -- The module that a linker adds to give the stack of a program its length (TIS OMF 1.1, "SEGDEF", combine type 5; Microsoft LINK's option STACK; this profile's rule).
-use Rattle.std.specs.Prelude.{◌≡◌, ◌<◌, ◌≤◌, ◌^◌, ◌++◌, ℕ, ◌+◌, ◌-◌, ◌*◌, ◌/◌, ◌%◌, ◌==◌, ◌&&◌, List, [], ◌∷◌, codes, filter, flat_map, fold, min, not, is_some, Bool, Option, Some, None, option_and_then, unwrap_or, slice_get, if◌then◌else◌}
+use Rattle.std.specs.Prelude.{◌≡◌, ◌<◌, ◌^◌, ◌++◌, ℕ, ◌+◌, ◌-◌, ◌*◌, ◌/◌, ◌%◌, ◌==◌, ◌&&◌, List, [], ◌∷◌, codes, filter, flat_map, fold, max, min, not, is_some, Bool, Option, Some, None, option_and_then, unwrap_or, slice_get, if◌then◌else◌}
 use Rattle.omf_check.specs.Tables.{attributes, entry}
 use Rattle.omf_frame.specs.Bytes.{last}
 use Rattle.omf_layout.specs.Own.Order.{module_at}
@@ -39,9 +39,10 @@ stack_length ps = fold with_part 0 ps
 abbrev pub even : ℕ → ℕ
 even n = (n + 1) / 2 * 2
 
--- The bytes that a stack of these parts lacks.
+-- The bytes that a stack of these parts lacks: it has as many as are asked for, or as its parts have if that is more, and one more if that is odd. SP is even
+-- then, if the stack begins at an even offset (Microsoft LINK rounds the size of a stack up too).
 abbrev pub missing : List Portion → ℕ → ℕ
-missing ps size = even size - stack_length ps
+missing ps size = even (max size (stack_length ps)) - stack_length ps
 
 -- A part of n bytes after another one: with the names of its class and its own, byte-aligned (A = 1), of the combine type stack, 32-bit if the other is (P bit).
 abbrev pub next_part : List (List Rec) → Portion → ℕ → StackPart
@@ -60,7 +61,7 @@ abbrev pub more_records : List (List Rec) → Option Portion → ℕ → List Re
 more_records ms (Some p) n = part_records (next_part ms p n)
 more_records ms None n = stack_records n
 
--- The bytes of the module that makes the stack of modules one of `size` bytes, or one more if that is odd; none if the stack is as long or longer without.
+-- The bytes of the module that makes the stack of modules one of `size` bytes or more, of an even number; none if the stack is so without.
 abbrev pub stack_bytes : List (List Rec) → ℕ → Option (List ℕ)
 stack_bytes ms size =
     let ps = stack_parts ms in
@@ -73,6 +74,6 @@ pub record IsMissingPart (ps : List Portion) (size : ℕ) (p : Portion) : Type 0
   pub aligned : bytes_aligned p.alignment ≡ 1
   pub length : p.segment.length ≡ missing ps size
 
--- With it the stack is as long as is asked for, or one byte longer if that is odd, if it is not longer without.
+-- With it the stack is as long as is asked for, or as it is without if that is longer, and one byte longer if that is odd.
 abbrev pub StackIsAsAsked : Type 0
-StackIsAsAsked = (ps : List Portion) (size : ℕ) (p : Portion) → size < 2 ^ 16 → stack_length ps ≤ even size → IsMissingPart ps size p → stack_length (ps ++ p ∷ []) ≡ even size
+StackIsAsAsked = (ps : List Portion) (size : ℕ) (p : Portion) → size < 2 ^ 16 → IsMissingPart ps size p → stack_length (ps ++ p ∷ []) ≡ even (max size (stack_length ps))

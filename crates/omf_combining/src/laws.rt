@@ -8,7 +8,7 @@ pub fn classes_come_first()
     ensures { ClassesComeFirst }
 {}
 
-/// With one more part of what it lacks, the stack is as long as is asked for.
+/// With one more part of what it lacks, the stack is as long as is asked for, or as it is without, and even.
 pub fn stack_is_as_asked()
     ensures { StackIsAsAsked }
 {}

@@ -18,8 +18,8 @@ pub fn stacks()
     ensures none { stack_length (stack_parts (of_records (segment 0x28 3 2 1 ∷ []) ∷ [])) ≡ 0 }
 {}
 
-/// A stack of 31 bytes is one of 32. The modules have 20 bytes: 12 more follow the last part, of the name B, and none if 19 or 20 are asked for.
-/// Without a stack it is a segment STACK.
+/// A stack of 31 bytes is one of 32. The modules have 20 bytes: 12 more follow the last part, of the name B, and none if 19, 2 or none are asked for.
+/// Without a stack it is a segment STACK. Of modules with 5 bytes one more follows, if none or 3 are asked for.
 pub fn stacks_of_a_length()
     ensures even { even 31 ≡ 32 }
     ensures more { stack_bytes (of_records (segment 0x34 5 2 1 ∷ segment 0x74 4 3 1 ∷ []) ∷ []) 31 ≡ Some (written (header (codes "stack") ∷ name_record [] ∷ name_record (codes "B") ∷ segment_record 0x34 12 2 1 ∷ end_record ∷ [])) }
@@ -27,6 +27,10 @@ pub fn stacks_of_a_length()
     ensures odd { stack_bytes (of_records (segment 0x34 5 2 1 ∷ segment 0x74 4 3 1 ∷ []) ∷ []) 19 ≡ None }
     ensures less { stack_bytes (of_records (segment 0x34 5 2 1 ∷ segment 0x74 4 3 1 ∷ []) ∷ []) 2 ≡ None }
     ensures new { stack_bytes (of_records (segment 0x28 3 2 1 ∷ []) ∷ []) 1000 ≡ Some (written (stack_records 1000)) }
+    ensures no_stack { stack_bytes (of_records (segment 0x28 3 2 1 ∷ []) ∷ []) 0 ≡ None }
+    ensures own_even { stack_bytes (of_records (segment 0x34 5 2 1 ∷ segment 0x74 4 3 1 ∷ []) ∷ []) 0 ≡ None }
+    ensures own_odd { stack_bytes (of_records (segment 0x34 5 2 1 ∷ []) ∷ []) 0 ≡ Some (written (header (codes "stack") ∷ name_record [] ∷ name_record (codes "A") ∷ segment_record 0x34 1 2 1 ∷ end_record ∷ [])) }
+    ensures longer_odd { stack_bytes (of_records (segment 0x34 5 2 1 ∷ []) ∷ []) 3 ≡ Some (written (header (codes "stack") ∷ name_record [] ∷ name_record (codes "A") ∷ segment_record 0x34 1 2 1 ∷ end_record ∷ [])) }
 {}
 
 /// A stack of 15 bytes from a paragraph on, and one byte after it.

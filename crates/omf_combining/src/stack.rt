@@ -109,7 +109,9 @@ fn stack_length(parts: &[Portion]) -> u64
 fn missing(parts: &[Portion], size: u16) -> u32
     ensures { result ≡ missing parts.now size }
 {
-    even(size).saturating_sub(stack_length(parts) as u32)
+    let own = stack_length(parts) as u32;
+    let length = own.max(u32::from(size));
+    (length + 1) / 2 * 2 - own
 }
 
 /// A part of the stack that is added: the names of its class and its own, its attribute byte, and its length in bytes.
@@ -191,9 +193,9 @@ fn more_module(
     }
 }
 
-/// The bytes of the module that makes the stack of modules one of `size` bytes, or one more if that is odd. If the modules have parts of the stack
+/// The bytes of the module that makes the stack of modules one of `size` bytes or more, of an even number. If the modules have parts of the stack
 /// (TIS OMF 1.1, "SEGDEF", C field: combination 5), it has the part after the last of them, with the names of its segment and its class and aligned to
-/// bytes; else a segment `STACK` of class `STACK`. None if the stack is as long or longer without.
+/// bytes; else a segment `STACK` of class `STACK`. None if the stack is so without.
 ///
 /// # Errors
 ///

@@ -2,7 +2,7 @@
 use Rattle.std.proofs.Common.{◌≡◌, ◌∙◌, ◌-◌, ℕ, List, [], ◌∷◌, Result, Ok, Err, ap, arith, inr, length, subst, sym, take}
 use Rattle.std.specs.Prelude.{IfErr, IfOk, Option, None, Some}
 use Rattle.omf_check.specs.Module.{Module}
-use Rattle.omf_exe.specs.Adding.{AreOrderedBy, IsStackOf, has_order}
+use Rattle.omf_exe.specs.Adding.{AreOrderedBy, IsStackOf, has_order, least_stack}
 use Rattle.omf_exe.specs.Origins.{AreAllWith, origins_with}
 use Rattle.omf_exe.specs.Program.{ProgramModules}
 use Rattle.omf_exe.specs.Refusing.{AreNotAdded, AreNotOrderedBy, IsRefusalFor}
@@ -16,7 +16,7 @@ use Rattle.std.proofs.lemmas.List.{take_all}
 
 module _ (kind : ProgramKind) (stack : Option ℕ) (order : Option Order) (ms : List Module) (from : List (Option Origin)) (shared : List Module) (added : Option Module) (joined : List Module) where
   -- All modules, in the order that is asked for.
-  pub all-with : (r : Result ProgramModules Refusal) → AreShared kind ms shared → IsStackOf shared stack added → joined ≡ with_added shared added
+  pub all-with : (r : Result ProgramModules Refusal) → AreShared kind ms shared → IsStackOf shared (least_stack kind stack) added → joined ≡ with_added shared added
       → IfOk r (λ p. AreOrderedBy order joined p.modules) → IfOk r (λ p. p.from ≡ origins_with (has_order order joined) from) → IfOk r (AreAllWith kind stack order ms from)
   all-with (Ok p) s t j o f = record {
     added = record { shared = shared; communals = s; added = added; stacked = t; ordered = subst (λ x. AreOrderedBy order x p.modules) j o };
@@ -25,7 +25,7 @@ module _ (kind : ProgramKind) (stack : Option ℕ) (order : Option Order) (ms : 
   all-with (Err e) s t j o f = o
 
   -- Why there are none.
-  pub none-with : (r : Result ProgramModules Refusal) → AreShared kind ms shared → IsStackOf shared stack added → joined ≡ with_added shared added
+  pub none-with : (r : Result ProgramModules Refusal) → AreShared kind ms shared → IsStackOf shared (least_stack kind stack) added → joined ≡ with_added shared added
       → IfErr r (IsRefusalFor (AreNotOrderedBy order joined)) → IfErr r (IsRefusalFor (AreNotAdded kind stack order ms))
   none-with (Ok p) s t j h = h
   none-with (Err f) s t j h = λ e. inr (record { shared = shared; communals = s; added = added; stacked = t; fault = subst (AreNotOrderedBy order) j (h e) })

@@ -1,5 +1,5 @@
 -- The modules that a linker adds to those of a program (this profile's rule).
-use Rattle.std.specs.Prelude.{◌≡◌, ℕ, List, Bool, true, false, Option, Some, None, map}
+use Rattle.std.specs.Prelude.{◌≡◌, ℕ, List, Bool, true, false, Option, Some, None, map, unwrap_or}
 use Rattle.omf_check.specs.Module.{Module, typed_modules}
 use Rattle.omf_layout.specs.Own.Order.{ask_dos_order}
 use Rattle.omf_combining.specs.Stack.{stack_bytes}
@@ -8,8 +8,14 @@ use Rattle.omf_exe.specs.Sharing.{AreShared, IsCheckedOf, with_added}
 use Rattle.omf_exe.specs.declared.options.Order.{Order}
 use Rattle.omf_exe.specs.declared.options.Order.TheVariants.{Classes, Dos, Input}
 use Rattle.omf_exe.specs.declared.options.ProgramKind.{ProgramKind}
+use Rattle.omf_exe.specs.declared.options.ProgramKind.TheVariants.{Exe, Com}
 
--- The module of the stack, if a length is asked for and the stack of the modules is shorter.
+-- The least length of the stack: as is asked for. Of an .EXE file it is even also where none is asked for, as with Microsoft LINK. A .COM file has no SP: DOS sets it.
+abbrev pub least_stack : ProgramKind → Option ℕ → Option ℕ
+least_stack Exe asked = Some (unwrap_or asked 0)
+least_stack Com asked = asked
+
+-- The module of the stack, if there is a least length and the stack of the modules is shorter, or its length is odd.
 abbrev pub IsStackOf : List Module → Option ℕ → Option Module → Type 0
 IsStackOf ms None m = m ≡ None
 IsStackOf ms (Some size) m = IsCheckedOf (stack_bytes (typed_modules ms) size) m
@@ -39,5 +45,5 @@ pub record AreAdded (kind : ProgramKind) (stack : Option ℕ) (order : Option Or
   pub shared : List Module
   pub communals : AreShared kind ms shared
   pub added : Option Module
-  pub stacked : IsStackOf shared stack added
+  pub stacked : IsStackOf shared (least_stack kind stack) added
   pub ordered : AreOrderedBy order (with_added shared added) all

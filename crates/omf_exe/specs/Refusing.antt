@@ -24,7 +24,7 @@ use Rattle.omf_placement.specs.declared.several.fault.DeriveFault.TheVariants as
 use Rattle.omf_aliases.specs.Aliases.{IsAskerOf, IsFollowingFault}
 use Rattle.omf_aliases.specs.declared.fault.FollowingFault.{FollowingFault}
 use Rattle.omf_aliases.specs.declared.fault.FollowingFault.TheVariants as following
-use Rattle.omf_exe.specs.Adding.{IsStackOf}
+use Rattle.omf_exe.specs.Adding.{IsStackOf, least_stack}
 use Rattle.omf_exe.specs.Input.{AllGive, IsInputFault, IsMemberFolded}
 use Rattle.omf_exe.specs.Lowered.{is_link_memory}
 use Rattle.omf_exe.specs.Ordering.{IsClassOrderingFault, IsOrderingFault}
@@ -191,7 +191,7 @@ pub record HaveNoOrder (kind : ProgramKind) (stack : Option ℕ) (order : Option
   pub shared : List Module
   pub communals : AreShared kind ms shared
   pub added : Option Module
-  pub stacked : IsStackOf shared stack added
+  pub stacked : IsStackOf shared (least_stack kind stack) added
   pub fault : AreNotOrderedBy order (with_added shared added)
 
 abbrev pub AreNotAdded : ProgramKind → Option ℕ → Option Order → List Module → Type 0

@@ -1,17 +1,28 @@
-//! What the option `--stack` adds to the modules of a program.
+//! The stack that is added to the modules of a program.
 
-ghost use Rattle.std.specs.Prelude.{IfOk};
+ghost use Rattle.std.specs.Prelude.{◌≡◌, IfOk};
 ghost use Rattle.omf_check.specs.Checking.{Decides};
-ghost use Rattle.omf_exe.specs.Adding.{IsStackOf};
+ghost use Rattle.omf_exe.specs.Adding.{IsStackOf, least_stack};
 
+use crate::options::ProgramKind;
 use omf_aliases::any_profile;
 use omf_check::{CheckFault, Checked, check};
 use omf_combining::stack_bytes;
 use omf_frame::Bytes;
 use std::alloc::{AllocError, Global};
 
-/// The checked module that makes the stack of modules one of as many bytes as are asked for, as `stack_bytes` has it; `None` if no length is asked
-/// for, or if the stack is as long or longer without.
+/// The least length of the stack of a program of this kind, where this one is asked for.
+pub(crate) fn least_stack(kind: ProgramKind, asked: Option<u16>) -> Option<u16>
+    ensures { result ≡ least_stack kind asked }
+{
+    match kind {
+        ProgramKind::Exe => Some(asked.unwrap_or(0)),
+        ProgramKind::Com => asked,
+    }
+}
+
+/// The checked module that makes the stack of modules one of at least as many bytes, of an even number, as `stack_bytes` has it; `None` if there is
+/// no least length, or if the stack is so without.
 ///
 /// # Errors
 ///

@@ -1,8 +1,9 @@
 //! The libraries that the modules of a program ask for in comments (TIS OMF 1.1, "COMENT", class 9F: default library search name).
 
-ghost use Rattle.std.specs.Prelude.{◌≡◌, IfOk, map};
+ghost use Rattle.std.specs.Prelude.{◌≡◌, ◌++◌, IfOk, flat_map, map, string_bytes};
+ghost use Rattle.omf_frame.specs.Bytes.{AddsText};
 ghost use Rattle.omf_library.specs.Needed.{has_name};
-ghost use Rattle.omf_exe.specs.Libraries.{sought};
+ghost use Rattle.omf_exe.specs.Libraries.{missing_line, sought};
 
 use omf_check::Checked;
 use omf_library::needed::default_libraries;
@@ -45,17 +46,26 @@ pub fn sought(
     Ok(sought)
 }
 
+/// Appends the line of a library that was not found.
+fn put_missing(text: &mut String, name: &[u8]) -> Result<(), AllocError>
+    ensures { AddsText result (string_bytes text.old) (string_bytes text.new) (missing_line name.now) }
+{
+    text.push_str("library ")?;
+    print_quoted(text, name)?;
+    Ok(text.push_str(" is not found\n")?)
+}
+
 /// A line for each library that was not found.
 ///
 /// # Errors
 ///
 /// `AllocError` if memory runs out.
-pub fn missing_lines(alloc: Global, missing: &[Vec<u8>]) -> Result<String, AllocError> {
+pub fn missing_lines(alloc: Global, missing: &[Vec<u8>]) -> Result<String, AllocError>
+    ensures { IfOk result (λ t. string_bytes t ≡ flat_map (λ n. missing_line n.items) missing.now) }
+{
     let mut lines = String::new(alloc);
     for name in missing {
-        lines.push_str("library ")?;
-        print_quoted(&mut lines, name)?;
-        lines.push_str(" is not found\n")?;
+        put_missing(&mut lines, name)?;
     }
     Ok(lines)
 }

@@ -11,6 +11,7 @@ use crate::memory::{
 };
 use crate::ordering::OrderingFault;
 use crate::refusal::Refusal;
+use crate::refused::module_line;
 use crate::sharing::SharingFault;
 use omf_aliases::FollowingFault;
 use omf_library::LibraryFault;
@@ -49,6 +50,14 @@ fn of_modules(alloc: Global, files: &[InputFile], file: usize, fault: LinkFault)
 {
     if is_link_memory(fault) {
         return memory();
+    }
+    if let LinkFault::Refused {
+        module: 0,
+        reason,
+        place,
+    } = fault
+    {
+        return in_line(module_line(alloc, files, file, reason, place));
     }
     let Some(input) = files.get(file) else {
         return memory();

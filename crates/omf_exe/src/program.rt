@@ -22,7 +22,7 @@ ghost use Rattle.omf_exe.specs.Taken.{values_at};
 ghost use Rattle.omf_trimming.specs.Choice.{AreChosen};
 ghost use Rattle.omf_trimming.specs.Trimmed.{AreTrimmed};
 
-use crate::added::stack_of;
+use crate::added::{least_stack, stack_of};
 use crate::defaults::sought;
 use crate::fault::{ComProgramFault, PlacingFault, ProgramFault};
 use crate::files::{in_line, memory, of_following, of_input, of_ordering, of_sharing};
@@ -363,7 +363,8 @@ impl ProgramModules {
     {
         let ProgramModules { modules, from } = self;
         let shared = share_communals(alloc, modules, options.kind)?;
-        let Ok(stack) = stack_of(alloc, &shared, options.stack) else {
+        let asked = least_stack(options.kind, options.stack);
+        let Ok(stack) = stack_of(alloc, &shared, asked) else {
             return Err(memory());
         };
         let Ok(modules) = with_added(shared, stack) else {

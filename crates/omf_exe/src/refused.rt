@@ -1,4 +1,4 @@
-//! The line of a needed member that the check of modules refuses.
+//! The lines of modules that are refused: of a file, and of a needed member.
 
 ghost use Rattle.std.specs.Prelude.{◌≡◌, false};
 ghost use Rattle.omf_exe.specs.Refusing.{IsRefusalFor, is_joining_memory};
@@ -9,7 +9,7 @@ use crate::joining::JoiningFault;
 use crate::lines::put_origin;
 use crate::refusal::Refusal;
 use omf_cmd::{RunFault, fault_line};
-use omf_frame::type_name;
+use omf_frame::{Place, Reason, type_name};
 use omf_library::RefusedMember;
 use omf_linking::InputFile;
 use omf_text::print_quoted;
@@ -43,6 +43,34 @@ fn put_type(text: &mut String, bytes: &[u8], offset: usize) -> Result<(), AllocE
     text.push(')')
 }
 
+/// Appends the text of a fault.
+fn put_fault(alloc: Global, text: &mut String, fault: &RunFault) -> Result<(), AllocError> {
+    let line = fault_line(alloc, fault)?;
+    text.push_str(line.as_str())
+}
+
+/// The line of the first module of a file, if it is refused: `file "NAME" module 1 refused ..`, and at its end the type of the record at fault.
+pub(crate) fn module_line(
+    alloc: Global,
+    files: &[InputFile],
+    file: usize,
+    reason: Reason,
+    place: Place,
+) -> Result<Vec<u8>, AllocError> {
+    let mut text = String::new(alloc);
+    let bytes = match files.get(file) {
+        Some(file) => file.bytes(),
+        None => &[],
+    };
+    let start = place.start as usize;
+    put_origin(&mut text, files, file, 1)?;
+    text.push(' ')?;
+    put_fault(alloc, &mut text, &RunFault::Refused { reason, place })?;
+    put_type(&mut text, bytes, start)?;
+    text.push('\n')?;
+    Ok(text.into_bytes())
+}
+
 /// The line of a member that is refused: `file "NAME" module 2 "MEMBER" refused ..`, and at its end the type of the record at fault.
 fn member_line(
     alloc: Global,
@@ -60,14 +88,13 @@ fn member_line(
     text.push(' ')?;
     print_quoted(&mut text, name_of(bytes, offset))?;
     text.push(' ')?;
-    let reason = refused.reason;
-    let place = refused.place;
-    text.push_str(fault_line(alloc, &RunFault::Refused { reason, place })?.as_str())?;
-    put_type(
-        &mut text,
-        bytes,
-        offset.saturating_add(refused.place.start as usize),
-    )?;
+    let Place { start, .. } = refused.place;
+    let fault = RunFault::Refused {
+        reason: refused.reason,
+        place: refused.place,
+    };
+    put_fault(alloc, &mut text, &fault)?;
+    put_type(&mut text, bytes, offset.saturating_add(start as usize))?;
     text.push('\n')?;
     Ok(text.into_bytes())
 }

@@ -92,8 +92,9 @@ Numbers are hexadecimal, but for BYTES: 1000, 0x1000 and 1000H are one, and so
 are --base 1000 and --base=1000. @FILE is the words of a file, and -- ends the
 options.
 
-Where a file is -, omf-link reads the standard input; without files also, but
-for exe and com. omf-link(1), docs/DOS.md and docs/ADDRESSES.md show examples,
-and explain each line that is printed.
+The name of a module's file may lack .obj. Where a file is -, omf-link reads the
+standard input; without files also, but for exe and com. omf-link(1),
+docs/DOS.md and docs/ADDRESSES.md show examples, and explain each line that is
+printed.
 ",
 };

@@ -7,11 +7,11 @@ use crate::folders::Folders;
 use crate::libraries::{Search, Sources};
 use crate::missing::{Missing, lines_of};
 use omf_drafting::asked::{Asked, sorted};
-use omf_drafting::host::write_or_tell;
+use omf_drafting::host::{write_or_tell, write_three_or_tell};
 use omf_exe::host::tell_refusal;
 use omf_exe::{Call, ExeOptions, Leftovers, MadeProgram, Refusal, call_of};
 use omf_frame::Sink;
-use omf_host::{OutputFile, RunFiles, Status, Streams, misused_by, put_quoted, refuse_clash, warn};
+use omf_host::{OutputFile, RunFiles, Status, Streams, misused_by, refuse_clash, warn};
 use std::alloc::AllocError;
 
 /// The warning of a program without a stack.
@@ -82,30 +82,8 @@ fn symbols_file<'a>(made: &'a MadeProgram, name: Option<&'a str>) -> Option<Outp
     }
 }
 
-/// Writes symbols, and then a program and its map. If the symbols are not written, nothing is; else a line shows that they are. Returns `Done`; or
-/// `Failed`, after a line on why, if one could not be written.
-fn write_three<K: Sink, E: Sink>(
-    rt: &HostRuntime,
-    program: OutputFile<'_>,
-    map: OutputFile<'_>,
-    symbols: OutputFile<'_>,
-    streams: &mut Streams<K, E>,
-) -> Result<Status, AllocError> {
-    let status = write_or_tell(rt, symbols, None, streams)?;
-    if status != Status::Done {
-        return Ok(status);
-    }
-    let status = write_or_tell(rt, program, Some(map), streams)?;
-    if status != Status::Done {
-        let mut line = String::new(rt.alloc());
-        put_quoted(&mut line, symbols.name.as_bytes())?;
-        line.push_str(" is written\n")?;
-        streams.report(rt.alloc(), line.as_bytes())?;
-    }
-    Ok(status)
-}
-
-/// Writes a program, and its map and its symbols, if these are asked for. Returns `Done`; or `Failed`, after a line on why, if one could not be written.
+/// Writes a program, and its map and its symbols, if these are asked for: all, or mostly none. Returns `Done`; or `Failed`, after a line on why, if one
+/// could not be written.
 fn write_files<K: Sink, E: Sink>(
     rt: &HostRuntime,
     made: &MadeProgram,
@@ -117,7 +95,7 @@ fn write_files<K: Sink, E: Sink>(
         return write_or_tell(rt, program, map_file(made, output.map), streams);
     };
     match map_file(made, output.map) {
-        Some(map) => write_three(rt, program, map, symbols, streams),
+        Some(map) => write_three_or_tell(rt, program, map, symbols, streams),
         None => write_or_tell(rt, program, Some(symbols), streams),
     }
 }

@@ -1,10 +1,10 @@
 //! The folders in which files and libraries are looked for: the current one, those of the options, and those of the variable LIB.
 
 use omf_exe::ExeOptions;
+use omf_host::with_ending;
 use std::alloc::AllocError;
+use std::env;
 use std::env::VarError;
-use std::io::ErrorKind;
-use std::{env, fs, io};
 
 /// The endings of the names of files that may be left out, after the name as it is.
 const ENDINGS: [&str; 5] = ["", ".obj", ".lib", ".OBJ", ".LIB"];
@@ -16,29 +16,12 @@ pub(crate) struct Folders {
     fronts: Vec<String>,
 }
 
-/// None for a failure of the system; but out of memory is an error.
-pub(crate) fn unless_failed<T>(found: io::Result<T>) -> Result<Option<T>, AllocError> {
-    match found {
-        Ok(found) => Ok(Some(found)),
-        Err(error) if error.kind() == ErrorKind::OutOfMemory => Err(AllocError),
-        Err(_) => Ok(None),
-    }
-}
-
 /// The variable LIB; empty if it is not there, or is no text.
 fn library_variable(rt: &HostRuntime) -> Result<String, AllocError> {
     match env::var(rt, "LIB") {
         Ok(folders) => Ok(folders),
         Err(VarError::OutOfMemory) => Err(AllocError),
         Err(VarError::NotPresent | VarError::NotUnicode) => Ok(String::new(rt.alloc())),
-    }
-}
-
-/// Whether there is a file of this name, which is no folder.
-pub(crate) fn is_file(rt: &HostRuntime, path: &str) -> Result<bool, AllocError> {
-    match unless_failed(fs::metadata(rt, path))? {
-        Some(found) => Ok(!found.is_dir()),
-        None => Ok(false),
     }
 }
 
@@ -81,7 +64,7 @@ impl Folders {
             fronts = fronts.get(..1).unwrap_or(&[]);
         }
         for front in fronts {
-            if let Some(path) = with_ending(rt, front.as_str(), name)? {
+            if let Some(path) = with_ending(rt, front.as_str(), name, &ENDINGS)? {
                 return Ok(path);
             }
         }
@@ -100,15 +83,4 @@ impl Folders {
         }
         Ok(files)
     }
-}
-
-/// The path of the file with this name in a folder, with the first ending that makes one. None if there is none.
-fn with_ending(rt: &HostRuntime, front: &str, name: &str) -> Result<Option<String>, AllocError> {
-    for ending in ENDINGS {
-        let path = format!(in rt.alloc(); "{front}{name}{ending}")?;
-        if is_file(rt, path.as_str())? {
-            return Ok(Some(path));
-        }
-    }
-    Ok(None)
 }

@@ -16,7 +16,7 @@ use omf_drafting::asked::{Asked, sorted};
 use omf_drafting::host::{perform_on_input, read_or_tell, tell_fault};
 use omf_frame::Sink;
 use omf_host::{
-    Progress, RunFiles, Status, Streams, end, explain, misused_by, out_of_memory,
+    Progress, RunFiles, Status, Streams, end, explain, misused_by, object_files, out_of_memory,
     program_and_arguments, question_with_tasks, refuse_clash, standard_streams, warn,
 };
 use omf_lines::{FilesFault, ImageFault, TextFault};
@@ -382,9 +382,10 @@ fn on_words<K: Sink, E: Sink>(
     allowed: Allowed,
     streams: &mut Streams<K, E>,
 ) -> Result<Status, AllocError> {
-    let Some(asked) = sorted(rt.alloc(), words, 2)? else {
+    let Some(mut asked) = sorted(rt.alloc(), words, 2)? else {
         return misused_by(rt, streams, &ABOUT);
     };
+    asked.files = object_files(rt, &asked.files)?;
     on_task(rt, &asked, allowed, streams)
 }
 

@@ -1,7 +1,7 @@
 //! The files of a folder that may be a library: a folder is listed once in a run.
 
-use crate::folders::{is_file, unless_failed};
 use omf_exe::library_files;
+use omf_host::{is_file, unless_failed};
 use std::alloc::{AllocError, Global};
 use std::collections::BTreeMap;
 use std::fs;

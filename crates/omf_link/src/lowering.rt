@@ -6,7 +6,9 @@ use crate::about::ABOUT;
 use omf_drafting::asked::{Asked, sorted};
 use omf_drafting::host::{read_or_tell, tell_fault, write_or_tell};
 use omf_frame::Sink;
-use omf_host::{OutputFile, RunFiles, Status, Streams, misused_by, put_quoted, refuse_clash};
+use omf_host::{
+    OutputFile, RunFiles, Status, Streams, misused_by, object_files, put_quoted, refuse_clash,
+};
 use omf_lines::{FilesFault, file_front};
 use omf_linking::LinkFault;
 use omf_lowering::{FileFault, lowered_file};
@@ -115,9 +117,10 @@ pub(crate) fn on_words<K: Sink, E: Sink>(
     words: &[String],
     streams: &mut Streams<K, E>,
 ) -> Result<Status, AllocError> {
-    let Some(asked) = sorted(rt.alloc(), words, 2)? else {
+    let Some(mut asked) = sorted(rt.alloc(), words, 2)? else {
         return misused_by(rt, streams, &ABOUT);
     };
+    asked.files = object_files(rt, &asked.files)?;
     let Some(names) = names_of(&asked) else {
         return misused_by(rt, streams, &ABOUT);
     };

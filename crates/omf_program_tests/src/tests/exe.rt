@@ -10,6 +10,10 @@ use std::alloc::Global;
 const ONE: &str =
     "80030001413B 960600000154015300 98070028040002010100 98070074100003010100 A00800010000B80000CB00 9C0500C801540100 8A0700C1000101000000";
 
+/// The same with a stack of 15 bytes.
+const ODD_STACK: &str =
+    "80030001413B 960600000154015300 98070028040002010100 980700740F0003010100 A00800010000B80000CB00 9C0500C801540100 8A0700C1000101000000";
+
 /// The same without the stack.
 const NO_STACK: &str =
     "80030001413B 960600000154015300 98070028040002010100 A00800010000B80000CB00 9C0500C801540100 8A0700C1000101000000";
@@ -52,9 +56,9 @@ const ASKS: &str = "800300014200 8C040001660000 8A02000000";
 const LIBRARY: &str =
     "F00D0000000000000000000000000000 80030001420096040000015400980700280100020101009008000001016700000000A0050001000090008A020000000080030001420096040000015400980700280100020101009008000001016600000000A00500010000CB008A0200000000F1";
 
-/// The same library with a VENDEXT in its first member, which has the public g.
+/// The same library with a CEXTDEF of a name that no LNAMES has in its first member, which has the public g.
 const REFUSED: &str =
-    "F00D0000000000000000000000000000 80030001420096040000015400980700280100020101009008000001016700000000CE050001000090008A020000000080030001420096040000015400980700280100020101009008000001016600000000A00500010000CB008A0200000000F1";
+    "F00D0000000000000000000000000000 80030001420096040000015400980700280100020101009008000001016700000000BC050009000900008A020000000080030001420096040000015400980700280100020101009008000001016600000000A00500010000CB008A0200000000F1";
 
 /// A main module: `call far g` in the segment T.
 const CALLS_G: &str =
@@ -95,7 +99,7 @@ const NOTHING_LIES_THERE: &str =
 const ONE_LIES_THERE: &str =
     "800300014200 96040000015500 980A0000400000040002010100 A00500010000AB00 8A02000000";
 
-static CASES: [Case; 25] = [
+static CASES: [Case; 26] = [
     // The word at 1 moves. Two paragraphs from the end of the image on, the stack ends at 1:10H.
     Case {
         files: &[("one.obj", ONE)],
@@ -114,6 +118,13 @@ static CASES: [Case; 25] = [
         files: &[("calls.obj", CALLS), ("l.lib", LIBRARY)],
         program: "4D5A2600010001000200 0000FFFF0000000000000000 00001C000000 03000000 9A05000000CB",
         has_stack: false,
+        line: "",
+    },
+    // An odd stack gets one byte more.
+    Case {
+        files: &[("one.obj", ODD_STACK)],
+        program: "4D5A2400010001000200 0200FFFF0100100000000000 00001C000000 01000000 B80000CB",
+        has_stack: true,
         line: "",
     },
     // No member is looked for a weak external: f is its default, at 0. A lazy one takes the second member, and so does another module that asks for f.
@@ -173,12 +184,12 @@ static CASES: [Case; 25] = [
         has_stack: false,
         line: "",
     },
-    // The module needs it: its VENDEXT is its fifth record, 34 bytes after its start.
+    // The module needs it: its CEXTDEF is its fifth record, 34 bytes after its start.
     Case {
         files: &[("calls.obj", CALLS_G), ("l.lib", REFUSED)],
         program: "",
         has_stack: false,
-        line: "file \"l.lib\" module 1 \"B\" refused 4 UnsupportedType record 4 at 34 within 0 (VENDEXT)\n",
+        line: "file \"l.lib\" module 1 \"B\" refused 21 UndefinedName record 4 at 34 within 3 (CEXTDEF)\n",
     },
     Case {
         files: &[("calls.obj", CALLS)],
