@@ -16,14 +16,16 @@
 #                       omf-find.1,
 #                       lib/libomf.a, lib/libomf.so,
 #                       include/omf.h, lib/pkgconfig/omf.pc; the Python package is installed by `pip install ./python`, which needs no network
-# make dist             packs the proved programs, their man pages, the library, the page, and the last line of the log GATE of `.ci/run`
-#                       into build/omf-VERSION-x86_64-linux.tar.xz, the same bytes for the same files (dist/pack.sh)
+# make dist             packs the proved programs, man pages, completions, the library, the wheel, the examples and the page into
+#                       build/omf-VERSION-x86_64-linux.tar.xz, the same bytes for the same sources (dist/pack.sh); `dist/gate.sh LOG` before adds the
+#                       last line of a log of `.ci/run`, `dist/release.sh make` after puts the tar and the page into dist/
 # make wheel            packs the Python package with the library (UNPROVED=1: without its proofs) into build/omf-VERSION-py3-none-linux_x86_64.whl
 # make vendor DEST=DIR  copies the crates CRATES (omf_check) and those below them, with their lines of crates.txt, into the repository DIR
 # make shown            runs the commands that the pages show with the installed programs, and compares what they print; OMF, OMF_PLACE,
 #                       OMF_LINK, OMF_DUMP, OMF_LIB, OMF_FIND and LIBOMF name others (tests/shown.sh)
 # make release          runs what the gate leaves out: the C library, the Python package, the page in Chromium, the cases and other programs on
-#                       the built programs, failing devices, the examples in emulators, the commands of the pages, and tests/fuzz for MINUTES
+#                       the built programs, failing devices, the examples in emulators, the commands of the pages, the package in a fresh Debian
+#                       and made anew beside dist/, and tests/fuzz for MINUTES
 #                       (10) a target; PLANTED=1 adds tests/planted.sh, MODULES a folder of modules, STAGES="page fuzz" runs these alone. It
 #                       builds none of them: `make build library page` does, before (tests/release.py)
 # make docs             writes docs/CALLS.md, docs/BELIEVE.md, docs/REFUSALS.md and the tables of docs/INDEX.md from the sources
@@ -31,7 +33,6 @@
 
 PREFIX ?= /usr/local
 VERSION := $(shell cat VERSION)
-CC ?= cc
 MODULES ?=
 JOB ?= check
 WORDS ?=
@@ -88,7 +89,7 @@ try-c: library
 else
 library:
 	cd crates/omf_c && rt lib
-	CC="$(CC)" dist/library.sh
+	dist/library.sh
 
 try-c: build library
 	LIBRARY=build/libomf.a OMF=crates/omf/out/omf OMF_DUMP=crates/omf_dump/out/omf_dump OMF_LINK=crates/omf_link/out/omf_link tests/c/run.sh $(MODULES)

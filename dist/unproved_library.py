@@ -27,7 +27,7 @@ def value(kind):
 def program():
     yield "use std::process::ExitCode;\n\nfn main(rt: HostRuntime) -> ExitCode {\n    let alloc = rt.alloc();"
     yield "    let answer = omf_c::omf_check(alloc, &[], false);\n    let mut sum = answer.status;"
-    yield "    let asked = omf_c::ProgramRow { stack: 0, order: 0, is_com: false, ignore_case: false, allow_twice: false, allow_group: false, allow_near: false };"
+    yield "    let asked = omf_c::ProgramRow { stack: 0, order: 0, is_com: false, ignore_case: false, allow_twice: false, allow_group: false, allow_near: false, allow_mixed: false };"
     yield "    let placement = omf_c::PlacementRows { segments: &[], groups: &[], externals: &[] };"
     for _, name, kinds in calls():
         call = f"omf_c::{name}({', '.join(map(value, kinds))})"

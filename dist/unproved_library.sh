@@ -3,7 +3,8 @@
 # installed is proved.
 #
 # A program that makes each call is built by `rt try`, whose bitcode is kept (page/kit.sh). Its functions get names that C can call, and a shim
-# in C has the calls of include/omf.h.
+# in C has the calls of include/omf.h. SANITIZE=1 makes build/sanitized/libomf.a, with AddressSanitizer and counters for libFuzzer in all
+# of it, and UndefinedBehaviorSanitizer in the shim; CC must be a clang then. LEVEL is the level of optimization (1).
 set -euo pipefail
 cd "$(dirname "$0")/.."
 . page/kit.sh
@@ -31,12 +32,14 @@ fi
 dist/unproved_library.py names | sed -E 's|^(\S+) (\S+)$|s/^define internal (.*)@"\1"\\(/define \\1@\2(/; s/@"\1"\\(/@\2(/g|' > "$work/names"
 "$clang" -w -x ir "$kept" -S -emit-llvm -o - -O0 -Xclang -disable-llvm-passes \
     | sed -E -f "$work/names" -e 's/^define i32 @main\(\)/define internal i32 @"no main"()/' > "$work/library.ll"
-"$clang" -w -O1 -fPIC -ffunction-sections -fdata-sections -c -x ir "$work/library.ll" -o "$work/library.o"
+"$clang" -w "-O${LEVEL:-1}" -fPIC -ffunction-sections -fdata-sections ${SANITIZE:+-fsanitize=address -fsanitize-coverage=inline-8bit-counters,pc-table} -c -x ir "$work/library.ll" -o "$work/library.o"
 dist/unproved_library.py shim > "$work/shim.c"
 cc=${CC:-cc}
-"$cc" -O1 -fPIC -Iinclude -c "$work/shim.c" -o "$work/shim.o"
+"$cc" -O1 -fPIC ${SANITIZE:+-fsanitize=address,undefined -fno-sanitize-recover=all} -Iinclude -c "$work/shim.c" -o "$work/shim.o"
+[ -z "${SANITIZE:-}" ] || to=build/sanitized
+mkdir -p "$to"
 (cd "$work" && ar x "$(dirname "$(rt doc)")/c/liblibc_c.a")
 rm -f "$to/libomf.a"
 ar rcs "$to/libomf.a" "$work"/*.o
-"$cc" -shared -Wl,-soname,libomf.so -o "$to/libomf.so" "$work"/*.o
-echo "$to/libomf.a and $to/libomf.so, built without proofs"
+[ -n "${SANITIZE:-}" ] || "$cc" -shared -Wl,-soname,libomf.so -o "$to/libomf.so" "$work"/*.o
+echo "$to/libomf.a$([ -n "${SANITIZE:-}" ] || echo " and $to/libomf.so"), built without proofs"

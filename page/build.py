@@ -10,11 +10,13 @@ import hashlib
 import json
 import pathlib
 import re
-import subprocess
 import sys
 
 HERE = pathlib.Path(__file__).resolve().parent
 ROOT = HERE.parent
+sys.path.insert(0, str(ROOT / "dist"))
+import sources  # noqa: E402
+
 PROGRAMS = ("omf", "omf_dump", "omf_place", "omf_lib")
 SCRIPTS = ("bytes", "lists", "choices", "engine", "look", "fields", "words", "tree", "search", "hex", "picture", "images", "placing", "compare", "takeout",
            "libraries", "files", "main")
@@ -98,18 +100,10 @@ def embedded(value):
     return json.dumps(value, separators=(",", ":")).replace("<", "\\u003c")
 
 
-def git(*words):
-    ran = subprocess.run(["git", "-C", ROOT, *words], stdout=subprocess.PIPE, stderr=subprocess.DEVNULL, check=False)
-    return ran.stdout.decode().strip() if ran.returncode == 0 else ""
-
-
 def made_of(is_proved):
-    """The page's last line: the commit that it was made of, and whether the programs are proved."""
-    commit = git("rev-parse", "--short=12", "HEAD")
-    changed = ", with changes" if commit and git("status", "--porcelain", "--untracked-files=no") else ""
-    sources = f"commit {commit}{changed}" if commit else "sources without a commit"
+    """The page's last line: the sources that it was made of, and whether the programs are proved."""
     how = "The programs were proved before." if is_proved else "The programs were built without proofs, with run-time checks in their place."
-    return f"Version {(ROOT / 'VERSION').read_text().strip()}, made of {sources}. {how}"
+    return f"Version {(ROOT / 'VERSION').read_text().strip()}, made of the sources {sources.digest()}. {how}"
 
 
 def digest(text):

@@ -78,6 +78,13 @@ def peers():
     yield Stage("firmware texts", ["tests/firmware.sh"], "", "objcopy|srec_cat", 300, r"^\S+ reads ")
 
 
+def package():
+    name = f"omf-{(ROOT / 'VERSION').read_text().strip()}-x86_64-linux.tar.xz"
+    released, built = ROOT / "dist" / name, ROOT / "build" / name
+    yield Stage("package anew", ["dist/release.sh", "compare"], " ".join(BUILT), "rt objdump xz", 600, r"^(\d+) files of dist/")
+    yield Stage("package used", ["tests/dist.sh", str(released if released.exists() else built)], "", "bwrap", 1800, r"^(\d+) tries")
+
+
 def examples():
     ran = r"^it ran"
     yield Stage("example boot", ["examples/boot/run.sh"], "OMF", "qemu-system-i386", 300, ran)
@@ -94,6 +101,7 @@ def fuzz():
     script, seconds = "tests/fuzz/run.sh", f"{60 * MINUTES:.0f}"
     for target in ("dump", "library", "exe", "com", "placement", "linktext", "find", "lower"):
         yield Stage(f"fuzz {target}", [script, seconds, target], " ".join(PROGRAMS), "", 120 * MINUTES + 600, r": (\d+) inputs", {"WORK": str(BROKEN)})
+    yield Stage("fuzz sanitized", ["tests/sanitized.sh", seconds, *FOLDERS[1:]], "", "rt libFuzzer", 1800 * MINUTES + 7200, r"^(?:library|programs): (\d+) runs")
     for target in ("check", "canon", "reloc", "members", "link", "program", "shown"):
         units = r"number_of_executed_units: *(\d+)"
         yield Stage(f"fuzz {target}", [script, seconds, target], "LIBRARY", "rt libFuzzer", 180 * MINUTES + 3600, units, {"WORK": str(BROKEN)})
@@ -104,6 +112,7 @@ def stages():
     yield Stage("C library", ["tests/c/run.sh", *FOLDERS[1:]], "LIBRARY OMF OMF_DUMP", "gcc|clang", 3600, r"as the program, on (\d+) modules", {"LIBRARY": str(FILES["LIBRARY"])})
     yield Stage("Python package", ["python3", "-m", "unittest", "discover", "-s", "python/tests"], "LIBOMF", "", 600, r"^Ran (\d+) tests")
     yield Stage("page", ["tests/page.sh", *FOLDERS[1:]], "PAGE OMF OMF_DUMP OMF_PLACE OMF_LIB", "chromium|chromium-browser|google-chrome", 3600, r"^(\d+) tries")
+    yield from package()
     yield from conformance()
     yield from peers()
     for folder in FOLDERS:

@@ -1,8 +1,8 @@
-"""The modules and placements that cost omf the most.
+"""The modules and placements that cost omf and omf-place the most.
 
-For each the table has the bytes of the input, the time of `sha256sum` of it, and for `check`, `list` and `reloc` the processor time as a ratio to
-that, the peak of memory in megabytes, and the bytes that were written. Each time is the best of RUNS runs (3). Below 1 MB the program's own start
-is most of a time, so there the time itself is printed, in milliseconds."""
+For each the table has the bytes of the input, the time of `sha256sum` of it, and for `check`, `list`, `canon`, `reloc` and omf-place the processor
+time as a ratio to that, the peak of memory in megabytes, and the bytes that were written. Each time is the best of RUNS runs (3). Below 1 MB the
+program's own start is most of a time, so there the time itself is printed, in milliseconds."""
 import os
 import pathlib
 import struct
@@ -10,7 +10,8 @@ import tempfile
 
 import running
 
-OMF = os.environ.get("OMF", "omf")
+OMF, PLACE = running.program("OMF", "omf"), running.program("OMF_PLACE", "omf-place")
+JOBS = {"check": [OMF, "check"], "list": [OMF, "list"], "canon": [OMF, "canon"], "reloc": [OMF, "reloc"], "omf-place": [PLACE, "--flat", "8"]}
 RUNS = int(os.environ.get("RUNS", "3"))
 LIMIT_SECONDS = 120
 ITEMS = 1_048_576
@@ -160,17 +161,21 @@ def cell(found, sha, is_small):
 
 
 def measure(folder, launch, part):
-    print("| Input | Bytes | `sha256sum`, ms | `check` | `list` | `reloc` |\n|---|---|---|---|---|---|")
+    print("| Input | Bytes | `sha256sum`, ms | `check` | `list` | `canon` | `reloc` | `omf-place` |\n|---|---|---|---|---|---|---|---|")
     for name, (make, placement) in SHAPES.items():
         if part not in name:
             continue
         module, both = folder / "module", folder / "both"
         module.write_bytes(make())
         both.write_bytes(module.read_bytes() + placement.encode())
+        size, cells = both.stat().st_size, []
         sha = run(launch, ["sha256sum"], both)[0]
-        is_small = both.stat().st_size < 1_000_000
-        cells = [cell(run(launch, [OMF, job], both if job == "reloc" else module), sha, is_small) for job in ("check", "list", "reloc")]
-        print(f"| {name} | {both.stat().st_size:,} | {sha:.1f} | " + " | ".join(cells) + " |", flush=True)
+        for job, command in JOBS.items():
+            found = run(launch, command, both if job == "reloc" else module)
+            cells.append(cell(found, sha, size < 1_000_000))
+            task = job if job.startswith("omf") else f"omf {job}"
+            running.FOUND.append(running.Found(task, name, found[0] / sha, found[1], size, found[2]) if found else running.Found(task, name, float("inf"), 0, size, 0))
+        print(f"| {name} | {size:,} | {sha:.1f} | " + " | ".join(cells) + " |", flush=True)
 
 
 def table(part):

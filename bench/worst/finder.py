@@ -14,7 +14,7 @@ import running
 sys.path.insert(0, str(running.BENCH.parent / "tests" / "fuzz"))
 from libraries import BLOCK, library, record  # noqa: E402
 
-FIND = os.environ.get("OMF_FIND", "omf-find")
+FIND = running.program("OMF_FIND", "omf-find")
 RUNS = int(os.environ.get("RUNS", "2"))
 LIMIT_SECONDS = 120
 NO_DICTIONARY = bytes(BLOCK)
@@ -119,6 +119,8 @@ def show(name, folder, launch):
         size = len(program) + len(lib)
         sums.append(sha256sum(launch, paths))
         found.append(measure(launch, paths))
+    large = found[1]
+    running.FOUND.append(running.Found("omf-find", name, large[0] / max(sums[1], 0.1) if large else float("inf"), large[1] if large else 0, size, large[2] if large else 0))
     if None in found:
         print(f"| {name} | {2 * count:,} | {size:,} | over {LIMIT_SECONDS} s | | | | | |", flush=True)
         return

@@ -14,7 +14,7 @@ import running
 sys.path.insert(0, str(running.BENCH.parent / "tests" / "fuzz"))
 from libraries import BLOCK, library, record  # noqa: E402
 
-LINK = os.environ.get("OMF_LINK", "omf-link")
+LINK = running.program("OMF_LINK", "omf-link")
 RUNS = int(os.environ.get("RUNS", "2"))
 LIMIT_SECONDS = 120
 FRONT = record(0x96, b"\x00\x04CODE\x05STACK")
@@ -132,6 +132,40 @@ def text_of_externals(count):
     return 'M "A"\nS #1 0 0 0\n' + "".join(f'X "{name_of(it, 255).decode()}" {it:X} 0 0\n' for it in reversed(range(count)))
 
 
+def aliases(count, others):
+    """A module whose externals are aliases of one public; with `others` each goes through this number of further aliases, shared by all."""
+    names, chain = [name_of(it) for it in range(count)], [b"through%02d" % it for it in range(others)] + [b"public"]
+    pairs = [*((it, chain[0]) for it in names), *zip(chain, chain[1:])]
+    links = b"".join(record(0xC6, bytes([len(a)]) + a + bytes([len(b)]) + b) for a, b in pairs)
+    made = module(b"a", [b"public"], names, start=True)
+    return [made[:made.index(FRONT)] + links + made[made.index(FRONT):]]
+
+
+def comdat(number, data, flags=0):
+    """A COMDAT of any instance, far code, by the index of its name."""
+    index = bytes([number]) if number < 128 else struct.pack(">H", 0x8000 | number)
+    return record(0xC2, bytes([flags, 0x11, 1, 0, 0, 0]) + index + data)
+
+
+def many_comdats(count):
+    """COMDATs of a byte, of names of their own."""
+    names = b"".join(record(0x96, b"\x08" + name_of(it)) for it in range(count))
+    return [asking(0, ()).replace(SEGMENT, SEGMENT + names + b"".join(comdat(it + 4, b"\x90") for it in range(count)))]
+
+
+def continued(count):
+    """A COMDAT of a byte that is continued with another one, again and again: 64 KB are the most that it may have."""
+    pieces = b"".join(record(0xC2, bytes([1, 0x11, 1]) + struct.pack("<H", it) + b"\0\x03\x90") for it in range(1, count))
+    return [record(0x80, b"\x01a") + record(0x96, b"\x00\x04CODE\x01f") + SEGMENT + comdat(3, b"\x90") + pieces + record(0x8A, b"\x00")]
+
+
+def backpatches(count):
+    """Data records of two bytes, and a BAKPAT with an item for each; all are for the first record."""
+    rows = b"".join(record(0xA0, b"\x01" + struct.pack("<H", 2 * it) + bytes(2)) for it in range(count))
+    items = b"".join(record(0xB2, b"\x01\x01" + struct.pack("<HH", 0, 1) * min(8000, count - it)) for it in range(0, count, 8000))
+    return [record(0x80, b"\x01a") + FRONT + record(0x98, b"\x28" + struct.pack("<H", 2 * count) + b"\x02\x02\x01") + rows + items + record(0x8A, b"\x00")]
+
+
 IMAGE = ["image", "-t", "text"]
 SHAPES = {
     "n libraries, each needs the next": (chain_of_libraries, None, 500, ["exe"]),
@@ -147,6 +181,11 @@ SHAPES = {
     "n modules, 16 names that nothing defines": (lambda n: [asking(it, [name_of(it) for it in range(16)]) for it in range(n)], None, 1000, ["exe"]),
     "n communals of names of their own": (lambda n: [asking(0, (), [name_of(it) for it in range(n)])], None, 8000, ["exe"]),
     "n modules, 16 communals of the same names": (lambda n: [asking(it, (), [name_of(it) for it in range(16)]) for it in range(n)], None, 1000, ["exe"]),
+    "n aliases of one public": (lambda n: aliases(n, 0), None, 8000, ["exe"]),
+    "n aliases that lead through 60 others": (lambda n: aliases(n, 60), None, 8000, ["exe"]),
+    "n COMDATs": (many_comdats, None, 8000, ["exe"]),
+    "a COMDAT continued n times": (continued, None, 8000, ["lower"]),
+    "n data records and items of a BAKPAT": (backpatches, None, 8000, ["lower"]),
     "n segments of 65,520 bytes": (large, None, 8, ["exe"]),
     "n modules of one public": (lambda n: [module(name_of(it), [name_of(it)], start=it == 0) for it in range(n)], None, 1000, ["exe"]),
     "n modules of one public, drafted": (lambda n: [module(name_of(it), [name_of(it)]) for it in range(n)], None, 1000, ["draft", "--flat", "0"]),
@@ -189,12 +228,15 @@ def show(name, folder, launch):
             (own / "text").write_text(make_text(size))
             names.append("text")
         bytes_ = sum((own / it).stat().st_size for it in names)
-        task = [LINK, *words, *(["-o", "out.exe"] if words[0] == "exe" else []), *[it for it in names if it != "text"]]
+        task = [LINK, *words, *(["-o", "out.exe"] if words[0] in ("exe", "lower") else []), *[it for it in names if it != "text"]]
         found.append((measure(launch, task, own), measure(launch, ["sha256sum", *names], own), bytes_))
+    task = f"omf-link {words[0]}"
     if None in (found[0][0], found[1][0]):
+        running.FOUND.append(running.Found(task, name, float("inf"), 0, bytes_, 0))
         return print(f"| {name} | `{words[0]}` | {2 * count:,} | {bytes_:,} | over {LIMIT_SECONDS} s |", flush=True)
     empty = measure(launch, [LINK, "--version"], folder)[0]
     (small, _, _), (most, hash_, bytes_) = found
+    running.FOUND.append(running.Found(task, name, most[0] / hash_[0], most[1], bytes_, most[2]))
     growth = max(most[0] - empty, 0.1) / max(small[0] - empty, 0.1)
     print(f"| {name} | `{words[0]}` | {2 * count:,} | {bytes_:,} | {growth:.2f} | {most[0]:.0f} ms | {most[0] / hash_[0]:.1f} | {small[1]:.0f}, {most[1]:.0f} MB | "
           f"{most[2]:,} | {most[3]} |", flush=True)

@@ -12,12 +12,14 @@ import tempfile
 import running
 
 sys.path.insert(0, str(running.BENCH.parent / "tests" / "fuzz"))
-from libraries import BLOCK, BUCKETS, library, module, record  # noqa: E402
+from libraries import BLOCK, BUCKETS, library, module, names_of_one_hash, record  # noqa: E402
 
-PROGRAMS = {"dump": os.environ.get("OMF_DUMP", "omf-dump"), "lib": os.environ.get("OMF_LIB", "omf-lib")}
+PROGRAMS = {"dump": running.program("OMF_DUMP", "omf-dump"), "lib": running.program("OMF_LIB", "omf-lib")}
 RUNS = int(os.environ.get("RUNS", "2"))
 SCALE = int(os.environ.get("SCALE", "1"))
 LIMIT_SECONDS = 300
+# What a task writes, into a folder of its own.
+MORE = {"get": ["--numbered", "-d", "."], "make": ["-o", "made.lib"], "canon": ["-o", "made.lib"]}
 FRONT = record(0x80, b"\x01A") + record(0x96, b"\x00\x01T") + record(0x98, b"\x28\x01\x00\x02\x01\x01")
 END = record(0x8A, b"\x00")
 FRONT_OF_LONG = record(0x80, b"\x01A") + record(0x96, b"\x00\x01T") + record(0x98, b"\x28\x02\x00\x02\x01\x01") + record(0x8C, b"\xFF" + b"\x1B" * 255 + b"\x00")
@@ -75,6 +77,9 @@ SHAPES = {
     "n members of 10 bytes": (tiny_members, 32_767, "lib", ["check", "list"]),
     "n members of 10 bytes, shown": (tiny_members, 32_767, "dump", ["", "--json"]),
     "n members of one public": (one_public_each, 4_000, "lib", ["check", "list"]),
+    "n members of one public, taken": (one_public_each, 4_000, "lib", ["get", "canon"]),
+    "n publics of their own": (lambda n: module(b"m", [name_of(it) for it in range(n)]), 8_000, "lib", ["make"]),
+    "n publics of one hash": (lambda n: module(b"m", names_of_one_hash(n)), 4_000, "lib", ["make"]),
     "n publics, all of 251 blocks full": (lambda n: full_blocks(n, 251), 2_000, "lib", ["check"]),
     "251 publics, n blocks full": (lambda n: full_blocks(251, n), 2_000, "lib", ["check"]),
     "n full blocks of one name each": (named_blocks, 250, "lib", ["check"]),
@@ -94,14 +99,19 @@ SHAPES = {
 }
 
 
-def measure(launch, command, path):
+def measure(launch, command, path, folder=None):
     """The least processor time in milliseconds, the peak of memory in megabytes, the bytes written and the status; None where it takes too long."""
 
     def look(part):
         if part.translate(None, bytes(range(32, 127)) + b"\n"):
             sys.exit(f"{' '.join(command)}: a control character of {path}")
 
-    found = [running.once(launch, command, LIMIT_SECONDS, given=path, look=look) for _ in range(RUNS)]
+    found = []
+    for _ in range(RUNS):
+        with tempfile.TemporaryDirectory(dir=folder) as made:
+            found.append(running.once(launch, command, LIMIT_SECONDS, given=path, folder=made, look=look))
+            written = sum(it.stat().st_size for it in pathlib.Path(made).iterdir())
+            found[-1] = found[-1] and (*found[-1][:2], found[-1][2] + written, found[-1][3])
     return None if None in found else min(found)
 
 
@@ -115,8 +125,12 @@ def show(name, folder, launch):
     empty = folder / "empty"
     empty.write_bytes(b"")
     for job in jobs:
-        command = [PROGRAMS[kind], *job.split(), *(["-"] if kind == "lib" else [])]
-        found = [measure(launch, command, it) for it in [empty, *paths]]
+        command = [PROGRAMS[kind], *job.split(), *MORE.get(job, []), *(["-"] if kind == "lib" else [])]
+        found = [measure(launch, command, it, folder) for it in [empty, *paths]]
+        sha = measure(launch, ["sha256sum"], paths[1], folder)[0]
+        large, size = found[2], paths[1].stat().st_size
+        task = " ".join(["omf-" + kind, *([job] if job in ("--json", "list", "check", "get", "make", "canon") else [])])
+        running.FOUND.append(running.Found(task, name, large[0] / sha if large else float("inf"), large[1] if large else 0, size, large[2] if large else 0))
         if None in found:
             print(f"| {name} | {kind} {job} | {sizes[1]:,} | {paths[1].stat().st_size:,} | over {LIMIT_SECONDS} s | | | | |", flush=True)
             continue

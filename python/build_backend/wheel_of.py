@@ -1,5 +1,5 @@
 """Packs the folder omf as a wheel, with nothing but the standard library, so that `pip install .` needs no network. If libomf.so is in the folder,
-it is in the wheel too, which is then for Linux on x86-64."""
+it is in the wheel too, which is then for Linux on x86-64. Nothing in it is compressed, so the same files give the same wheel with each zlib."""
 import base64
 import hashlib
 import os
@@ -41,7 +41,7 @@ def _files(kind):
 def build_wheel(wheel_directory, config_settings=None, metadata_directory=None):
     kind = "py3-none-linux_x86_64" if os.path.isfile(os.path.join(NAME, "libomf.so")) else PLAIN
     name = f"{NAME}-{_version()}-{kind}.whl"
-    with zipfile.ZipFile(os.path.join(wheel_directory, name), "w", zipfile.ZIP_DEFLATED) as wheel:
+    with zipfile.ZipFile(os.path.join(wheel_directory, name), "w", zipfile.ZIP_STORED) as wheel:
         for path, data in _files(kind).items():
             wheel.writestr(zipfile.ZipInfo(path), data)
     return name

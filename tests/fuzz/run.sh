@@ -9,6 +9,7 @@
 # does not vouch for. libFuzzer changes inputs, keeps those that reach something new in WORK/TARGET (WORK is a new folder if it is not set), and
 # stops where a promise does not hold, with that input in WORK. It needs a clang with libFuzzer: CLANG (clang).
 # UNPROVED=1 builds both without a proof, with run-time checks, by `rt try`, and compiles them at -O1: for a look, or where proofs take the machine.
+# SANITIZE=1, with UNPROVED=1 or the LIBRARY of tests/sanitized.sh, adds AddressSanitizer to this code, and to the targets, which are C, also UndefinedBehaviorSanitizer.
 # LIBRARY names a library that is built already, as `make library` leaves it in crates/omf_c/out/libomf_c.a, or an object with its calls: it runs as it
 # is, so that without counters libFuzzer goes by what its answers lead to in the targets alone. PROGRAM is bitcode of omf-dump, for shown.
 # SEEDS is a folder of more modules to begin with (*.omf, *.obj, *.o), which are taken as they are.
@@ -91,8 +92,9 @@ keep_unproved() {
 
 level=2
 [ -z "${UNPROVED:-}" ] || level=1
+[ -z "${SANITIZE:-}" ] || [ -n "${UNPROVED:-}${LIBRARY:-}" ] || { echo "SANITIZE needs UNPROVED=1: proved code is not marked for a sanitizer" >&2; exit 2; }
 cover() { # cover BITCODE OBJECT: with counters of what is reached
-    "$kit/toolchain/bin/clang" -w -c -x ir "$1" "-O$level" -fPIE -fsanitize-coverage=inline-8bit-counters,pc-table -o "$2"
+    "$kit/toolchain/bin/clang" -w -c -x ir "$1" "-O$level" -fPIE -fsanitize-coverage=inline-8bit-counters,pc-table ${SANITIZE:+-fsanitize=address} -o "$2"
 }
 
 code=${LIBRARY:-$work/covered.o}
@@ -147,7 +149,7 @@ for one in "${calls[@]}"; do
         folders+=("$work/seeds-of/members" "$work/seeds-of/program")
         ;;
     esac
-    "$clang" -O1 -g -Wall -Wextra -I"$root/include" -fsanitize=fuzzer "-Wl,--wrap=$wrapped" \
+    "$clang" -O1 -g -Wall -Wextra -I"$root/include" "-fsanitize=fuzzer${SANITIZE:+,address,undefined}" -fno-sanitize-recover=all "-Wl,--wrap=$wrapped" \
         "$root/tests/fuzz/$one.c" "$root/tests/fuzz/mutate.c" "${with[@]}" "$kit/c/libos_c.a" "$kit/c/liblibc_c.a" -o "$work/fuzz-$one"
     mkdir -p "$work/$one"
     if ! "$root/tests/fuzz/processor.py" "$seconds" "$work/fuzz-$one" -max_len=4096 -timeout="${TIMEOUT:-20}" -artifact_prefix="$work/$one-" \

@@ -4,7 +4,7 @@ import hashlib
 import json
 import re
 
-from shared import ROOT, STATE, git, native, open_file, printed, text_of
+from shared import ROOT, STATE, native, open_file, printed, text_of
 
 MEMBERS = 20   # of a library, that are opened: the first ones, and as many that are refused
 # Words of a script that went wrong, each with the name that it is a part of.
@@ -200,15 +200,14 @@ def examples(tab, tries):
 
 
 def first_sight(tab, tries):
-    """An example is open, and the last line names the commit that the page was made of."""
+    """An example is open, and the last line names the sources that the page was made of."""
     tries.see("an example is open", tab.value(text_of("verdict")).startswith("boot/boot.omf is a well-formed module"), True)
     tries.see("its name", tab.value(text_of("file-name")), "boot/boot.omf")
     tries.see("no input with words of the browser", tab.value("[...document.querySelectorAll('input[type=file]')].filter(it => !it.hidden).length"), 0)
     tries.see("no red at first", tab.value("document.querySelectorAll('main .bad:not(.tip)').length"), 0)
     last = tab.value("document.body.innerText.trim().split('\\n').pop()")
-    made = re.match(r"Version (\S+), made of (?:commit ([0-9a-f]{12})(?:, with changes)?|sources without a commit)\. ", last)
+    made = re.match(r"Version (\S+), made of the sources [0-9a-f]{16}\. ", last)
     tries.see("the last line", made and made[1], (ROOT / "VERSION").read_text().strip())
-    tries.see("the last line's commit", bool(made) and git("cat-file", "-t", made[2]) if made and made[2] else "commit", "commit")
 
 
 def file(tab, tries, path):

@@ -39,10 +39,6 @@ def modules(folders):
     return [file for folder in folders for file in sorted(pathlib.Path(folder).rglob("*")) if file.is_file() and file.suffix.lower() in ENDINGS]
 
 
-def git(*words):
-    return subprocess.run(["git", "-C", ROOT, *words], capture_output=True, text=True, check=False).stdout.strip()
-
-
 def open_file(tab, *files, seconds=120):
     tab.value(f"{STATE} = 'waiting'")
     tab.choose("#file", *files)
