@@ -1,0 +1,6 @@
+pub mod Layouts
+pub mod Explicit
+pub mod Modules
+pub mod Laws
+pub mod Rows
+pub mod Inner

@@ -1,0 +1,12 @@
+-- Records of the worked examples.
+use Rattle.std.specs.Prelude.{ℕ, List, flat_map, map}
+use Rattle.omf_frame.specs.Framing.{front_record, raw_bytes}
+use Rattle.omf_frame.specs.Rows.{hex}
+use Rattle.omf_explicit.specs.Explicit.{with_segments}
+
+-- The bytes of these records, and those with segments in place of frame numbers.
+abbrev pub bytes_of : List (List ℕ) → List ℕ
+bytes_of texts = flat_map (λ t. hex t) texts
+
+abbrev pub plain : List (List ℕ) → List ℕ
+plain texts = flat_map raw_bytes (with_segments (map (λ t. front_record (hex t)) texts))

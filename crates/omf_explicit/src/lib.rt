@@ -1,0 +1,18 @@
+//! Explicit frames: a module whose fixups name frames by their numbers, as one with absolute segments in their place.
+//!
+//! ASM86 and PL/M-86 write frame method F3 and target methods T3 and T7, which have a frame number (TIS OMF 1.1, "FIXUPP"). This profile has no such methods. An
+//! absolute segment of the frame (TIS OMF 1.1, "SEGDEF") is at the same address.
+#![tactic(auto)]
+
+mod explicit;
+mod fields;
+pub mod laws;
+mod numbers;
+mod part;
+mod plain;
+mod record;
+pub mod rows;
+mod writing;
+
+pub use explicit::{PlainModule, with_segments};
+pub use part::{Datum, Part, Reference};
