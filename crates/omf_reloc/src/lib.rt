@@ -33,7 +33,7 @@ pub use addition::Additions;
 pub use fault::{Cause, Kind, ReachFault, RelocateFault};
 pub use headline::{Answer, AnswerAt, NoAnswer, check_and_relocate, relocate_at};
 pub use measuring::measure;
-pub use offset::{is_within, outcome};
+pub use offset::{is_within, offset_width, outcome, reach_width};
 pub use omf_check::{FrameMethod, TargetMethod};
 pub use omf_placement::{
     DeriveFault, Draft, Entry, Frame, Given, Placed, Placement, TextFault, derive, parse_placement,

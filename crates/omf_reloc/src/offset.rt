@@ -51,7 +51,7 @@ fn named(placement: &Placement, segment: u16, reference: &PlainReference) -> Opt
 
 /// The width of the offset at a location of this type.
 #[inline(always)]
-fn offset_width(kind: LocationType) -> Width
+pub fn offset_width(kind: LocationType) -> Width
     ensures { number_bits result ≡ offset_bits (location_number kind) }
 {
     match kind {
@@ -69,7 +69,7 @@ fn offset_width(kind: LocationType) -> Width
 
 /// The width of the offsets of a self-relative fixup at a location of this type. A short jump is computed in 32 bits.
 #[inline(always)]
-fn reach_width(kind: LocationType) -> Width
+pub fn reach_width(kind: LocationType) -> Width
     ensures { number_bits result ≡ self_relative_bits (location_number kind) }
 {
     match kind {
