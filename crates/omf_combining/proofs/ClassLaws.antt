@@ -17,8 +17,9 @@ use Rattle.omf_layout.specs.Own.Ordered.{HasSegmentsOf}
 use Rattle.omf_layout.specs.Own.Written.{end_record, segment}
 use Rattle.omf_layout.specs.Several.Gathered.{distinct, names_in}
 use Rattle.omf_layout.specs.Several.Portions.{Classed, classed, name_at, portions, portions_in}
+use Rattle.omf_layout.proofs.RaisedLaws.{raisings-attributes, raisings-segments}
 use Rattle.omf_layout.proofs.SeveralLaws.GatherLaws.{Name, dropped, kept, other, same}
-use Rattle.omf_combining.specs.Classes.{ClassesComeFirst, class_order_records, is_led, leader, leader_of, leaders, leaders_records}
+use Rattle.omf_combining.specs.Classes.{ClassesComeFirst, class_order_records, is_led, leader, leader_of, leaders, leaders_records, raise_records}
 use Rattle.omf_combining.specs.declared.classes.EmptySegment.{EmptySegment}
 
 -- ---- Names that appear first
@@ -139,14 +140,20 @@ module _ (classes : List Name) (ms : List (List Rec)) where
   abbrev all : List EmptySegment
   all = leaders ms classes
 
-  order-names : names (class_order_records classes ms) ≡ leader-names all ++ names end
-  order-names = flat_map-append (λ r. defined_names r.contents) (leaders_records 0 all) end ∙ ap (λ ns. ns ++ names end) (names-of 0 all)
+  abbrev rest : List Rec
+  rest = raise_records all ++ end
+
+  abbrev flags : List Bool
+  flags = map (λ s. s.raised) all
+
+  order-names : names (class_order_records classes ms) ≡ leader-names all ++ names rest
+  order-names = flat_map-append (λ r. defined_names r.contents) (leaders_records 0 all) rest ∙ ap (λ ns. ns ++ names rest) (names-of 0 all)
 
   order-segments : segments (class_order_records classes ms) ≡ infos 0 all
-  order-segments = flat_map-append (λ r. defined_segments r.kind r.contents) (leaders_records 0 all) end ∙ ap (λ us. us ++ segments end) (segments-of 0 all) ∙ append-nil (infos 0 all)
+  order-segments = flat_map-append (λ r. defined_segments r.kind r.contents) (leaders_records 0 all) rest ∙ ap₂ (λ us vs. us ++ vs) (segments-of 0 all) (raisings-segments 1 flags end) ∙ append-nil (infos 0 all)
 
   order-attributes : attributes (class_order_records classes ms) ≡ bytes all
-  order-attributes = flat_map-append (λ r. attributes_in r.contents) (leaders_records 0 all) end ∙ ap (λ us. us ++ attributes end) (attributes-of 0 all) ∙ append-nil (bytes all)
+  order-attributes = flat_map-append (λ r. attributes_in r.contents) (leaders_records 0 all) rest ∙ ap₂ (λ us vs. us ++ vs) (attributes-of 0 all) (raisings-attributes 1 flags end) ∙ append-nil (bytes all)
 
 -- ---- Its classes
 
@@ -170,7 +177,7 @@ front-classes m before after i j (s ∷ ss) e n =
 classes-in-front : (classes : List Name) (ms : List (List Rec)) (m : List Rec) → HasSegmentsOf (class_order_records classes ms) m → names_in (portions_in (0, m)) ≡ classes-of (leaders ms classes)
 classes-in-front classes ms m h =
     ap₂ (λ ss bs. names_in (map (classed m 0) (enumerate_from 1 (zip ss bs)))) (h.segments ∙ order-segments classes ms) (h.attributes ∙ order-attributes classes ms)
-    ∙ front-classes m [] (names end) 1 0 (leaders ms classes) (h.names ∙ order-names classes ms) refl
+    ∙ front-classes m [] (names (rest classes ms)) 1 0 (leaders ms classes) (h.names ∙ order-names classes ms) refl
 
 -- ---- The classes of modules, whatever their numbers
 

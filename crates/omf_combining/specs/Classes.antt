@@ -5,9 +5,9 @@ use Rattle.omf_layout.specs.declared.several.portion.Combination.{Combination}
 use Rattle.omf_layout.specs.declared.own.order.OrderFault.{OrderFault}
 use Rattle.omf_layout.specs.declared.own.order.OrderFault.TheVariants as order_fault
 use Rattle.omf_layout.specs.declared.several.portion.Portion.{Portion}
-use Rattle.omf_layout.specs.Own.Order.{alignment_bits, combination_bits, has_name, module_at}
+use Rattle.omf_layout.specs.Own.Order.{alignment_bits, combination_bits, has_name, is_block, module_at}
 use Rattle.omf_layout.specs.Own.Ordered.{HasSegmentsOf}
-use Rattle.omf_layout.specs.Own.Written.{end_record, header, name_record, segment_record}
+use Rattle.omf_layout.specs.Own.Written.{end_record, header, name_record, raisings, segment_record}
 use Rattle.omf_layout.specs.Several.Gathered.{distinct, names_in}
 use Rattle.omf_layout.specs.Several.Portions.{Classed, name_at, portions}
 use Rattle.omf_records.specs.Values.{Rec}
@@ -24,7 +24,7 @@ abbrev pub bits_of : Alignment → Combination → ℕ
 bits_of a c = alignment_bits a + combination_bits c
 
 abbrev pub leader_of : List (List Rec) → List ℕ → Portion → EmptySegment
-leader_of ms class p = record { class = class; name = name_at (module_at ms p.«module») p.segment.name; attribute = bits_of p.alignment p.combination }
+leader_of ms class p = record { class = class; name = name_at (module_at ms p.«module») p.segment.name; attribute = bits_of p.alignment p.combination; raised = is_block p.alignment }
 
 -- That of a class; none if the modules have no such segment. A name has at most 255 bytes.
 abbrev pub leader : List (List Rec) → List ℕ → Option EmptySegment
@@ -44,9 +44,13 @@ abbrev pub leaders_records : ℕ → List EmptySegment → List Rec
 leaders_records j [] = []
 leaders_records j (s ∷ ss) = leader_records j s ++ leaders_records (j + 1) ss
 
+-- The comments that raise empty segments, from the first on.
+abbrev pub raise_records : List EmptySegment → List Rec
+raise_records ss = raisings 1 (map (λ s. s.raised) ss)
+
 -- The module that makes classes the first ones of modules.
 abbrev pub class_order_records : List (List ℕ) → List (List Rec) → List Rec
-class_order_records classes ms = header (codes "order") ∷ (leaders_records 0 (leaders ms classes) ++ end_record ∷ [])
+class_order_records classes ms = header (codes "order") ∷ (leaders_records 0 (leaders ms classes) ++ (raise_records (leaders ms classes) ++ end_record ∷ []))
 
 -- Why there is no such module: it has more than 16,383 segments. Memory may run out at any time.
 abbrev pub IsClassOrderFault : List (List ℕ) → List (List Rec) → OrderFault → Type 0

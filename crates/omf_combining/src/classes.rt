@@ -4,29 +4,31 @@ ghost use Rattle.std.specs.Prelude.{◌≡◌, ◌≤◌, ◌<◌, ◌^◌, ◌+
 ghost use Rattle.omf_check.specs.Module.{typed_modules};
 ghost use Rattle.omf_layout.specs.Own.Written.{end_record, header, written};
 ghost use Rattle.omf_layout.specs.Several.Portions.{portions, with_names};
-ghost use Rattle.omf_combining.specs.Classes.{IsClassOrderFault, bits_of, begins, class_order_records, leader, leader_of, leader_records, leaders, leaders_records};
+ghost use Rattle.omf_combining.specs.Classes.{IsClassOrderFault, bits_of, begins, class_order_records, leader, leader_of, leader_records, leaders, leaders_records, raise_records};
 
 use crate::stack::name_in;
 use omf_check::Checked;
 use omf_frame::{Index, Name};
 use omf_layout::Alignment;
 use omf_layout::own::OrderFault;
-use omf_layout::own::records::{Segment, put_end, put_header, put_name, put_segment};
+use omf_layout::own::records::{Segment, put_end, put_header, put_name, put_raising, put_segment};
 use omf_layout::several::{Classed, Combination, Portion, portions_of};
 use std::alloc::{AllocError, Global};
 
 /// The most classes: each has two names, and a module has at most 32,767 names.
 const MOST: usize = 16_383;
 
-/// An empty segment that leads a class: the names of the class and its own, and its attribute byte.
+/// An empty segment that leads a class: the names of the class and its own, its attribute byte, and whether a comment raises it to 4,096 bytes.
 #[derive(Drop)]
 pub(crate) struct EmptySegment<'a> {
     pub(crate) class: Name<'a>,
     pub(crate) name: Name<'a>,
     pub(crate) attribute: u8,
+    pub(crate) raised: bool,
 }
 
-/// The attribute byte of an empty segment that is aligned and combines in these ways (TIS OMF 1.1, "SEGDEF", A and C fields).
+/// The attribute byte of an empty segment that is aligned and combines in these ways (TIS OMF 1.1, "SEGDEF", A and C fields). A comment raises one at 4,096
+/// bytes.
 fn bits_of(alignment: Alignment, combination: Combination) -> u8
     ensures { result ≡ bits_of alignment combination }
 {
@@ -34,7 +36,7 @@ fn bits_of(alignment: Alignment, combination: Combination) -> u8
         Alignment::Byte => 0x20,
         Alignment::Word => 0x40,
         Alignment::Paragraph => 0x60,
-        Alignment::Page => 0x80,
+        Alignment::Page | Alignment::Block => 0x80,
         Alignment::Dword => 0xA0,
     };
     match combination {
@@ -80,6 +82,7 @@ fn leader<'a>(
         class: Name(class),
         name: name_in(modules, first.module, first.segment.name),
         attribute: bits_of(first.alignment, first.combination),
+        raised: first.alignment.is_block(),
     })
 }
 
@@ -140,14 +143,32 @@ fn put_leaders(
     Ok(())
 }
 
+/// Appends the comments that raise empty segments.
+fn put_raises(
+    alloc: Global,
+    out: &mut Vec<u8>,
+    leaders: &[EmptySegment<'_>],
+) -> Result<(), AllocError>
+    requires { length leaders.now ≤ 16383 }
+    ensures { OnOk result (out.new.items ≡ out.old.items ++ written (raise_records leaders.now)) }
+{
+    let mut index = 1;
+    for leader in leaders {
+        put_raising(alloc, out, leader.raised, Index(index))?;
+        index += 1;
+    }
+    Ok(())
+}
+
 /// The bytes of the module of these empty segments.
 fn leading_module(alloc: Global, leaders: &[EmptySegment<'_>]) -> Result<Vec<u8>, AllocError>
     requires { length leaders.now ≤ 16383 }
-    ensures { IfOk result (λ v. v.items ≡ written (header (codes "order") ∷ (leaders_records 0 leaders.now ++ end_record ∷ []))) }
+    ensures { IfOk result (λ v. v.items ≡ written (header (codes "order") ∷ (leaders_records 0 leaders.now ++ (raise_records leaders.now ++ end_record ∷ [])))) }
 {
     let mut out = Vec::new(alloc);
     put_header(alloc, &mut out, &Name(b"order"))?;
     put_leaders(alloc, &mut out, leaders)?;
+    put_raises(alloc, &mut out, leaders)?;
     put_end(&mut out)?;
     Ok(out)
 }

@@ -9,7 +9,7 @@ use Rattle.omf_check.specs.Tables.{segments}
 use Rattle.omf_check.specs.declared.segment.SegInfo.{SegInfo}
 use Rattle.omf_placement.specs.declared.frame.Placed.{Placed}
 use Rattle.omf_layout.specs.declared.alignment.Alignment.{Alignment}
-use Rattle.omf_layout.specs.declared.alignment.Alignment.TheVariants.{Byte, Word, Paragraph, Page, Dword}
+use Rattle.omf_layout.specs.declared.alignment.Alignment.TheVariants.{Byte, Word, Paragraph, Page, Dword, Block}
 use Rattle.omf_layout.specs.declared.options.Frames.{Frames}
 use Rattle.omf_layout.specs.declared.options.Options.{Options}
 use Rattle.omf_layout.specs.Layout.{Laid, all_laid, segment_at, segment_laid, LaidOut, layout_of}
@@ -24,6 +24,7 @@ no-lower Word n = omega arith
 no-lower Paragraph n = omega arith
 no-lower Page n = omega arith
 no-lower Dword n = omega arith
+no-lower Block n = omega arith
 
 -- A segment is well placed from a free address on.
 record LiesFrom (frames : Frames) (free : ℕ) (s : SegInfo) (x : Alignment) (p : Placed) : Type 0 where

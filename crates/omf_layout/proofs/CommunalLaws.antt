@@ -8,7 +8,7 @@ use Rattle.omf_check.specs.Tables.{segments}
 use Rattle.omf_check.specs.declared.segment.SegInfo.{SegInfo}
 use Rattle.omf_placement.specs.declared.frame.Placed.{Placed}
 use Rattle.omf_layout.specs.declared.alignment.Alignment.{Alignment}
-use Rattle.omf_layout.specs.declared.alignment.Alignment.TheVariants.{Byte, Word, Paragraph, Page, Dword}
+use Rattle.omf_layout.specs.declared.alignment.Alignment.TheVariants.{Byte, Word, Paragraph, Page, Dword, Block}
 use Rattle.omf_layout.specs.declared.options.Frames.{Frames}
 use Rattle.omf_layout.specs.declared.options.Options.{Options}
 use Rattle.omf_layout.specs.Layout.{Laid, LaidOut, all_laid, external_laid, layout_of, segment_at, segment_laid, spare}
@@ -32,6 +32,7 @@ no_lower Word n = omega arith
 no_lower Paragraph n = omega arith
 no_lower Page n = omega arith
 no_lower Dword n = omega arith
+no_lower Block n = omega arith
 
 module _ (frames : Frames) where
   goes_up : (free size : ℕ) (x : Alignment) (a : Option (ℕ × ℕ)) (one : Laid Placed) → segment_at frames (bytes_aligned x) free size a ≡ Some one → free ≤ one.free

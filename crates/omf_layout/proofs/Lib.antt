@@ -1,4 +1,5 @@
 pub mod Gathered
+pub mod RaisedLaws
 pub mod TableLaws
 pub mod LaidLaws
 pub mod FitLaws

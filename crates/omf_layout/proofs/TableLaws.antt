@@ -1,15 +1,16 @@
 -- There are as many attributes and alignments as segments, and as many lengths as externals.
 use Rattle.std.proofs.Common.{◌≡◌, ℕ, zero, suc, ◌+◌, ◌<◌, List, [], ◌∷◌, ◌++◌, length, refl, sym, ap, ap₂, ◌∙◌, arith, length-append, append_assoc, ◌≤◌, ◌-◌}
 use Rattle.std.specs.Prelude.{map, filter_map, Option, Some, None, slice_get}
-use Rattle.std.specs.List.{cons_option, range_with_len}
+use Rattle.std.specs.List.{cons_option, enumerate_from, range_with_len}
 use Rattle.std.proofs.lemmas.List.{length-map}
-use Rattle.omf_records.specs.Values.{Rec, Contents, Header, Comment, Names, Segment, Group, Externs, Publics, Communals, Plain, Iterated, Fixups, ModEnd, Carried, alignment}
+use Rattle.std.proofs.lemmas.List.FromFn.{length-enumerate_from}
+use Rattle.omf_records.specs.Values.{Rec, Contents, Header, Comment, Names, Segment, Group, Externs, Publics, Communals, Plain, Iterated, Fixups, ModEnd, Carried}
 use Rattle.omf_check.specs.Tables.{attributes, segments, externals, defined_externals}
-use Rattle.omf_layout.specs.Wants.{alignment_named, alignments, rooms, rooms_in, room_of}
+use Rattle.omf_layout.specs.Wants.{alignment_in, alignments, rooms, rooms_in, room_of}
 use Rattle.omf_placement.proofs.AttributeLaws.{length-attributes}
 
 pub length-alignments : (m : List Rec) → length (alignments m) ≡ length (segments m)
-length-alignments m = length-map (attributes m) (λ a. alignment_named (alignment a)) ∙ length-attributes m
+length-alignments m = length-map (enumerate_from 1 (attributes m)) (λ x. alignment_in m x.0 x.1) ∙ length-enumerate_from 1 (attributes m) ∙ length-attributes m
 
 some-rooms : (c : Contents) → length (rooms_in c) ≡ length (defined_externals c)
 some-rooms (Externs es) = length-map es (λ e. None) ∙ sym (length-map es (λ e. e.item.name))

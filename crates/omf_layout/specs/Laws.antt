@@ -43,7 +43,7 @@ LayoutsLieApart = (o : Options) (m : List Rec) (l : LaidOut) → layout_of o m �
 abbrev pub DraftsAreRead : Type 0
 DraftsAreRead = (o : Options) (m : List Rec) (l : LaidOut) → layout_of o m ≡ Some l → AreShort l.places → IsReadBack o.frames m l.places (draft_text o.frames m l)
 
--- A layout has for each segment the alignment that its SEGDEF names.
+-- A layout has for each segment its alignment: that in its SEGDEF, or 4,096 bytes if a comment raises it.
 abbrev pub LayoutsKeepAlignments : Type 0
 LayoutsKeepAlignments = (o : Options) (m : List Rec) (l : LaidOut) → layout_of o m ≡ Some l → l.alignments ≡ alignments m
 

@@ -1,5 +1,5 @@
 -- Definitions for the worked examples.
-use Rattle.std.specs.Prelude.{ℕ, List, [], ◌∷◌, ◌++◌, map, flat_map, Option, option_map}
+use Rattle.std.specs.Prelude.{ℕ, ◌+◌, List, [], ◌∷◌, ◌++◌, length, map, flat_map, Option, option_map}
 use Rattle.omf_records.specs.Values.{alignment}
 use Rattle.omf_records.specs.Values.{Rec}
 use Rattle.omf_check.specs.Inner.Verdict.{Verdict, Accepted}
@@ -8,7 +8,7 @@ use Rattle.omf_check.specs.WellFormed.{recs}
 use Rattle.omf_layout.specs.declared.options.Frames.{Frames}
 use Rattle.omf_layout.specs.Draft.{draft_text}
 use Rattle.omf_layout.specs.Layout.{layout_of}
-use Rattle.omf_layout.specs.Wants.{alignment_named, bytes_aligned}
+use Rattle.omf_layout.specs.Wants.{alignment_named, bytes_aligned, raised}
 
 -- The alignments in attribute bytes.
 abbrev pub aligned : List ℕ → List ℕ
@@ -30,6 +30,10 @@ module_of input = accepted (verdict_of input)
 abbrev pub drafted : ℕ → Frames → List ℕ → Option (List ℕ)
 drafted base frames bytes = option_map (draft_text frames (module_of bytes)) (layout_of (record { base = base; frames = frames }) (module_of bytes))
 
+-- The segments that the comments of a module raise.
+abbrev pub raised_in : List ℕ → List ℕ
+raised_in bytes = raised (module_of bytes)
+
 -- A module's first and last records: a header, an empty name and a name T; the end.
 abbrev pub between : List ℕ → List ℕ
 between records = 0x80 ∷ 0x03 ∷ 0x00 ∷ 0x01 ∷ 0x41 ∷ 0x3B ∷ 0x96 ∷ 0x04 ∷ 0x00 ∷ 0x00 ∷ 0x01 ∷ 0x54 ∷ 0x11 ∷ [] ++ records ++ 0x8A ∷ 0x02 ∷ 0x00 ∷ 0x00 ∷ 0x74 ∷ []
@@ -40,6 +44,10 @@ segment attribute length = 0x98 ∷ 0x07 ∷ 0x00 ∷ attribute ∷ length ∷ 0
 
 abbrev pub absolute : List ℕ
 absolute = 0x98 ∷ 0x0A ∷ 0x00 ∷ 0x08 ∷ 0x00 ∷ 0xB8 ∷ 0x10 ∷ 0x04 ∷ 0x00 ∷ 0x02 ∷ 0x01 ∷ 0x01 ∷ 0x00 ∷ []
+
+-- A comment of class DCH with this text.
+abbrev pub raise : List ℕ → List ℕ
+raise text = 0x88 ∷ (3 + length text) ∷ 0x00 ∷ 0x00 ∷ 0xDC ∷ [] ++ text ++ 0x00 ∷ []
 
 -- A group of segment 1, and one without members.
 abbrev pub group : List ℕ

@@ -2,9 +2,10 @@
 
 ghost use Rattle.std.specs.Prelude.{◌≡◌, ◌≤◌};
 ghost use Rattle.omf_records.specs.Values.{alignment};
+ghost use Rattle.omf_layout.specs.Own.Order.{is_block};
 ghost use Rattle.omf_layout.specs.Wants.{alignment_named, bytes_aligned};
 
-/// The alignment of a segment's address (TIS OMF 1.1, "SEGDEF", A field).
+/// The alignment of a segment's address (TIS OMF 1.1, "SEGDEF", A field; for `Block` this profile's rule).
 #[derive(Clone, Copy)]
 pub enum Alignment {
     /// Any address. Absolute segments, which have no alignment, count as this.
@@ -17,6 +18,8 @@ pub enum Alignment {
     Page,
     /// A multiple of 4.
     Dword,
+    /// A multiple of 4,096. No A field has it: a comment raises the segment.
+    Block,
 }
 
 impl Alignment {
@@ -33,7 +36,14 @@ impl Alignment {
         }
     }
 
-    /// Returns the alignment in bytes: 1, 2, 4, 16 or 256.
+    /// Returns whether it is `Block`.
+    pub fn is_block(self) -> bool
+        ensures { result ≡ is_block self }
+    {
+        matches!(self, Alignment::Block)
+    }
+
+    /// Returns the alignment in bytes: 1, 2, 4, 16, 256 or 4,096.
     pub fn bytes(self) -> u16
         ensures value { result ≡ bytes_aligned self }
         ensures some { 1 ≤ result }
@@ -44,6 +54,7 @@ impl Alignment {
             Alignment::Paragraph => 16,
             Alignment::Page => 256,
             Alignment::Dword => 4,
+            Alignment::Block => 4096,
         }
     }
 }

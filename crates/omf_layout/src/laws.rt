@@ -14,7 +14,7 @@ pub fn drafts_are_read()
     ensures { DraftsAreRead }
 {}
 
-/// A layout has for each segment the alignment that its SEGDEF names, so each segment is laid at a multiple of it.
+/// A layout has for each segment its alignment, so each segment is laid at a multiple of it.
 pub fn layouts_keep_alignments()
     ensures { LayoutsKeepAlignments }
 {}

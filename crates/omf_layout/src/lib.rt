@@ -11,6 +11,7 @@ mod laying;
 mod options;
 pub mod own;
 pub mod printing;
+pub mod raised;
 pub mod room;
 pub mod rows;
 pub mod several;

@@ -1,12 +1,12 @@
 //! Worked examples, each evaluated by the check.
 
-ghost use Rattle.std.specs.Prelude.{◌≡◌, ◌++◌, [], ◌∷◌, codes, Some, None};
+ghost use Rattle.std.specs.Prelude.{◌≡◌, ◌++◌, [], ◌∷◌, codes, map, true, Some, None};
 ghost use Rattle.omf_check.specs.Rows.{first_module};
-ghost use Rattle.omf_records.specs.Values.{Near, Far};
+ghost use Rattle.omf_records.specs.Values.{Comment, Near, Far};
 ghost use Rattle.omf_placement.specs.Quoted.{quoted};
 ghost use Rattle.omf_layout.specs.Room.{address_from, anchor, frame_at, next_multiple};
-ghost use Rattle.omf_layout.specs.Rows.{aligned, lines, drafted, between, segment, absolute, group, empty_group, external, communal};
-ghost use Rattle.omf_layout.specs.Wants.{room_of};
+ghost use Rattle.omf_layout.specs.Rows.{aligned, lines, drafted, between, raised_in, segment, absolute, group, empty_group, external, communal, raise};
+ghost use Rattle.omf_layout.specs.Wants.{alignment_by, bytes_aligned, raised_by, room_of};
 ghost use Rattle.omf_layout.specs.declared.options.Frames.TheVariants.{Real, Flat};
 
 /// The alignments of attribute bytes: byte, word, paragraph, page, doubleword. The lengths of communals.
@@ -14,6 +14,15 @@ pub fn wanted()
     ensures alignments { aligned (0x28 ∷ 0x48 ∷ 0x68 ∷ 0x88 ∷ 0xA8 ∷ 0x08 ∷ []) ≡ 1 ∷ 2 ∷ 16 ∷ 256 ∷ 4 ∷ 1 ∷ [] }
     ensures near { room_of (Near 7) ≡ 7 }
     ensures far { room_of (Far 3 5) ≡ 15 }
+{}
+
+/// The segments that comments raise: one index each, of one byte or two. A comment with another type byte or class, with no index, with two, or with one that is
+/// cut short raises none. Only A = 4 is raised.
+pub fn raised_ones()
+    ensures indices { raised_in (between (raise (5 ∷ []) ++ raise (0x81 ∷ 0x02 ∷ []) ++ raise (0x80 ∷ 0x07 ∷ []))) ≡ 5 ∷ 0x102 ∷ 7 ∷ [] }
+    ensures none { raised_in (between (raise [] ++ raise (5 ∷ 6 ∷ []) ++ raise (0x81 ∷ []) ++ raise (0x81 ∷ 0x02 ∷ 0x03 ∷ []))) ≡ [] }
+    ensures other { map raised_by (Comment 0x80 0xDC (5 ∷ []) ∷ Comment 0 0xDD (5 ∷ []) ∷ []) ≡ [] ∷ [] ∷ [] }
+    ensures page { map (λ a. bytes_aligned (alignment_by true a)) (0x08 ∷ 0x28 ∷ 0x68 ∷ 0x88 ∷ []) ≡ 1 ∷ 1 ∷ 16 ∷ 4096 ∷ [] }
 {}
 
 /// The first aligned address, up to the last address: 2^20 - 1 in real mode, else 2^32 - 1.
@@ -48,6 +57,11 @@ pub fn drafts_of_a_segment()
 pub fn drafts_of_all_lines()
     ensures real { drafted 0x12345 Real (between (segment 0x28 3 ++ absolute ++ segment 0x68 2 ++ group ++ empty_group ++ external ++ communal)) ≡ Some (lines (codes "S 12345 real ; 1 \"T\" class \"\" align 1 length 3" ∷ codes "S B8010 B8000 B800 ; 2 \"T\" class \"\" absolute length 4" ∷ codes "S 12350 real ; 3 \"T\" class \"\" align 16 length 2" ∷ codes "G real ; 1 \"T\"" ∷ codes "G 0 0 ; 2 \"T\"" ∷ codes "E 12360 12340 1234 ; 1 \"X\" to be filled in" ∷ codes "E 12354 12340 1234 ; 2 \"Y\" communal length 7" ∷ [])) }
     ensures flat { drafted 0x401000 (Flat 8) (between (segment 0xA8 3 ++ group ++ empty_group ++ external)) ≡ Some (lines (codes "S 401000 0 8 ; 1 \"T\" class \"\" align 4 length 3" ∷ codes "G 0 8 ; 1 \"T\"" ∷ codes "G 0 8 ; 2 \"T\"" ∷ codes "E 401010 0 8 ; 1 \"X\" to be filled in" ∷ [])) }
+{}
+
+/// The draft of a module whose second segment a comment raises to 4,096 bytes. The third, which is absolute, is where its SEGDEF puts it.
+pub fn drafts_of_a_raised_segment()
+    ensures { drafted 0x12345 Real (between (segment 0x28 3 ++ segment 0x88 2 ++ raise (2 ∷ []) ++ absolute ++ raise (3 ∷ []))) ≡ Some (lines (codes "S 12345 real ; 1 \"T\" class \"\" align 1 length 3" ∷ codes "S 13000 real ; 2 \"T\" class \"\" align 4096 length 2" ∷ codes "S B8010 B8000 B800 ; 3 \"T\" class \"\" absolute length 4" ∷ [])) }
 {}
 
 /// Bytes of a name that are printed as \x and two digits.

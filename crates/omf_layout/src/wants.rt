@@ -8,6 +8,7 @@ ghost use Rattle.omf_check.specs.Tables.{segments};
 ghost use Rattle.omf_layout.specs.Wants.{alignments, rooms, rooms_in, room_of};
 
 use crate::alignment::Alignment;
+use crate::raised::{alignment_in, raised_in};
 use omf_check::{Checked, Externals, Undecoded};
 use omf_records::{Communal, CommunalSize, Extern, Items};
 use std::alloc::{AllocError, Global};
@@ -17,12 +18,14 @@ pub fn alignments_of(alloc: Global, module: &Checked) -> Result<Vec<Alignment>, 
     ensures all { IfOk result (λ v. v.items ≡ alignments (recs_of «module».now.bytes)) }
     ensures each { IfOk result (λ v. length v.items ≡ length (segments (recs_of «module».now.bytes))) }
 {
+    let raised = raised_in(alloc, module)?;
     let mut alignments = Vec::new(alloc);
     for before in 0..module.segments() {
-        let Some(attribute) = module.attribute(before + 1) else {
+        let index = before + 1;
+        let Some(attribute) = module.attribute(index) else {
             unreachable!()
         };
-        alignments.push(Alignment::named_by(attribute))?;
+        alignments.push(alignment_in(&raised, index, attribute))?;
     }
     Ok(alignments)
 }

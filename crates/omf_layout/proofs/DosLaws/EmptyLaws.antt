@@ -3,10 +3,11 @@ use Rattle.std.proofs.Common.{◌≡◌, ℕ, ◌+◌, List, [], ◌∷◌, ◌+
 use Rattle.std.specs.Prelude.{map, flat_map, filter_map, ◌^◌, ◌&&◌, cond, Option, Some, None, codes, bytes_eq}
 use Rattle.std.specs.List.{filter, cons_option}
 use Rattle.std.proofs.lemmas.Bool.{cases_Bool, cond-false, cond-true, true≢false}
-use Rattle.omf_records.specs.Values.{Contents, Rec, alignment, is_big}
+use Rattle.omf_records.specs.Values.{Contents, Rec, is_big}
+use Rattle.omf_frame.specs.Bytes.{is_one_of}
 use Rattle.omf_check.specs.Tables.{data_in, segments}
 use Rattle.omf_check.specs.declared.segment.SegInfo.{SegInfo}
-use Rattle.omf_layout.specs.Wants.{alignment_named}
+use Rattle.omf_layout.specs.Wants.{alignment_by, raised}
 use Rattle.omf_layout.specs.declared.alignment.Alignment.{Alignment}
 use Rattle.omf_layout.specs.declared.alignment.Alignment.TheVariants as align
 use Rattle.omf_layout.specs.declared.several.portion.Combination.{Combination}
@@ -19,18 +20,19 @@ use Rattle.omf_layout.specs.Several.Gathered.{of_name}
 use Rattle.omf_layout.specs.Several.Order.{runs}
 use Rattle.omf_layout.specs.Several.Portions.{Classed, classed, combination_named, portions_in}
 use Rattle.omf_layout.specs.Own.Communals.{are_grouped}
-use Rattle.omf_layout.specs.Own.Order.{alignment_bits, bss_names, bss_slots, combination_bits, data_names, data_slots, dos_slots, end_publics, first_of, has_name, in_part, is_same_part, marker, missing, order_group, order_records, slot, slots, slots_records}
-use Rattle.omf_layout.specs.Own.Written.{end_record}
+use Rattle.omf_layout.specs.Own.Order.{alignment_bits, bss_names, bss_slots, combination_bits, data_names, data_slots, dos_slots, end_publics, first_of, has_name, in_part, is_block, is_same_part, marker, missing, order_group, order_records, slot, slots, slots_records}
+use Rattle.omf_layout.specs.Own.Written.{end_record, raisings}
 use Rattle.omf_layout.specs.Own.Ordered.{HasSegmentsOf, HaveNoEnds, IsEmptyOrder, ends, is_end}
 use Rattle.omf_layout.proofs.SeveralLaws.ApartLaws.{Each, each-at}
 use Rattle.omf_layout.proofs.SeveralLaws.GatherLaws.{Name, same}
-use Rattle.omf_layout.proofs.DosLaws.FrontLaws.{all, front, front-segments, info, infos, keys-in-front, order-segments, slot_key}
+use Rattle.omf_layout.proofs.DosLaws.FrontLaws.{all, flags, front, front-segments, info, infos, keys-in-front, order-raised, order-segments, slot_key}
+use Rattle.omf_layout.proofs.RaisedLaws.{AreRaisedFrom, all-raised}
 use Rattle.omf_layout.proofs.DosLaws.KeyLaws.{Key, each-append, each-filtered, left-out, sorted, taken}
 use Rattle.omf_layout.proofs.DosLaws.PartLaws.{each-run, first-key, ps}
 use Rattle.omf_layout.proofs.DosLaws.RunLaws.{key, run_of, runs-sorted}
 
--- The attribute byte of an empty segment names its alignment and its combination.
-bits-read : (a : Alignment) (c : Combination) → let b = alignment_bits a + combination_bits c in (alignment_named (alignment b) ≡ a) × ((combination_named b ≡ c) × (is_big b ≡ false))
+-- The attribute byte of an empty segment, and whether it is raised, give its alignment and its combination.
+bits-read : (a : Alignment) (c : Combination) → let b = alignment_bits a + combination_bits c in (alignment_by (is_block a) b ≡ a) × ((combination_named b ≡ c) × (is_big b ≡ false))
 bits-read align.Byte comb.Joined = (refl, (refl, refl))
 bits-read align.Byte comb.Common = (refl, (refl, refl))
 bits-read align.Byte comb.Alone = (refl, (refl, refl))
@@ -46,6 +48,9 @@ bits-read align.Page comb.Alone = (refl, (refl, refl))
 bits-read align.Dword comb.Joined = (refl, (refl, refl))
 bits-read align.Dword comb.Common = (refl, (refl, refl))
 bits-read align.Dword comb.Alone = (refl, (refl, refl))
+bits-read align.Block comb.Joined = (refl, (refl, refl))
+bits-read align.Block comb.Common = (refl, (refl, refl))
+bits-read align.Block comb.Alone = (refl, (refl, refl))
 
 -- It is aligned and combines like a portion.
 pub record IsLike (a : Alignment) (c : Combination) (p : Portion) : Type 0 where
@@ -55,13 +60,13 @@ pub record IsLike (a : Alignment) (c : Combination) (p : Portion) : Type 0 where
   pub aligned : p.alignment ≡ a
   pub combined : p.combination ≡ c
 
--- The same of an attribute byte.
-record IsByteOf (a : Alignment) (c : Combination) (b : ℕ) : Type 0 where
-  pub aligned : alignment_named (alignment b) ≡ a
+-- The same of an attribute byte of a segment that is raised, or is not.
+record IsByteOf (a : Alignment) (c : Combination) (r : Bool) (b : ℕ) : Type 0 where
+  pub aligned : alignment_by r b ≡ a
   pub combined : combination_named b ≡ c
   pub small : is_big b ≡ false
 
-byte-of : (a : Alignment) (c : Combination) → IsByteOf a c (alignment_bits a + combination_bits c)
+byte-of : (a : Alignment) (c : Combination) → IsByteOf a c (is_block a) (alignment_bits a + combination_bits c)
 byte-of a c = let r = bits-read a c in record { aligned = r.0; combined = r.1.0; small = r.1.1 }
 
 -- What holds of the empty segments and of the markers holds of all in DOS order.
@@ -100,18 +105,18 @@ module _ (ms : List (List Rec)) where
   IsLikeFirst None e = IsLike align.Byte comb.Joined e
   IsLikeFirst (Some p) e = IsLike p.alignment p.combination e
 
-  abbrev IsByteFor : Option Portion → ℕ → Type 0
-  IsByteFor None b = IsByteOf align.Byte comb.Joined b
-  IsByteFor (Some p) b = IsByteOf p.alignment p.combination b
+  abbrev IsByteFor : Option Portion → Bool → ℕ → Type 0
+  IsByteFor None r b = IsByteOf align.Byte comb.Joined r b
+  IsByteFor (Some p) r b = IsByteOf p.alignment p.combination r b
 
   abbrev first : Key → Option Portion
   first k = first_of (run_of (ps ms) k)
 
   abbrev IsSlot : Slot → Type 0
-  IsSlot s = IsByteFor (first (slot_key s)) s.attribute
+  IsSlot s = IsByteFor (first (slot_key s)) s.raised s.attribute
 
-  slot-for : (p : Portion) (o : Option Portion) → o ≡ Some p → IsByteFor o (slot ms p).attribute
-  slot-for p o e = subst (λ q. IsByteFor q (slot ms p).attribute) (sym e) (byte-of p.alignment p.combination)
+  slot-for : (p : Portion) (o : Option Portion) → o ≡ Some p → IsByteFor o (slot ms p).raised (slot ms p).attribute
+  slot-for p o e = subst (λ q. IsByteFor q (slot ms p).raised (slot ms p).attribute) (sym e) (byte-of p.alignment p.combination)
 
   slots-of : (ks : List Key) → Each IsSlot (map (slot ms) (filter_map first_of (map (run_of (ps ms)) ks)))
   slots-of [] = tt
@@ -142,8 +147,8 @@ module _ (ms : List (List Rec)) where
           ]
     ]
 
-    mark-for : (c : Name) → run_of (ps ms) (c, c) ≡ [] → IsByteFor (first (c, c)) 0x28
-    mark-for c e = subst (λ o. IsByteFor o 0x28) (sym (ap first_of e)) (byte-of align.Byte comb.Joined)
+    mark-for : (c : Name) → run_of (ps ms) (c, c) ≡ [] → IsByteFor (first (c, c)) false 0x28
+    mark-for c e = subst (λ o. IsByteFor o false 0x28) (sym (ap first_of e)) (byte-of align.Byte comb.Joined)
 
     marks : (g : Bool) (c : Name) → run_of (ps ms) (c, c) ≡ [] → Each IsSlot (marker g c)
     marks true c e = (mark-for c e, tt)
@@ -158,22 +163,26 @@ module _ (ms : List (List Rec)) where
     abbrev IsFront : Classed Portion → Type 0
     IsFront x = IsLikeFirst (first (key x)) x.1.1
 
-    like-for : (o : Option Portion) (m : List Rec) (i j : ℕ) (s : Slot) → IsByteFor o s.attribute → IsLikeFirst o (classed m 0 (i, (info j s, s.attribute))).1.1
-    like-for None m i j s b = record { is_first = refl; empty = ap (λ t. cond t (2 ^ 32) 0) b.small; relative = refl; aligned = b.aligned; combined = b.combined }
-    like-for (Some p) m i j s b = record { is_first = refl; empty = ap (λ t. cond t (2 ^ 32) 0) b.small; relative = refl; aligned = b.aligned; combined = b.combined }
+    like-for : (o : Option Portion) (m : List Rec) (i j : ℕ) (s : Slot) → is_one_of (raised m) i ≡ s.raised → IsByteFor o s.raised s.attribute → IsLikeFirst o (classed m 0 (i, (info j s, s.attribute))).1.1
+    like-for None m i j s r b = record { is_first = refl; empty = ap (λ t. cond t (2 ^ 32) 0) b.small; relative = refl; aligned = ap (λ t. alignment_by t s.attribute) r ∙ b.aligned; combined = b.combined }
+    like-for (Some p) m i j s r b = record { is_first = refl; empty = ap (λ t. cond t (2 ^ 32) 0) b.small; relative = refl; aligned = ap (λ t. alignment_by t s.attribute) r ∙ b.aligned; combined = b.combined }
 
-    fronts : (m : List Rec) (i j : ℕ) (ss : List Slot) → map key (front m i j ss) ≡ map slot_key ss → Each IsSlot ss → Each IsFront (front m i j ss)
-    fronts m i j [] e h = tt
-    fronts m i j (s ∷ ss) e h = (
-      subst (λ k. IsLikeFirst (first k) (classed m 0 (i, (info j s, s.attribute))).1.1) (sym (ap (first-or (slot_key s)) e)) (like-for (first (slot_key s)) m i j s h.0),
-      fronts m (i + 1) (j + 1) ss (ap rest-of e) h.1,
+    fronts : (m : List Rec) (i j : ℕ) (ss : List Slot) → map key (front m i j ss) ≡ map slot_key ss → AreRaisedFrom (raised m) i (map (λ s. s.raised) ss) → Each IsSlot ss → Each IsFront (front m i j ss)
+    fronts m i j [] e r h = tt
+    fronts m i j (s ∷ ss) e r h = (
+      subst (λ k. IsLikeFirst (first k) (classed m 0 (i, (info j s, s.attribute))).1.1) (sym (ap (first-or (slot_key s)) e)) (like-for (first (slot_key s)) m i j s r.0 h.0),
+      fronts m (i + 1) (j + 1) ss (ap rest-of e) r.1 h.1,
     )
+
+    -- Its comments raise those of its segments that are to be raised.
+    raised-in-front : (m : List Rec) → HasSegmentsOf (order_records ms) m → AreRaisedFrom (raised m) 1 (flags ms)
+    raised-in-front m h = all-raised (raised m) 1 (flags ms) (λ n low. ap (λ is. is_one_of is n) (h.raised ∙ order-raised ms))
 
     pub run-front : (m : List Rec) → HasSegmentsOf (order_records ms) m → (k : Key) → Each (IsLikeFirst (first k)) (run_of (portions_in (0, m)) k)
     run-front m h k =
         let e = front-segments ms m h in
         each-run IsFront (portions_in (0, m)) k
-        (subst (Each IsFront) (sym e) (fronts m 1 0 (all ms) (ap (map key) (sym e) ∙ keys-in-front ms m h) (dos-all (are_grouped ms))))
+        (subst (Each IsFront) (sym e) (fronts m 1 0 (all ms) (ap (map key) (sym e) ∙ keys-in-front ms m h) (raised-in-front m h) (dos-all (are_grouped ms))))
 
 -- ---- The module has no data, and no bytes in its segments
 
@@ -209,6 +218,11 @@ slots-data : (j : ℕ) (ss : List Slot) (rs : List Rec) → datas-in (slots_reco
 slots-data j [] rs = refl
 slots-data j (s ∷ ss) rs = slots-data (j + 1) ss rs
 
+raisings-data : (i : ℕ) (bs : List Bool) (rs : List Rec) → datas-in (raisings i bs ++ rs) ≡ datas-in rs
+raisings-data i [] rs = refl
+raisings-data i (true ∷ bs) rs = raisings-data (i + 1) bs rs
+raisings-data i (false ∷ bs) rs = raisings-data (i + 1) bs rs
+
 group-data : (g : Bool) (n : ℕ) (rs : List Rec) → datas-in (order_group g n ++ rs) ≡ datas-in rs
 group-data true n rs = refl
 group-data false n rs = refl
@@ -221,7 +235,7 @@ order-data : (ms : List (List Rec)) → datas-in (order_records ms) ≡ []
 order-data ms =
     let g = are_grouped ms in
     let slots = all ms in
-    slots-data 0 slots _ ∙ group-data g (length slots) _ ∙ publics-data _ (missing ms data_names) _ ∙ publics-data _ (missing ms bss_names) (end_record ∷ [])
+    slots-data 0 slots _ ∙ raisings-data 1 (flags ms) _ ∙ group-data g (length slots) _ ∙ publics-data _ (missing ms data_names) _ ∙ publics-data _ (missing ms bss_names) (end_record ∷ [])
 
 pub order-is-empty : IsEmptyOrder
 order-is-empty ms = (order-data ms, λ i s e. each-at IsWithoutBytes (segments (order_records ms)) (order-segments-empty ms) i s e)

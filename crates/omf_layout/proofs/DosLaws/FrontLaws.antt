@@ -11,9 +11,11 @@ use Rattle.omf_layout.specs.declared.own.slots.Slot.{Slot}
 use Rattle.omf_layout.specs.declared.several.portion.Portion.{Portion}
 use Rattle.omf_layout.specs.Several.Portions.{Classed, classed, name_at, portions_in}
 use Rattle.omf_layout.specs.Own.Communals.{are_grouped}
-use Rattle.omf_layout.specs.Own.Order.{bss_names, bss_slots, data_names, data_slots, dos_slots, end_publics, missing, order_group, order_records, slots, slots_records}
+use Rattle.omf_layout.specs.Own.Order.{bss_names, bss_slots, data_names, data_slots, dos_slots, end_publics, missing, order_group, order_records, raise_records, slots, slots_records}
 use Rattle.omf_layout.specs.Own.Ordered.{HasSegmentsOf}
 use Rattle.omf_layout.specs.Own.Written.{end_record, segment}
+use Rattle.omf_layout.specs.Wants.{raised, raised_by}
+use Rattle.omf_layout.proofs.RaisedLaws.{raised_from, raisings-attributes, raisings-raise, raisings-segments}
 use Rattle.omf_layout.proofs.SeveralLaws.GatherLaws.{Name}
 use Rattle.omf_layout.proofs.DosLaws.KeyLaws.{Key}
 use Rattle.omf_layout.proofs.DosLaws.RunLaws.{key}
@@ -49,7 +51,19 @@ attributes-of : (j : ℕ) (ss : List Slot) → attributes (slots_records j ss) �
 attributes-of j [] = refl
 attributes-of j (s ∷ ss) = ap (λ bs. s.attribute ∷ bs) (attributes-of (j + 1) ss)
 
+raised-of : (j : ℕ) (ss : List Slot) → raised (slots_records j ss) ≡ []
+raised-of j [] = refl
+raised-of j (s ∷ ss) = raised-of (j + 1) ss
+
 -- The records after the segments define no others.
+publics-raised : (i : ℕ) (ns : List Name) (rs : List Rec) → raised (end_publics i ns ++ rs) ≡ raised rs
+publics-raised i [] rs = refl
+publics-raised i (n ∷ ns) rs = publics-raised i ns rs
+
+group-raised : (g : Bool) (n : ℕ) (rs : List Rec) → raised (order_group g n ++ rs) ≡ raised rs
+group-raised true n rs = refl
+group-raised false n rs = refl
+
 publics-segments : (i : ℕ) (ns : List Name) (rs : List Rec) → segments (end_publics i ns ++ rs) ≡ segments rs
 publics-segments i [] rs = refl
 publics-segments i (n ∷ ns) rs = publics-segments i ns rs
@@ -77,12 +91,23 @@ last-attributes : (g : Bool) (n i : ℕ) (is : List Name) (k : ℕ) (ks : List N
 last-attributes g n i is k ks =
     group-attributes g n (end_publics i is ++ (end_publics k ks ++ end_record ∷ [])) ∙ publics-attributes i is (end_publics k ks ++ end_record ∷ []) ∙ publics-attributes k ks (end_record ∷ [])
 
+last-raised : (g : Bool) (n i : ℕ) (is : List Name) (k : ℕ) (ks : List Name) → raised (last_records g n i is k ks) ≡ []
+last-raised g n i is k ks =
+    group-raised g n (end_publics i is ++ (end_publics k ks ++ end_record ∷ [])) ∙ publics-raised i is (end_publics k ks ++ end_record ∷ []) ∙ publics-raised k ks (end_record ∷ [])
+
 module _ (ms : List (List Rec)) where
   abbrev pub all : List Slot
   all = dos_slots (are_grouped ms) (slots ms)
 
+  abbrev last : List Rec
+  last = last_records (are_grouped ms) (length all) (length (data_slots (slots ms)) + 1) (missing ms data_names) (length (bss_slots (are_grouped ms) (slots ms)) + 1) (missing ms bss_names)
+
+  -- Whether each is raised.
+  abbrev pub flags : List Bool
+  flags = map (λ s. s.raised) all
+
   abbrev rest : List Rec
-  rest = last_records (are_grouped ms) (length all) (length (data_slots (slots ms)) + 1) (missing ms data_names) (length (bss_slots (are_grouped ms) (slots ms)) + 1) (missing ms bss_names)
+  rest = raise_records all ++ last
 
   order-names : names (order_records ms) ≡ slot-names all ++ names rest
   order-names = flat_map-append (λ r. defined_names r.contents) (slots_records 0 all) rest ∙ ap (λ ns. ns ++ names rest) (names-of 0 all)
@@ -90,14 +115,19 @@ module _ (ms : List (List Rec)) where
   pub order-segments : segments (order_records ms) ≡ infos 0 all
   order-segments =
       flat_map-append (λ r. defined_segments r.kind r.contents) (slots_records 0 all) rest
-      ∙ ap₂ (λ us vs. us ++ vs) (segments-of 0 all) (last-segments (are_grouped ms) (length all) (length (data_slots (slots ms)) + 1) (missing ms data_names) (length (bss_slots (are_grouped ms) (slots ms)) + 1) (missing ms bss_names))
+      ∙ ap₂ (λ us vs. us ++ vs) (segments-of 0 all) (raisings-segments 1 flags last ∙ last-segments (are_grouped ms) (length all) (length (data_slots (slots ms)) + 1) (missing ms data_names) (length (bss_slots (are_grouped ms) (slots ms)) + 1) (missing ms bss_names))
       ∙ append-nil (infos 0 all)
 
   order-attributes : attributes (order_records ms) ≡ bytes all
   order-attributes =
       flat_map-append (λ r. attributes_in r.contents) (slots_records 0 all) rest
-      ∙ ap₂ (λ us vs. us ++ vs) (attributes-of 0 all) (last-attributes (are_grouped ms) (length all) (length (data_slots (slots ms)) + 1) (missing ms data_names) (length (bss_slots (are_grouped ms) (slots ms)) + 1) (missing ms bss_names))
+      ∙ ap₂ (λ us vs. us ++ vs) (attributes-of 0 all) (raisings-attributes 1 flags last ∙ last-attributes (are_grouped ms) (length all) (length (data_slots (slots ms)) + 1) (missing ms data_names) (length (bss_slots (are_grouped ms) (slots ms)) + 1) (missing ms bss_names))
       ∙ append-nil (bytes all)
+
+  pub order-raised : raised (order_records ms) ≡ raised_from 1 flags
+  order-raised =
+      flat_map-append (λ r. raised_by r.contents) (slots_records 0 all) rest
+      ∙ ap₂ (λ us vs. us ++ vs) (raised-of 0 all) (raisings-raise 1 flags last (last-raised (are_grouped ms) (length all) (length (data_slots (slots ms)) + 1) (missing ms data_names) (length (bss_slots (are_grouped ms) (slots ms)) + 1) (missing ms bss_names)))
 
 -- ---- Its segments
 

@@ -12,7 +12,7 @@ use Rattle.omf_layout.specs.Layout.{Laid, and_then_more, all_laid, segment_at, s
 use Rattle.omf_layout.specs.Room.{limit, next_multiple, address_from, frame_at}
 use Rattle.omf_layout.specs.Wants.{bytes_aligned}
 use Rattle.omf_layout.specs.declared.alignment.Alignment.{Alignment}
-use Rattle.omf_layout.specs.declared.alignment.Alignment.TheVariants.{Byte, Word, Paragraph, Page, Dword}
+use Rattle.omf_layout.specs.declared.alignment.Alignment.TheVariants.{Byte, Word, Paragraph, Page, Dword, Block}
 use Rattle.omf_layout.specs.declared.options.Frames.{Frames}
 use Rattle.omf_layout.specs.declared.several.portion.Combination.{Combination}
 use Rattle.omf_layout.specs.declared.several.portion.Combination.TheVariants.{Joined, Common, Alone}
@@ -66,6 +66,7 @@ again Word n = omega arith
 again Paragraph n = omega arith
 again Page n = omega arith
 again Dword n = omega arith
+again Block n = omega arith
 
 byte-settled : (n m : ℕ) → Settled Byte n m → m ≡ n
 byte-settled n m e = omega (arith, e)

@@ -13,7 +13,7 @@ use Rattle.omf_layout.specs.Laws.{IsMultiple}
 use Rattle.omf_layout.specs.Room.{limit, next_multiple, address_from, frame_at}
 use Rattle.omf_layout.specs.Wants.{bytes_aligned}
 use Rattle.omf_layout.specs.declared.alignment.Alignment.{Alignment}
-use Rattle.omf_layout.specs.declared.alignment.Alignment.TheVariants.{Byte, Word, Paragraph, Page, Dword}
+use Rattle.omf_layout.specs.declared.alignment.Alignment.TheVariants.{Byte, Word, Paragraph, Page, Dword, Block}
 use Rattle.omf_layout.specs.declared.options.Frames.{Frames}
 use Rattle.omf_layout.proofs.FitLaws.{map_some, first-of}
 use Rattle.omf_layout.proofs.SeveralLaws.OrderedLaws.{those-in-runs, places-in-order}
@@ -30,6 +30,7 @@ no-lower Word n = omega arith
 no-lower Paragraph n = omega arith
 no-lower Page n = omega arith
 no-lower Dword n = omega arith
+no-lower Block n = omega arith
 
 -- An address at or above a free one.
 record IsFrom (frames : Frames) (step free size a : ℕ) : Type 0 where
@@ -57,26 +58,37 @@ divides Byte Word h = record { times = 2; product = refl }
 divides Byte Paragraph h = record { times = 16; product = refl }
 divides Byte Page h = record { times = 256; product = refl }
 divides Byte Dword h = record { times = 4; product = refl }
+divides Byte Block h = record { times = 4096; product = refl }
 divides Word Byte h = absurd (omega (arith, h))
 divides Word Word h = record { times = 1; product = refl }
 divides Word Paragraph h = record { times = 8; product = refl }
 divides Word Page h = record { times = 128; product = refl }
 divides Word Dword h = record { times = 2; product = refl }
+divides Word Block h = record { times = 2048; product = refl }
 divides Paragraph Byte h = absurd (omega (arith, h))
 divides Paragraph Word h = absurd (omega (arith, h))
 divides Paragraph Paragraph h = record { times = 1; product = refl }
 divides Paragraph Page h = record { times = 16; product = refl }
 divides Paragraph Dword h = absurd (omega (arith, h))
+divides Paragraph Block h = record { times = 256; product = refl }
 divides Page Byte h = absurd (omega (arith, h))
 divides Page Word h = absurd (omega (arith, h))
 divides Page Paragraph h = absurd (omega (arith, h))
 divides Page Page h = record { times = 1; product = refl }
 divides Page Dword h = absurd (omega (arith, h))
+divides Page Block h = record { times = 16; product = refl }
 divides Dword Byte h = absurd (omega (arith, h))
 divides Dword Word h = absurd (omega (arith, h))
 divides Dword Paragraph h = record { times = 4; product = refl }
 divides Dword Page h = record { times = 64; product = refl }
 divides Dword Dword h = record { times = 1; product = refl }
+divides Dword Block h = record { times = 1024; product = refl }
+divides Block Byte h = absurd (omega (arith, h))
+divides Block Word h = absurd (omega (arith, h))
+divides Block Paragraph h = absurd (omega (arith, h))
+divides Block Page h = absurd (omega (arith, h))
+divides Block Dword h = absurd (omega (arith, h))
+divides Block Block h = record { times = 1; product = refl }
 
 times-times : (n s t : ℕ) → IsMultiple s n → IsMultiple t s → IsMultiple t n
 times-times n s t m k = record { times = m.times * k.times; product = m.product ∙ ap (λ x. m.times * x) k.product ∙ sym (mul_assoc m.times k.times t) }

@@ -87,7 +87,7 @@ module _ (o : Options) (ms : List (List Rec)) (k : Laid (List Lying)) (h : arran
       let f = segments-are-found o ms k h j i p.own x.0.segment p.own_is p.said.told in
       let own = own-at o ms k h f.position f.lying f.laid p.own (ap (slice_get ms) f.number ∙ p.own_is) in
       let attribute : own.attribute ≡ p.said.attribute = same_Some own.attribute p.said.attribute (sym own.attributed ∙ ap (entry (attributes p.own)) f.index ∙ p.said.attributed) in
-      let same : f.lying.0 ≡ x.0 = own.whole ∙ ap₂ (λ a b. portion a b f.lying.0.segment own.attribute) f.number f.index ∙ ap₂ (λ s a. portion j i s a) f.told attribute ∙ sym p.said.whole in
+      let same : f.lying.0 ≡ x.0 = own.whole ∙ ap₂ (λ a b. portion p.own a b f.lying.0.segment own.attribute) f.number f.index ∙ ap₂ (λ s a. portion p.own j i s a) f.told attribute ∙ sym p.said.whole in
       let those = same_Some (with_frames o.frames all_lows (p.own, segments_in k.what (j, p.own))) p.places (sym (places-there j p.own p.own_is) ∙ p.places_are) in
       let place : f.lying.1 ≡ x.1 = same_Some f.lying.1 x.1 (sym f.place ∙ sym (place-at k.what j p.own (found-in j p.own p.own_is) i x.0.segment p.said.told) ∙ ap (λ q. entry q.segments i) those ∙ p.place) in
       (f.position, f.laid ∙ ap₂ (λ (a : Portion) (b : Placed). Some (a, b)) same place)

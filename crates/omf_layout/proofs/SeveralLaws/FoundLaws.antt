@@ -55,7 +55,7 @@ counted-in t h [] k x e c = absurd (none-some x e)
 counted-in t h (z ∷ zs) zero x e c = let both = count-both t (h z) (flat_map h zs) in let same = ap (λ y. count t (h y)) (same_Some z x e) in omega (arith, both, same, c)
 counted-in t h (z ∷ zs) (suc k) x e c = let both = count-both t (h z) (flat_map h zs) in let rest = counted-in t h zs k x e c in omega (arith, both, rest)
 
-numbered-at : {A : Type 0} (a : ℕ) (xs : List A) (k : ℕ) (x : A) → slice_get xs k ≡ Some x → slice_get (enumerate_from a xs) k ≡ Some (a + k, x)
+pub numbered-at : {A : Type 0} (a : ℕ) (xs : List A) (k : ℕ) (x : A) → slice_get xs k ≡ Some x → slice_get (enumerate_from a xs) k ≡ Some (a + k, x)
 numbered-at a [] k x e = absurd (none-some x e)
 numbered-at a (z ∷ zs) zero x e = let same : a ≡ a + 0 = omega arith in ap₂ (λ n y. Some (n, y)) same (same_Some z x e)
 numbered-at a (z ∷ zs) (suc k) x e = let same : a + 1 + k ≡ a + suc k = omega arith in numbered-at (a + 1) zs k x e ∙ ap (λ n. Some (n, x)) same
@@ -139,13 +139,13 @@ module _ (ms : List (List Rec)) where
   own-in j n e a (s ∷ ss) [] h k = tt
   own-in j n e a (s ∷ ss) (x ∷ xs) h k =
       let same : a + 0 ≡ a = omega arith in
-      let own : IsToldBy n (portion j a s x) = record {
+      let own : IsToldBy n (portion n j a s x) = record {
         attribute = x;
         told = ap (entry (segments n)) (sym same) ∙ sym (h 0);
         attributed = ap (entry (attributes n)) (sym same) ∙ sym (k 0);
         whole = refl;
       } in (
-        (λ m g. subst (λ q. IsToldBy q (portion j a s x)) (same_Some n m (sym e ∙ g)) own),
+        (λ m g. subst (λ q. IsToldBy q (portion n j a s x)) (same_Some n m (sym e ∙ g)) own),
         own-in j n e (a + 1) ss xs (λ i. let next : a + suc i ≡ a + 1 + i = omega arith in h (suc i) ∙ ap (entry (segments n)) next)
             (λ i. let next : a + suc i ≡ a + 1 + i = omega arith in k (suc i) ∙ ap (entry (attributes n)) next),
       )

@@ -21,7 +21,7 @@ use Rattle.omf_layout.specs.Several.Portions.{name_at}
 use Rattle.omf_layout.specs.Own.Claims.{Claim, all_claims}
 use Rattle.omf_layout.specs.Own.Communals.{are_grouped, is_dgroup}
 use Rattle.omf_layout.specs.Several.Portions.{Named}
-use Rattle.omf_layout.specs.Own.Written.{header, name_record, segment_record, empty_group_record, public_record, end_record}
+use Rattle.omf_layout.specs.Own.Written.{header, name_record, segment_record, empty_group_record, public_record, raisings, end_record}
 
 -- ---- The classes of DGROUP
 
@@ -61,14 +61,20 @@ part_of inside class =
     else (if bytes_eq class (codes "BSS") then part.Bss
     else part.Data))))
 
--- The attribute byte of an empty segment that is aligned and combines like another: A in the bits from 5 on, C in those from 2 on. Of a segment that is joined
--- with others C is 2 (public), whatever it is there.
+-- The attribute byte of an empty segment that is aligned and combines like another: A in the bits from 5 on, C in those from 2 on. No A is 4,096 bytes: it is
+-- 4 there, and a comment raises the segment. Of a segment that is joined with others C is 2 (public), whatever it is there.
 abbrev pub alignment_bits : Alignment → ℕ
 alignment_bits aligned.Byte = 0x20
 alignment_bits aligned.Word = 0x40
 alignment_bits aligned.Paragraph = 0x60
 alignment_bits aligned.Page = 0x80
 alignment_bits aligned.Dword = 0xA0
+alignment_bits aligned.Block = 0x80
+
+-- A comment raises an empty segment with such bits to its alignment.
+abbrev pub is_block : Alignment → Bool
+is_block aligned.Block = true
+is_block _ = false
 
 abbrev pub combination_bits : Combination → ℕ
 combination_bits combined.Joined = 0x08
@@ -82,7 +88,7 @@ module_at ms j = unwrap_or (slice_get ms j) []
 abbrev pub slot : List (List Rec) → Portion → Slot
 slot ms p =
     let class = name_at (module_at ms p.«module») p.segment.class in
-    record { part = part_of (dgroup_classes ms) class; class = class; name = name_at (module_at ms p.«module») p.segment.name; attribute = alignment_bits p.alignment + combination_bits p.combination }
+    record { part = part_of (dgroup_classes ms) class; class = class; name = name_at (module_at ms p.«module») p.segment.name; attribute = alignment_bits p.alignment + combination_bits p.combination; raised = is_block p.alignment }
 
 -- The first of the segments of one class and name that is not absolute.
 abbrev pub first_of : List Portion → Option Portion
@@ -108,7 +114,7 @@ in_part p ss = filter (λ s. is_same_part p s.part) ss
 
 -- Two more empty segments in DGROUP, if there is such a group: one at the end of its data, and one at the end of its BSS. Each has a class of its own.
 abbrev pub marker : Bool → List ℕ → List Slot
-marker grouped name = if grouped then record { part = part.Data; class = name; name = name; attribute = 0x28 } ∷ [] else []
+marker grouped name = if grouped then record { part = part.Data; class = name; name = name; attribute = 0x28; raised = false } ∷ [] else []
 
 -- The segments in DOS order. Those of one class stay together, since a class is in one part.
 abbrev pub data_slots : List Slot → List Slot
@@ -171,14 +177,18 @@ order_group grouped count = if grouped then dgroup_records count else []
 abbrev pub end_publics : ℕ → List (List ℕ) → List Rec
 end_publics segment names = map (λ name. public_record 1 segment name 0) names
 
--- The module: its name, the segments, the group, the publics, the end.
+-- The comments that raise empty segments, from the first on.
+abbrev pub raise_records : List Slot → List Rec
+raise_records ss = raisings 1 (map (λ s. s.raised) ss)
+
+-- The module: its name, the segments, the comments that raise them, the group, the publics, the end.
 abbrev pub order_records : List (List Rec) → List Rec
 order_records ms =
     let grouped = are_grouped ms in
     let ss = slots ms in
     let all = dos_slots grouped ss in
-    header (codes "order") ∷ (slots_records 0 all ++ (order_group grouped (length all)
-    ++ (end_publics (length (data_slots ss) + 1) (missing ms data_names) ++ (end_publics (length (bss_slots grouped ss) + 1) (missing ms bss_names) ++ end_record ∷ []))))
+    header (codes "order") ∷ (slots_records 0 all ++ (raise_records all ++ (order_group grouped (length all)
+    ++ (end_publics (length (data_slots ss) + 1) (missing ms data_names) ++ (end_publics (length (bss_slots grouped ss) + 1) (missing ms bss_names) ++ end_record ∷ [])))))
 
 -- ---- Whether DOS order is asked for
 

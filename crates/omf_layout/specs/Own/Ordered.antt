@@ -7,6 +7,7 @@ use Rattle.omf_check.specs.Tables.{attributes, data_in, names, segments}
 use Rattle.omf_check.specs.declared.segment.SegInfo.{SegInfo}
 use Rattle.omf_layout.specs.Layout.{Laid}
 use Rattle.omf_layout.specs.Room.{limit}
+use Rattle.omf_layout.specs.Wants.{raised}
 use Rattle.omf_layout.specs.declared.options.Options.{Options}
 use Rattle.omf_layout.specs.declared.several.portion.Portion.{Portion}
 use Rattle.omf_layout.specs.declared.own.slots.DosPart.{DosPart}
@@ -16,11 +17,12 @@ use Rattle.omf_layout.specs.Several.Order.{runs}
 use Rattle.omf_layout.specs.Several.Portions.{Classed, name_at, portions}
 use Rattle.omf_layout.specs.Own.Order.{dgroup_classes, first_of, has_name, is_same_part, module_at, order_records, part_of, slot}
 
--- Records with the names and the segments of others: those by which segments are laid.
+-- Records with the names and the segments of others, and with their raised segments: those by which segments are laid.
 pub record HasSegmentsOf (rs m : List Rec) : Type 0 where
   pub names : names m ≡ names rs
   pub segments : segments m ≡ segments rs
   pub attributes : attributes m ≡ attributes rs
+  pub raised : raised m ≡ raised rs
 
 -- A segment of a module, once one module more is in front.
 abbrev pub in_next_module : Portion → Portion

@@ -1,8 +1,9 @@
 -- Modules that a linker writes itself: their records and their bytes (TIS OMF 1.1, the page of each record).
-use Rattle.std.specs.Prelude.{ℕ, List, [], ◌∷◌, flat_map, None}
+use Rattle.std.specs.Prelude.{ℕ, ◌+◌, List, [], ◌∷◌, ◌++◌, flat_map, Bool, None, if◌then◌else◌}
+use Rattle.omf_frame.specs.Fields.{index_bytes}
 use Rattle.omf_frame.specs.Framing.{raw_bytes, raw_of}
 use Rattle.omf_records.specs.Shortest.{contents_bytes}
-use Rattle.omf_records.specs.Values.{Rec, Contents, Header, Names, Segment, Group, Publics, ModEnd, SegmentItem, nowhere}
+use Rattle.omf_records.specs.Values.{Rec, Contents, Header, Comment, Names, Segment, Group, Publics, ModEnd, SegmentItem, nowhere}
 
 -- A record of a type with these contents.
 abbrev pub typed : ℕ → Contents → Rec
@@ -29,6 +30,17 @@ segment attribute size name class = record { attribute = attribute; absolute = N
 
 abbrev pub segment_record : ℕ → ℕ → ℕ → ℕ → Rec
 segment_record attribute size name class = typed 0x99 (Segment (segment attribute size name class))
+
+-- A COMENT that raises a segment to 4,096 bytes (`raised_by` of specs/Wants), if the segment is raised; and those of several, from an index on.
+abbrev pub raise_record : ℕ → Rec
+raise_record segment = typed 0x88 (Comment 0 0xDC (index_bytes segment))
+
+abbrev pub raising : Bool → ℕ → List Rec
+raising is_raised segment = if is_raised then raise_record segment ∷ [] else []
+
+abbrev pub raisings : ℕ → List Bool → List Rec
+raisings segment [] = []
+raisings segment (is_raised ∷ bs) = raising is_raised segment ++ raisings (segment + 1) bs
 
 -- A GRPDEF with one segment.
 abbrev pub group_record : ℕ → ℕ → Rec

@@ -74,12 +74,12 @@ abbrev pub SegmentsAreFound : Type 0
 SegmentsAreFound = (o : Options) (ms : List (List Rec)) (l : Laid (List Lying)) → arranged o ms ≡ Some l
     → (j i : ℕ) (m : List Rec) (s : SegInfo) → slice_get ms j ≡ Some m → entry (segments m) i ≡ Some s → IsLaidAt l.what j i s
 
--- A segment is as the SEGDEF of its index defines it, in these records of its module.
+-- A segment is as the SEGDEF of its index and the comments define it, in these records of its module.
 pub record IsToldBy (m : List Rec) (x : Portion) : Type 0 where
   pub attribute : ℕ
   pub told : entry (segments m) x.index ≡ Some x.segment
   pub attributed : entry (attributes m) x.index ≡ Some attribute
-  pub whole : x ≡ portion x.«module» x.index x.segment attribute
+  pub whole : x ≡ portion m x.«module» x.index x.segment attribute
 
 -- A segment of one of several modules, as its SEGDEF defines it, and its place in its module's placement.
 pub record IsPlaced (ms : List (List Rec)) (pls : List Places) (x : Lying) : Type 0 where

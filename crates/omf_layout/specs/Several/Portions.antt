@@ -2,10 +2,10 @@
 use Rattle.std.specs.Prelude.{ℕ, List, [], map, flat_map, unwrap_or, ◌==◌, if◌then◌else◌}
 use Rattle.std.specs.List.{enumerate_from, zip}
 use denote.Ref.{Bor}
-use Rattle.omf_records.specs.Values.{Rec, alignment, combination}
+use Rattle.omf_records.specs.Values.{Rec, combination}
 use Rattle.omf_check.specs.Tables.{attributes, names, segments, entry}
 use Rattle.omf_check.specs.declared.segment.SegInfo.{SegInfo}
-use Rattle.omf_layout.specs.Wants.{alignment_named}
+use Rattle.omf_layout.specs.Wants.{alignment_in}
 use Rattle.omf_layout.specs.declared.several.portion.Combination.{Combination}
 use Rattle.omf_layout.specs.declared.several.portion.Combination.TheVariants.{Joined, Common, Alone}
 use Rattle.omf_layout.specs.declared.several.portion.Portion.{Portion}
@@ -22,8 +22,8 @@ abbrev pub name_at : List Rec → ℕ → List ℕ
 name_at m i = unwrap_or (entry (names m) i) []
 
 -- A segment of a module, by the module's number from 0 and the segment's index from 1.
-abbrev pub portion : ℕ → ℕ → SegInfo → ℕ → Portion
-portion j i s attribute = record { «module» = j; index = i; segment = s; alignment = alignment_named (alignment attribute); combination = combination_named attribute }
+abbrev pub portion : List Rec → ℕ → ℕ → SegInfo → ℕ → Portion
+portion m j i s attribute = record { «module» = j; index = i; segment = s; alignment = alignment_in m i attribute; combination = combination_named attribute }
 
 -- A value with a name, and a value with a class and a name.
 abbrev pub Named : Type 0 → Type 0
@@ -33,7 +33,7 @@ abbrev pub Classed : Type 0 → Type 0
 Classed A = Named (Named A)
 
 abbrev pub classed : List Rec → ℕ → ℕ × (SegInfo × ℕ) → Classed Portion
-classed m j x = (name_at m x.1.0.class, (name_at m x.1.0.name, portion j x.0 x.1.0 x.1.1))
+classed m j x = (name_at m x.1.0.class, (name_at m x.1.0.name, portion m j x.0 x.1.0 x.1.1))
 
 -- The segments of a module in order, and those of all modules, module by module.
 abbrev pub portions_in : ℕ × List Rec → List (Classed Portion)

@@ -20,6 +20,10 @@ segment attribute length name class = 0x98 ∷ 0x07 ∷ 0x00 ∷ attribute ∷ l
 abbrev pub absolute : ℕ → ℕ → List ℕ
 absolute name class = 0x98 ∷ 0x0A ∷ 0x00 ∷ 0x08 ∷ 0x00 ∷ 0xB8 ∷ 0x00 ∷ 0x04 ∷ 0x00 ∷ name ∷ class ∷ 0x01 ∷ 0x00 ∷ []
 
+-- A comment that raises a segment to 4,096 bytes.
+abbrev pub raise : ℕ → List ℕ
+raise segment = 0x88 ∷ 0x04 ∷ 0x00 ∷ 0x00 ∷ 0xDC ∷ segment ∷ 0x00 ∷ []
+
 -- A place in the frame with this number, whose base is 16 times the number.
 abbrev pub place : ℕ → ℕ → Placed
 place address number = record { address = address; frame = record { base = 16 * number; selector = number } }

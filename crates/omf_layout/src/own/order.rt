@@ -4,14 +4,14 @@ ghost use Rattle.std.specs.Prelude.{◌≡◌, ◌≤◌, ◌<◌, ◌+◌, ◌^
 ghost use Rattle.omf_check.specs.Module.{recs_of, typed_modules};
 ghost use Rattle.omf_layout.specs.Own.Communals.{are_grouped};
 ghost use Rattle.omf_layout.specs.Own.OrderFault.{IsOrderFault};
-ghost use Rattle.omf_layout.specs.Own.Order.{ask_dos_order, asks_dos_order, bss_names, data_names, dgroup_records, end_publics, is_dosseg, missing, order_group, order_records, slot_names, slot_records, slots, slots_records};
+ghost use Rattle.omf_layout.specs.Own.Order.{ask_dos_order, asks_dos_order, bss_names, data_names, dgroup_records, end_publics, is_dosseg, missing, order_group, order_records, raise_records, slot_names, slot_records, slots, slots_records};
 ghost use Rattle.omf_layout.specs.Own.Written.{end_record, header, written};
 
 use crate::own::communals::are_grouped;
 use crate::own::ends::missing;
 use crate::own::records::{
     Public, Segment, put_empty_group, put_end, put_header, put_name, put_names, put_public,
-    put_segment,
+    put_raising, put_segment,
 };
 use crate::own::slots::{Ordered, Slot, in_dos_order, slots_of};
 use omf_check::{Checked, Undecoded};
@@ -128,6 +128,19 @@ fn put_slots(alloc: Global, out: &mut Vec<u8>, slots: &[Slot<'_>]) -> Result<(),
     Ok(())
 }
 
+/// Appends the comments that raise empty segments.
+fn put_raises(alloc: Global, out: &mut Vec<u8>, slots: &[Slot<'_>]) -> Result<(), AllocError>
+    requires { length slots.now ≤ 16383 }
+    ensures { OnOk result (out.new.items ≡ out.old.items ++ written (raise_records slots.now)) }
+{
+    let mut index = 1;
+    for slot in slots {
+        put_raising(alloc, out, slot.raised, Index(index))?;
+        index += 1;
+    }
+    Ok(())
+}
+
 /// Appends the name of the group after this many segments, and the group.
 fn put_dgroup(alloc: Global, out: &mut Vec<u8>, count: u16) -> Result<(), AllocError>
     requires { count ≤ 16383 }
@@ -194,11 +207,12 @@ fn module_of(
     requires few { length ordered.now.slots.items ≤ 16383 }
     requires data { ordered.now.data ≤ length ordered.now.slots.items }
     requires bss { ordered.now.bss ≤ length ordered.now.slots.items }
-    ensures { IfOk result (λ v. v.items ≡ written (header (codes "order") ∷ (slots_records 0 ordered.now.slots.items ++ (order_group grouped (length ordered.now.slots.items) ++ (end_publics (ordered.now.data + 1) ends.now.data.items ++ (end_publics (ordered.now.bss + 1) ends.now.bss.items ++ end_record ∷ [])))))) }
+    ensures { IfOk result (λ v. v.items ≡ written (header (codes "order") ∷ (slots_records 0 ordered.now.slots.items ++ (raise_records ordered.now.slots.items ++ (order_group grouped (length ordered.now.slots.items) ++ (end_publics (ordered.now.data + 1) ends.now.data.items ++ (end_publics (ordered.now.bss + 1) ends.now.bss.items ++ end_record ∷ []))))))) }
 {
     let mut out = Vec::new(alloc);
     put_header(alloc, &mut out, &Name(b"order"))?;
     put_slots(alloc, &mut out, &ordered.slots)?;
+    put_raises(alloc, &mut out, &ordered.slots)?;
     put_order_group(alloc, &mut out, grouped, ordered.slots.len() as u16)?;
     put_publics(alloc, &mut out, ordered.data as u16 + 1, &ends.data)?;
     put_publics(alloc, &mut out, ordered.bss as u16 + 1, &ends.bss)?;

@@ -1,8 +1,9 @@
 //! Writing the records of a module.
 
 ghost use Rattle.std.specs.Prelude.{◌≡◌, ◌++◌, ◌<◌, OnOk, All, length, map};
-ghost use Rattle.omf_layout.specs.Own.Written.{empty_group_record, end_record, framed, group_record, header, name_record, public_record, segment_record, written};
+ghost use Rattle.omf_layout.specs.Own.Written.{empty_group_record, end_record, framed, group_record, header, name_record, public_record, raise_record, raising, segment_record, written};
 
+use crate::raised::RAISE;
 use omf_check::put_record;
 use omf_frame::{Field, Index, Le32, Name};
 use std::alloc::{AllocError, Global};
@@ -60,6 +61,32 @@ pub fn put_segment(alloc: Global, out: &mut Vec<u8>, segment: &Segment) -> Resul
     segment.class.put(&mut body)?;
     Index(1).put(&mut body)?;
     put_record(out, 0x99, &body)
+}
+
+/// Appends a COMENT that raises a segment to 4,096 bytes (TIS OMF 1.1, "COMENT"; this profile's rule).
+fn put_raise(alloc: Global, out: &mut Vec<u8>, segment: Index) -> Result<(), AllocError>
+    ensures { OnOk result (out.new.items ≡ out.old.items ++ framed (raise_record segment)) }
+{
+    let mut body = Vec::new(alloc);
+    body.push(0)?;
+    body.push(RAISE)?;
+    segment.put(&mut body)?;
+    put_record(out, 0x88, &body)
+}
+
+/// Appends the COMENT that raises a segment to 4,096 bytes, if it is raised. It fails if memory runs out.
+pub fn put_raising(
+    alloc: Global,
+    out: &mut Vec<u8>,
+    is_raised: bool,
+    segment: Index,
+) -> Result<(), AllocError>
+    ensures { OnOk result (out.new.items ≡ out.old.items ++ written (raising is_raised segment)) }
+{
+    if is_raised {
+        put_raise(alloc, out, segment)?;
+    }
+    Ok(())
 }
 
 /// Appends a GRPDEF with one segment (TIS OMF 1.1, "GRPDEF").

@@ -32,13 +32,14 @@ pub enum DosPart {
     Stack,
 }
 
-/// An empty segment: its part, the names of its class and its own, and its attribute byte.
+/// An empty segment: its part, the names of its class and its own, its attribute byte, and whether a comment raises it to 4,096 bytes.
 #[derive(Drop)]
 pub(crate) struct Slot<'a> {
     pub part: DosPart,
     pub class: Name<'a>,
     pub name: Name<'a>,
     pub attribute: u8,
+    pub raised: bool,
 }
 
 /// Whether a class has a segment in DGROUP.
@@ -77,6 +78,7 @@ fn alignment_bits(alignment: Alignment) -> u8
         Alignment::Paragraph => 0x60,
         Alignment::Page => 0x80,
         Alignment::Dword => 0xA0,
+        Alignment::Block => 0x80,
     }
 }
 
@@ -122,6 +124,7 @@ fn slot_of<'a>(modules: &'a [Checked], inside: &NameTable<'a>, portion: &Portion
         class,
         name: name_in(modules, portion.module, portion.segment.name),
         attribute: alignment_bits(portion.alignment) + combination_bits(portion.combination),
+        raised: portion.alignment.is_block(),
     }
 }
 
@@ -184,6 +187,7 @@ fn add_part<'a>(
                 class: Name(slot.class.0),
                 name: Name(slot.name.0),
                 attribute: slot.attribute,
+                raised: slot.raised,
             })?;
         }
     }
@@ -205,6 +209,7 @@ fn add_marker<'a>(
             class: Name(name),
             name: Name(name),
             attribute: 0x28,
+            raised: false,
         })?;
     }
     Ok(())

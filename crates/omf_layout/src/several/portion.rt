@@ -1,10 +1,13 @@
 //! Segments of several modules.
 
-ghost use Rattle.std.specs.Prelude.{◌≡◌, ◌++◌, ◌<◌, ◌^◌, OnOk, IfOk, length, map};
+ghost use Rattle.std.specs.Prelude.{◌≡◌, ◌++◌, ◌<◌, ◌^◌, List, OnOk, IfOk, length, map};
 ghost use Rattle.omf_check.specs.Module.{recs_of, typed_modules};
+ghost use Rattle.omf_records.specs.Values.{Rec};
+ghost use Rattle.omf_layout.specs.Wants.{AreRaised};
 ghost use Rattle.omf_layout.specs.Several.Portions.{combination_named, name_at, portion, portions, portions_in, with_names};
 
 use crate::Alignment;
+use crate::raised::{Raised, alignment_in, raised_in};
 use omf_check::{Checked, SegInfo};
 use std::alloc::{AllocError, Global};
 
@@ -61,15 +64,15 @@ impl Portion {
     }
 }
 
-/// Returns the portion of a segment with this attribute.
-fn portion_of(module: u32, index: u16, segment: SegInfo, attribute: u8) -> Portion
-    ensures { result ≡ portion «module» index segment attribute }
+/// Returns the portion of a segment with this attribute, in a module of which these segments are raised.
+fn portion_of(raised: &Raised, module: u32, index: u16, segment: SegInfo, attribute: u8) -> Portion
+    ensures { (m : List Rec) → AreRaised raised.now m → result ≡ portion m «module» index segment attribute }
 {
     Portion {
         module,
         index,
         segment,
-        alignment: Alignment::named_by(attribute),
+        alignment: alignment_in(raised, index, attribute),
         combination: Combination::named_by(attribute),
     }
 }
@@ -89,12 +92,14 @@ pub type Classed<'a> = (&'a [u8], (&'a [u8], Portion));
 
 /// Adds the segments of a module.
 fn add_portions<'a>(
+    alloc: Global,
     portions: &mut Vec<Classed<'a>>,
     module: &'a Checked,
     number: u32,
 ) -> Result<(), AllocError>
     ensures { OnOk result (map with_names portions.new.items ≡ map with_names portions.old.items ++ portions_in (number, recs_of «module».entry.now.bytes)) }
 {
+    let raised = raised_in(alloc, module)?;
     for before in 0..module.segments() {
         let index = before + 1;
         let Some(segment) = module.segment(index) else {
@@ -103,7 +108,7 @@ fn add_portions<'a>(
         let Some(attribute) = module.attribute(index) else {
             unreachable!()
         };
-        let portion = portion_of(number, index, segment, attribute);
+        let portion = portion_of(&raised, number, index, segment, attribute);
         let class = name_at(module, segment.class);
         let name = name_at(module, segment.name);
         portions.push((class, (name, portion)))?;
@@ -121,7 +126,7 @@ pub fn portions_of<'a>(
 {
     let mut portions = Vec::with_capacity(alloc, modules.len())?;
     for (number, module) in modules.iter().enumerate() {
-        add_portions(&mut portions, module, number as u32)?;
+        add_portions(alloc, &mut portions, module, number as u32)?;
     }
     Ok(portions)
 }

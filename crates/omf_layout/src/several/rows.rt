@@ -4,7 +4,7 @@ ghost use Rattle.std.specs.Prelude.{◌≡◌, ℕ, [], ◌∷◌, map, Some, No
 ghost use Rattle.omf_layout.specs.Several.Gathered.{distinct, gathered};
 ghost use Rattle.omf_layout.specs.Several.Order.{order};
 ghost use Rattle.omf_layout.specs.Several.Portions.{combination_named, name_at};
-ghost use Rattle.omf_layout.specs.Several.Rows.{absolute, empty_group, group, module_places, of_records, paragraph_frame, place, places, segment};
+ghost use Rattle.omf_layout.specs.Several.Rows.{absolute, empty_group, group, module_places, of_records, paragraph_frame, place, places, raise, segment};
 ghost use Rattle.omf_layout.specs.declared.options.Frames.TheVariants.{Real, Flat};
 ghost use Rattle.omf_layout.specs.declared.several.portion.Combination.TheVariants.{Joined, Common, Alone};
 
@@ -36,6 +36,11 @@ pub fn combined_ones()
 pub fn places_of_combined_ones()
     ensures real { places 0x10008 Real (of_records (segment 0x20 1 2 2 ∷ segment 0x38 3 2 2 ∷ absolute 2 2 ∷ segment 0x28 5 2 2 ∷ []) ∷ of_records (segment 0x78 2 2 2 ∷ segment 0x68 4 2 2 ∷ []) ∷ []) ≡ Some (((0, 4), place 0x10008 0x1000) ∷ ((1, 2), place 0x10010 0x1000) ∷ ((0, 2), place 0x10020 0x1002) ∷ ((1, 1), place 0x10020 0x1002) ∷ ((0, 1), place 0x10023 0x1002) ∷ ((0, 3), place 0xB8000 0xB800) ∷ [], 0x10024) }
     ensures flat { places 0x401001 (Flat 0) (of_records (segment 0xA8 5 2 2 ∷ []) ∷ of_records (segment 0x48 1 3 2 ∷ segment 0x28 4 2 2 ∷ []) ∷ []) ≡ Some (((0, 1), place 0x401004 0) ∷ ((1, 2), place 0x401009 0) ∷ ((1, 1), place 0x40100E 0) ∷ [], 0x40100F) }
+{}
+
+/// The second of two joined segments is raised: it is at a multiple of 4,096, in the frame of the first.
+pub fn places_of_a_raised_one()
+    ensures { places 0x10008 Real (of_records (segment 0x28 5 2 2 ∷ []) ∷ of_records (segment 0x88 3 2 2 ∷ raise 1 ∷ []) ∷ []) ≡ Some (((0, 1), place 0x10008 0x1000) ∷ ((1, 1), place 0x11000 0x1000) ∷ [], 0x11003) }
 {}
 
 /// Segments that do not fit: the second of two joined ones, and common ones of which the first is the shorter.

@@ -24,7 +24,7 @@ loop-before-preserved c =
     let number : j + 1 ≡ 1 + j = omega arith in
     let same =
     ap (λ n. (n, (c.name_at-name.result.now, c.portion_of-portion.result))) c.name_at-class.ensures ∙ ap (λ n. (name_at m s.class, (n, c.portion_of-portion.result))) c.name_at-name.ensures
-    ∙ ap (λ p. (name_at m s.class, (name_at m s.name, p))) c.portion_of-portion.ensures ∙ ap (λ i. (name_at m s.class, (name_at m s.name, portion k i s a))) number in
+    ∙ ap (λ p. (name_at m s.class, (name_at m s.name, p))) (c.portion_of-portion.ensures m c.in_ok-raised.ensures) ∙ ap (λ i. (name_at m s.class, (name_at m s.name, portion m k i s a))) number in
     record {
       added = more-mapped with_names (classed m k) c.loop-before.portions.items c.push.new.self.items _ _ _ (1 + j, (s, a)) _ c.in_ok-push.ensures.items next same c.loop-before.invariant.added;
       end = c.loop-before.invariant.end;
