@@ -1,4 +1,5 @@
 mod Padded
 mod InParts
+mod EndingLaws
 mod UnwrittenLaws
 mod NumberLaws

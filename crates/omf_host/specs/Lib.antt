@@ -1,4 +1,5 @@
 pub mod Ending
+pub mod Endings
 pub mod Inner
 pub mod Lines
 pub mod Numbers
@@ -6,3 +7,5 @@ pub mod Outputs
 pub mod Question
 pub mod Spots
 pub mod Streams
+pub mod Telling
+pub mod Tools

@@ -49,9 +49,13 @@ abbrev pub is_closed : ErrorKind → Bool
 is_closed kind.BrokenPipe = true
 is_closed _ = false
 
--- An output that failed is named on the standard error, with the system's reason.
+-- What failed for a file is on the standard error, with the system's reason.
+abbrev pub IsToldFailure : List ℕ → List ℕ → List ℕ → Device → Device → Type 0
+IsToldFailure name what file old new = (reason : List ℕ) × IsTold name (failure_line what file reason) old new
+
+-- The same of an output that failed.
 abbrev pub IsToldUnwritten : List ℕ → Device → Device → Type 0
-IsToldUnwritten name old new = (reason : List ℕ) × IsTold name (failure_line (codes "write") (codes "standard output") reason) old new
+IsToldUnwritten name old new = IsToldFailure name (codes "write") (codes "standard output") old new
 
 -- The same; or memory ran out for that.
 abbrev pub SaysUnwritten : List ℕ → Device → Device → Type 0

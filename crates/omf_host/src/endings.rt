@@ -1,6 +1,9 @@
 //! Files whose names are given without their ending.
 
-use std::alloc::AllocError;
+ghost use Rattle.std.specs.Prelude.{◌≡◌, ◌++◌, ◌↔◌, IfOk, IfSome, IsTrue, codes, map, string_bytes, true};
+ghost use Rattle.omf_host.specs.Endings.{IsNamed, folded, is_object_file, is_with};
+
+use std::alloc::{AllocError, Global};
 use std::io::ErrorKind;
 use std::{fs, io};
 
@@ -24,15 +27,27 @@ pub fn is_file(rt: &HostRuntime, path: &str) -> Result<bool, AllocError> {
     }
 }
 
+/// The path of a name with an ending in a folder.
+fn path_with(alloc: Global, front: &str, name: &str, ending: &str) -> Result<String, AllocError>
+    ensures { IfOk result (λ p. string_bytes p ≡ front.now ++ name.now ++ ending.now) }
+{
+    let mut path = String::from_str(alloc, front)?;
+    path.push_str(name)?;
+    path.push_str(ending)?;
+    Ok(path)
+}
+
 /// The path of the file with this name in a folder, with the first of the endings that makes one. None if there is none.
 pub fn with_ending(
     rt: &HostRuntime,
     front: &str,
     name: &str,
     endings: &[&str],
-) -> Result<Option<String>, AllocError> {
+) -> Result<Option<String>, AllocError>
+    ensures { IfOk result (λ found. IfSome found (λ p. is_with front.now name.now (map (λ e. e.now) endings.now) (string_bytes p) ≡ true)) }
+{
     for ending in endings {
-        let path = format!(in rt.alloc(); "{front}{name}{ending}")?;
+        let path = path_with(rt.alloc(), front, name, *ending)?;
         if is_file(rt, path.as_str())? {
             return Ok(Some(path));
         }
@@ -46,13 +61,31 @@ pub fn with_ending(
 /// # Errors
 ///
 /// `AllocError` if out of memory.
-pub fn object_file(rt: &HostRuntime, name: &str) -> Result<String, AllocError> {
-    if name != "-"
-        && let Some(path) = with_ending(rt, "", name, &OF_OBJECTS)?
-    {
-        return Ok(path);
+pub fn object_file(rt: &HostRuntime, name: &str) -> Result<String, AllocError>
+    ensures { IfOk result (λ p. is_object_file name.now (string_bytes p) ≡ true) }
+{
+    if name == "-" {
+        return String::from_str(rt.alloc(), name);
     }
-    String::from_str(rt.alloc(), name)
+    match with_ending(rt, "", name, &OF_OBJECTS)? {
+        Some(path) => Ok(path),
+        None => String::from_str(rt.alloc(), name),
+    }
+}
+
+/// Whether bytes are a name and `.lib`, where case does not count.
+fn has_library_ending(file: &[u8], name: &[u8]) -> bool
+    ensures { IsTrue result ↔ (folded file.now ≡ folded name.now ++ codes ".lib") }
+{
+    let (front, ending) = file.split_at(file.len().saturating_sub(4));
+    front.eq_ignore_ascii_case(name) && ending.eq_ignore_ascii_case(b".lib")
+}
+
+/// Whether a file has the name of a library, or its name with `.lib`, where case does not count.
+pub fn is_named(file: &str, library: &str) -> bool
+    ensures { IsTrue result ↔ IsNamed file.now library.now }
+{
+    file.eq_ignore_ascii_case(library) || has_library_ending(file.as_bytes(), library.as_bytes())
 }
 
 /// The files of modules that arguments name.

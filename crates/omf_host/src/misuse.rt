@@ -8,6 +8,7 @@ use crate::output::{misused, put};
 use crate::question::{Question, answer};
 use crate::streams::Streams;
 use crate::text::put_quoted;
+use crate::tool::TOOLS;
 use crate::usage::{
     Shown, bare, form_named, form_with, has_word, is_allowed, is_one_of, is_option, is_placeholder,
     next_argument, parts_of, shown_of, tasks_of, what_is_allowed,
@@ -263,6 +264,27 @@ fn wrong<'a>(usage: &'a str, arguments: &'a [String]) -> Misuse<'a> {
     }
 }
 
+/// Appends a file for each tool, with commas between them.
+fn put_tools(text: &mut String) -> Result<(), AllocError> {
+    let mut between = "";
+    for tool in TOOLS {
+        text.push_str(between)?;
+        text.push_str(tool.name())?;
+        text.push_str("=FILE")?;
+        between = ", ";
+    }
+    Ok(())
+}
+
+/// Appends the values of which an option takes one, by the word for them.
+fn put_choices(text: &mut String, word: &str) -> Result<(), AllocError> {
+    if word == "TOOL=FILE" {
+        put_tools(text)
+    } else {
+        text.push_str(word)
+    }
+}
+
 /// Appends that a value is none that its option takes: the option, the value, and what it takes.
 fn put_wrong_value(text: &mut String, given: Given<'_>) -> Result<(), AllocError> {
     let allowed = what_is_allowed(given.word);
@@ -272,7 +294,7 @@ fn put_wrong_value(text: &mut String, given: Given<'_>) -> Result<(), AllocError
     text.push_str(" is ")?;
     text.push_str(allowed)?;
     if allowed.ends_with(' ') {
-        text.push_str(given.word)?;
+        put_choices(text, given.word)?;
     }
     Ok(())
 }

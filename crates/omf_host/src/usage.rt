@@ -1,6 +1,7 @@
 //! The text that shows how a program is called: its tasks, their options, and the values that these take.
 
 use crate::numbers::{amount, number, size};
+use crate::tool::tool_named;
 
 /// What the text shows of an option.
 #[derive(Clone, Copy)]
@@ -155,7 +156,7 @@ fn is_order(value: &str) -> bool {
 /// Whether a value is a tool, an equals sign, and the name of a file.
 fn is_file_for_tool(value: &str) -> bool {
     match value.split_once('=') {
-        Some((tool, file)) => is_one_of("ghidra|ida|r2|nm", tool) && !file.is_empty(),
+        Some((tool, file)) => tool_named(tool).is_some() && !file.is_empty(),
         None => false,
     }
 }
@@ -194,8 +195,7 @@ pub(crate) fn what_is_allowed(word: &str) -> &'static str {
         "BYTES" => "no number from 1 to 65534",
         "PARAGRAPHS" => "no number from 0 to 65535",
         "ORDER" => "neither dos nor input nor a list of classes as CODE,DATA",
-        "TOOL=FILE" => "none of ghidra=FILE, ida=FILE, r2=FILE, nm=FILE",
-        _ if word.contains('|') => "none of ",
+        _ if word == "TOOL=FILE" || word.contains('|') => "none of ",
         _ => "no name",
     }
 }

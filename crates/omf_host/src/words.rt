@@ -12,6 +12,22 @@ use std::str::from_utf8;
 /// The most bytes of an argument, with the zero at its end: the system passes no longer one.
 const LONGEST: usize = 131_072;
 
+/// The parts of an argument that is an option and its value: with `=` between them, or, after a dash and one letter, with nothing. None if it is
+/// another argument.
+fn option_and_value<'a>(usage: &str, word: &'a str) -> Option<(&'a str, &'a str)> {
+    if let Some((option, value)) = word.split_once('=')
+        && has_word(shown_of(usage, option))
+    {
+        return Some((option, value));
+    }
+    let (option, value) = word.split_at_checked(2)?;
+    if !value.is_empty() && has_word(shown_of(usage, option)) {
+        Some((option, value))
+    } else {
+        None
+    }
+}
+
 /// Arguments, as a program takes them.
 #[derive(Drop)]
 struct Words<'a> {
@@ -30,7 +46,7 @@ impl Words<'_> {
         !self.is_value && !self.is_ended
     }
 
-    /// Takes an argument: two, if it is an option, `=` and its value. What follows `--` is a file: a name there that begins with a dash gets `./`
+    /// Takes an argument: two, if it is an option and its value. What follows `--` is a file: a name there that begins with a dash gets `./`
     /// before it.
     fn take(&mut self, alloc: Global, word: String) -> Result<(), AllocError> {
         if self.is_ended && is_option(word.as_str()) {
@@ -43,8 +59,7 @@ impl Words<'_> {
             return Ok(());
         }
         if self.is_open()
-            && let Some((option, value)) = word.as_str().split_once('=')
-            && has_word(shown_of(self.usage, option))
+            && let Some((option, value)) = option_and_value(self.usage, word.as_str())
         {
             self.taken.push(String::from_str(alloc, option)?)?;
             return Ok(self.taken.push(String::from_str(alloc, value)?)?);
@@ -249,8 +264,8 @@ pub fn spelled_arguments(rt: &HostRuntime, usage: &str) -> Result<SpelledArgumen
 }
 
 /// The arguments of the process without the program's own name, for a program with this usage; None if one of them is not UTF-8. `@FILE` is
-/// the words of a file, if it can be read. An option and its value may be one argument, with `=` between them. `--` ends the options: a name after
-/// it that begins with a dash has `./` before it.
+/// the words of a file, if it can be read. An option and its value may be one argument, with `=` between them, or with nothing after a dash and one
+/// letter. `--` ends the options: a name after it that begins with a dash has `./` before it.
 ///
 /// # Errors
 ///

@@ -1,8 +1,8 @@
 -- Names as tools read them (this profile's rule).
 use Rattle.std.specs.Prelude.{ℕ, List, [], ◌∷◌, ◌++◌, flat_map, codes, Bool, not, nat_le, nat_lt, ◌==◌, ◌&&◌, ◌||◌, if◌then◌else◌}
 use Rattle.omf_placement.specs.Quoted.{hex}
-use Rattle.omf_symbols.specs.declared.tool.Tool.{Tool}
-use Rattle.omf_symbols.specs.declared.tool.Tool.TheVariants as tool
+use Rattle.omf_host.specs.declared.tool.Tool.{Tool}
+use Rattle.omf_host.specs.declared.tool.Tool.TheVariants as tool
 
 -- A letter, a digit, a point or an underscore.
 abbrev pub is_letter : ℕ → Bool

@@ -3,8 +3,8 @@ use Rattle.std.specs.Prelude.{ℕ, List, [], ◌∷◌, ◌++◌, flat_map, code
 use Rattle.omf_placement.specs.Quoted.{hex}
 use Rattle.omf_symbols.specs.Names.{name_text}
 use Rattle.omf_symbols.specs.Symbol.{Symbol}
-use Rattle.omf_symbols.specs.declared.tool.Tool.{Tool}
-use Rattle.omf_symbols.specs.declared.tool.Tool.TheVariants as tool
+use Rattle.omf_host.specs.declared.tool.Tool.{Tool}
+use Rattle.omf_host.specs.declared.tool.Tool.TheVariants as tool
 
 -- Ghidra makes a function of an f and a label of an l; nm has T for code and D for data.
 abbrev pub ghidra_end : Bool → List ℕ

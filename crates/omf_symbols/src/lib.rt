@@ -15,7 +15,8 @@ mod text;
 mod tool;
 
 pub use class::is_code;
+pub use omf_host::{Tool, tool_named};
 pub use placed::placed_symbols;
 pub use symbol::Symbol;
 pub use text::symbols_text;
-pub use tool::{Kind, Tool, tool_named, usual_load};
+pub use tool::{Kind, usual_load};

@@ -4,8 +4,7 @@ ghost use Rattle.std.specs.Prelude.{◌≡◌, flat_map};
 ghost use Rattle.omf_frame.specs.Bytes.{AddsText};
 ghost use Rattle.omf_symbols.specs.Names.{escape, is_letter, is_plain, name_byte};
 
-use crate::tool::Tool;
-use omf_host::put_byte;
+use omf_host::{Tool, put_byte};
 use std::alloc::AllocError;
 
 /// Whether a byte is a letter, a digit, a point or an underscore.

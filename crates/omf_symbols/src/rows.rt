@@ -1,13 +1,13 @@
 //! Worked examples, each evaluated by the check.
 
-ghost use Rattle.std.specs.Prelude.{◌≡◌, [], ◌∷◌, ◌++◌, codes, true, false, None, Some};
+ghost use Rattle.std.specs.Prelude.{◌≡◌, [], ◌∷◌, ◌++◌, codes, true, false};
+ghost use Rattle.omf_host.specs.declared.tool.Tool.TheVariants as tool;
 ghost use Rattle.omf_symbols.specs.Classes.{is_code};
 ghost use Rattle.omf_symbols.specs.Placed.{placed_symbols};
 ghost use Rattle.omf_symbols.specs.Rows.{at, coded, placed_at};
 ghost use Rattle.omf_symbols.specs.Text.{symbols_text};
-ghost use Rattle.omf_symbols.specs.Tools.{tool_named, usual_load};
+ghost use Rattle.omf_symbols.specs.Tools.{usual_load};
 ghost use Rattle.omf_symbols.specs.declared.tool.Kind.TheVariants as kind;
-ghost use Rattle.omf_symbols.specs.declared.tool.Tool.TheVariants as tool;
 
 /// A function at 10000H and a variable at 1ABCDH, for each tool. The function's name has a question mark, and the variable's a blank.
 pub fn texts_of_symbols()
@@ -18,10 +18,8 @@ pub fn texts_of_symbols()
     ensures none { symbols_text tool.Ida [] ≡ codes "#include <idc.idc>" ++ 10 ∷ codes "static main() {" ++ 10 ∷ codes "}" ++ 10 ∷ [] }
 {}
 
-/// The words for tools, and where these load programs.
-pub fn tools_by_name()
-    ensures radare { tool_named (codes "r2") ≡ Some tool.Radare }
-    ensures other { tool_named (codes "NM") ≡ None }
+/// Where tools load programs.
+pub fn loads_of_programs()
     ensures exe { usual_load tool.Ghidra kind.Mz ≡ 0x10000 }
     ensures com { usual_load tool.Ghidra kind.Com ≡ 0 }
     ensures ida { usual_load tool.Ida kind.Com ≡ 0x10000 }

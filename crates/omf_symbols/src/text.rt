@@ -6,8 +6,7 @@ ghost use Rattle.omf_symbols.specs.Text.{ghidra_end, ghidra_line, head, ida_head
 
 use crate::name::put_name;
 use crate::symbol::Symbol;
-use crate::tool::Tool;
-use omf_host::put_eight;
+use omf_host::{Tool, put_eight};
 use std::alloc::{AllocError, Global};
 
 /// What Ghidra makes of a name: a function or a label.

@@ -1,16 +1,9 @@
-//! The tools that import symbols.
+//! Where the tools that import symbols load a program.
 
 ghost use Rattle.std.specs.Prelude.{◌≡◌};
-ghost use Rattle.omf_symbols.specs.Tools.{tool_named, usual_load};
+ghost use Rattle.omf_symbols.specs.Tools.{usual_load};
 
-/// The tools for which symbols are written.
-#[derive(Clone, Copy, Debug, PartialEq, Eq)]
-pub enum Tool {
-    Ghidra,
-    Ida,
-    Radare,
-    Nm,
-}
+use omf_host::Tool;
 
 /// What a program's file is.
 #[derive(Clone, Copy, Debug, PartialEq, Eq)]
@@ -18,19 +11,6 @@ pub enum Kind {
     Mz,
     Com,
     Raw,
-}
-
-/// The tool that a word names: `ghidra`, `ida`, `r2` or `nm`.
-pub fn tool_named(word: &str) -> Option<Tool>
-    ensures { result ≡ tool_named word.now }
-{
-    match word {
-        "ghidra" => Some(Tool::Ghidra),
-        "ida" => Some(Tool::Ida),
-        "r2" => Some(Tool::Radare),
-        "nm" => Some(Tool::Nm),
-        _ => None,
-    }
 }
 
 /// What a tool adds to the addresses of a program: Ghidra and IDA load an .EXE at 10000H, IDA a .COM file too.
