@@ -12,7 +12,7 @@ use crate::writing::written;
 use std::alloc::{AllocError, Global};
 
 /// The number of SEGDEFs among records.
-fn segment_count(records: &[Front<'_>]) -> usize
+pub fn segment_count(records: &[Front<'_>]) -> usize
     ensures { result ≡ segment_count records.now }
 {
     let mut count = 0;

@@ -9,7 +9,7 @@ use omf_frame::{Field, Index, Le16, Le32, Reason};
 use omf_records::LayoutFault;
 
 /// A fault at a position in the contents. Contents begin at offset 3 of their record.
-pub(crate) fn fault_at(pos: usize, reason: Reason) -> LayoutFault
+pub fn fault_at(pos: usize, reason: Reason) -> LayoutFault
     requires { pos < 65536 }
     ensures { result ≡ fault (3 + pos) reason }
 {
@@ -20,7 +20,7 @@ pub(crate) fn fault_at(pos: usize, reason: Reason) -> LayoutFault
 }
 
 /// The index at a position, and the position after it.
-pub(crate) fn index_at(body: &[u8], pos: usize) -> Result<(Index, usize), LayoutFault>
+pub fn index_at(body: &[u8], pos: usize) -> Result<(Index, usize), LayoutFault>
     requires { (pos ≤ length body.now) × (length body.now ≤ 65534) }
     ensures read { read_to body.now result ≡ index_read (3 + pos) (drop pos body.now) }
     ensures bound { IfOk result (λ r. (pos < r.1) × (r.1 ≤ length body.now)) }
@@ -32,7 +32,7 @@ pub(crate) fn index_at(body: &[u8], pos: usize) -> Result<(Index, usize), Layout
 }
 
 /// The byte at a position, and the position after it.
-pub(crate) fn byte_at(body: &[u8], pos: usize) -> Result<(u8, usize), LayoutFault>
+pub fn byte_at(body: &[u8], pos: usize) -> Result<(u8, usize), LayoutFault>
     requires { (pos ≤ length body.now) × (length body.now ≤ 65534) }
     ensures read { read_to body.now result ≡ byte_read (3 + pos) (drop pos body.now) }
     ensures bound { IfOk result (λ r. (pos < r.1) × (r.1 ≤ length body.now)) }
@@ -85,7 +85,7 @@ fn dword_at(body: &[u8], pos: usize) -> Result<(u32, usize), LayoutFault>
 }
 
 /// The number at a position in a record of odd type, 32 bits, or of even type, 16; and the position after it.
-pub(crate) fn number_at(body: &[u8], wide: bool, pos: usize) -> Result<(u32, usize), LayoutFault>
+pub fn number_at(body: &[u8], wide: bool, pos: usize) -> Result<(u32, usize), LayoutFault>
     requires { (pos ≤ length body.now) × (length body.now ≤ 65534) }
     ensures read { read_to body.now result ≡ (number_reader wide).read (3 + pos) (drop pos body.now) }
     ensures bound { IfOk result (λ r. (pos < r.1) × (r.1 ≤ length body.now)) }

@@ -14,5 +14,9 @@ mod record;
 pub mod rows;
 mod writing;
 
-pub use explicit::{PlainModule, with_segments};
-pub use part::{Datum, Part, Reference};
+pub use explicit::{PlainModule, segment_count, with_segments};
+pub use fields::{byte_at, fault_at, index_at, number_at};
+pub use numbers::{FrameNumbers, distinct};
+pub use part::{Datum, Part, Reference, fixups_in, start_in};
+pub use record::{Front, Records, is_end, is_fixupp, is_right, is_segdef, module_of};
+pub use writing::{put_part, put_raw, put_record};

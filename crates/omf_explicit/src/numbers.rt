@@ -13,7 +13,7 @@ const NUMBER_COUNT: usize = 65_536;
 
 /// FrameNumbers of frames, each once. A table has the place of each number, from 1, or 0.
 #[derive(Drop)]
-pub(crate) struct FrameNumbers {
+pub struct FrameNumbers {
     order: Vec<u16>,
     places: Vec<usize>,
 }
@@ -34,7 +34,7 @@ impl FrameNumbers {
     ghost use Rattle.omf_explicit.specs.Explicit.{place_in, with_number};
 
     /// No numbers.
-    fn new(alloc: Global) -> Result<FrameNumbers, AllocError>
+    pub fn new(alloc: Global) -> Result<FrameNumbers, AllocError>
         ensures { IfOk result (λ n. n ≡ []) }
     {
         let places = vec![in alloc; 0; NUMBER_COUNT]?;
@@ -44,7 +44,7 @@ impl FrameNumbers {
 
     /// Adds a number, unless it is there.
     #[tactic(auto, using(crate::proofs::PlaceLaws::one_place, crate::proofs::PlaceLaws::adds_one, crate::proofs::PlaceLaws::adds_none))]
-    fn add(&mut self, number: u16) -> Result<(), AllocError>
+    pub fn add(&mut self, number: u16) -> Result<(), AllocError>
         ensures { OnOk result (self.new ≡ with_number self.old number) }
     {
         let at = usize::from(number);
@@ -56,14 +56,14 @@ impl FrameNumbers {
     }
 
     /// The place of a number, from 1; 0 if it is not there.
-    pub(crate) fn place(&self, number: u16) -> usize
+    pub fn place(&self, number: u16) -> usize
         ensures { result ≡ place_in self.now number }
     {
         self.places[usize::from(number)]
     }
 
     /// The numbers.
-    pub(crate) fn order(&self) -> &[u16]
+    pub fn order(&self) -> &[u16]
         ensures { result.now ≡ self.now }
     {
         &self.order
@@ -71,7 +71,7 @@ impl FrameNumbers {
 }
 
 /// FrameNumbers, each once.
-pub(crate) fn distinct(alloc: Global, named: &[u16]) -> Result<FrameNumbers, AllocError>
+pub fn distinct(alloc: Global, named: &[u16]) -> Result<FrameNumbers, AllocError>
     ensures { IfOk result (λ n. n ≡ distinct named.now) }
 {
     let mut all = FrameNumbers::new(alloc)?;

@@ -194,7 +194,7 @@ fn part_at(body: &[u8], wide: bool, pos: usize) -> Result<(Part, usize), LayoutF
 }
 
 /// The parts of a FIXUPP; none if its contents have a fault.
-fn fixups_in(alloc: Global, body: &[u8], wide: bool) -> Result<Vec<At<Part>>, AllocError>
+pub fn fixups_in(alloc: Global, body: &[u8], wide: bool) -> Result<Vec<At<Part>>, AllocError>
     requires { length body.now ≤ 65534 }
     ensures { IfOk result (λ v. v.items ≡ or_none ((fixupp_whole wide).read 3 body.now)) }
 {
@@ -236,7 +236,7 @@ fn start_of(body: &[u8], wide: bool) -> Result<Part, LayoutFault>
 }
 
 /// The one part of a MODEND; none if its contents have a fault.
-fn start_in(alloc: Global, body: &[u8], wide: bool) -> Result<Vec<At<Part>>, AllocError>
+pub fn start_in(alloc: Global, body: &[u8], wide: bool) -> Result<Vec<At<Part>>, AllocError>
     requires { length body.now ≤ 65534 }
     ensures { IfOk result (λ v. v.items ≡ placed ((start_whole wide).read 3 body.now)) }
 {

@@ -12,7 +12,7 @@ use std::marker::Model;
 
 /// A record: its type byte, its contents and its checksum byte.
 #[derive(Drop)]
-pub(crate) struct Front<'a> {
+pub struct Front<'a> {
     pub kind: u8,
     pub body: &'a [u8],
     pub checksum: u8,
@@ -30,28 +30,28 @@ impl<'a> Model for Front<'a> {
 }
 
 /// Whether a record of this type ends a module.
-pub(crate) fn is_end(kind: u8) -> bool
+pub fn is_end(kind: u8) -> bool
     ensures { result ≡ is_end kind }
 {
     matches!(kind, 0x8A | 0x8B)
 }
 
 /// Whether a record of this type has fixups.
-fn is_fixupp(kind: u8) -> bool
+pub fn is_fixupp(kind: u8) -> bool
     ensures { result ≡ is_fixupp kind }
 {
     matches!(kind, 0x9C | 0x9D)
 }
 
 /// Whether a record of this type defines a segment.
-pub(crate) fn is_segdef(kind: u8) -> bool
+pub fn is_segdef(kind: u8) -> bool
     ensures { result ≡ is_segdef kind }
 {
     matches!(kind, 0x98 | 0x99)
 }
 
 /// Whether the checksum byte is 0 or makes the sum of the bytes 0 modulo 256.
-fn is_right(record: &Front<'_>) -> bool
+pub fn is_right(record: &Front<'_>) -> bool
     ensures { result ≡ is_right record.now }
 {
     record.checksum == 0 || record.checksum == checksum(record.kind, record.body)
@@ -128,16 +128,13 @@ fn front_of<'a>(bytes: &'a [u8]) -> Option<(Front<'a>, &'a [u8])>
 
 /// The records of a module, and the bytes after it.
 #[derive(Drop)]
-pub(crate) struct Records<'a> {
+pub struct Records<'a> {
     pub records: Vec<Front<'a>>,
     pub rest: &'a [u8],
 }
 
 /// The records of the module that the bytes begin with; none if no MODEND is among the whole records at their front.
-pub(crate) fn module_of<'a>(
-    alloc: Global,
-    bytes: &'a [u8],
-) -> Result<Option<Records<'a>>, AllocError>
+pub fn module_of<'a>(alloc: Global, bytes: &'a [u8]) -> Result<Option<Records<'a>>, AllocError>
     ensures some { IfOk result (λ found. IfSome found (λ m. IsModule bytes.entry.now m.records.items m.rest.now)) }
     ensures none { IfOk result (λ found. IfNone found (HasNoModule bytes.entry.now)) }
 {

@@ -19,7 +19,7 @@ use std::alloc::{AllocError, Global};
 const MOST: usize = 65_534;
 
 /// Appends a record with this checksum byte. Contents do not grow, so that no error but of memory is met.
-fn put_raw(out: &mut Vec<u8>, kind: u8, body: &[u8], sum: u8) -> Result<(), AllocError>
+pub fn put_raw(out: &mut Vec<u8>, kind: u8, body: &[u8], sum: u8) -> Result<(), AllocError>
     ensures { OnOk result (out.new.items ≡ out.old.items ++ raw_bytes (record { kind = kind; body = body.now; checksum = sum })) }
 {
     if body.len() > MOST {
@@ -35,7 +35,7 @@ fn put_raw(out: &mut Vec<u8>, kind: u8, body: &[u8], sum: u8) -> Result<(), Allo
 }
 
 /// Appends the record with these contents.
-fn put_record(out: &mut Vec<u8>, kind: u8, body: &[u8]) -> Result<(), AllocError>
+pub fn put_record(out: &mut Vec<u8>, kind: u8, body: &[u8]) -> Result<(), AllocError>
     ensures { OnOk result (out.new.items ≡ out.old.items ++ raw_bytes (raw_of kind body.now)) }
 {
     if body.len() > MOST {
@@ -91,7 +91,7 @@ fn put_reference(out: &mut Vec<u8>, kind: u8, reference: &Reference) -> Result<(
 }
 
 /// Appends a part.
-fn put_part(out: &mut Vec<u8>, kind: u8, part: &Part) -> Result<(), AllocError>
+pub fn put_part(out: &mut Vec<u8>, kind: u8, part: &Part) -> Result<(), AllocError>
     ensures { OnOk result (out.new.items ≡ out.old.items ++ part_bytes kind part.now) }
 {
     match part {

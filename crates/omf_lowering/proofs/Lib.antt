@@ -1,7 +1,6 @@
 pub mod AcceptedLaws
 pub mod DataLaws
 pub mod FieldSteps
-pub mod FileLaws
 pub mod FitLaws
 pub mod FoundLaws
 pub mod FoundSteps

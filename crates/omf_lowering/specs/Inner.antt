@@ -1,4 +1,3 @@
-pub mod FileState
 pub mod Readers
 pub mod Rolling
 pub mod Run

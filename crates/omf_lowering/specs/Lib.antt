@@ -9,7 +9,6 @@ pub mod Lines
 pub mod Unrolled
 pub mod Segments
 pub mod Lowering
-pub mod Files
 pub mod Laws
 pub mod Rows
 pub mod UnrolledRows

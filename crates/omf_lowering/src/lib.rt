@@ -8,7 +8,6 @@ mod copies;
 mod entries;
 mod fault;
 mod fields;
-mod file;
 mod fixups;
 mod instance;
 mod iterated;
@@ -29,8 +28,7 @@ mod unrolling;
 mod values;
 mod work;
 
-pub use fault::{FileFault, LoweringFault};
-pub use file::lowered_file;
+pub use fault::LoweringFault;
 pub use linnum::{LineNumber, LineNumbers, line_numbers};
 pub use lowering::{LoweredModule, lowered};
 pub use marks::selection_of;

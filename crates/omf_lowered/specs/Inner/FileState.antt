@@ -1,9 +1,9 @@
 -- What is done of a file, and a module more.
 use Rattle.std.specs.Prelude.{◌≡◌, ◌⊎◌, ◌≤◌, ℕ, List, ◌++◌, length, flat_map, true}
-use Rattle.omf_lowering.specs.Files.{IsFront, begins_module, unpadded}
-use Rattle.omf_lowering.specs.Lowering.{IsLowered}
-use Rattle.omf_lowering.specs.declared.fault.FileFault.{FileFault}
-use Rattle.omf_lowering.specs.declared.fault.FileFault.TheVariants as file
+use Rattle.omf_lowered.specs.Files.{IsFront, begins_module, unpadded}
+use Rattle.omf_lowered.specs.Modules.{IsLoweredModule}
+use Rattle.omf_lowered.specs.declared.fault.FileFault.{FileFault}
+use Rattle.omf_lowered.specs.declared.fault.FileFault.TheVariants as file
 use Rattle.omf_lowering.specs.declared.fault.LoweringFault.{LoweringFault}
 use Rattle.omf_lowering.specs.declared.fault.LoweringFault.TheVariants as lowering
 
@@ -11,7 +11,7 @@ use Rattle.omf_lowering.specs.declared.fault.LoweringFault.TheVariants as loweri
 pub record IsAppended (bytes old new left : List ℕ) : Type 0 where
   pub own : List ℕ
   pub after : List ℕ
-  pub lowered : IsLowered bytes own after
+  pub lowered : IsLoweredModule bytes own after
   pub is_left : left ≡ unpadded after
   pub longer : new ≡ old ++ own
   pub shorter : length left ≤ length bytes

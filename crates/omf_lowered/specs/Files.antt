@@ -2,9 +2,9 @@
 use Rattle.std.specs.Prelude.{◌≡◌, ◌⊎◌, ◌<◌, ◌+◌, ⊤, ℕ, List, [], ◌∷◌, length, flat_map, Bool, true, false, ◌==◌, ◌||◌, if◌then◌else◌}
 use Rattle.omf_frame.specs.declared.fault.Place.{Place}
 use Rattle.omf_frame.specs.declared.fault.Reason.{Reason}
-use Rattle.omf_lowering.specs.Lowering.{IsLowered, IsRefused}
-use Rattle.omf_lowering.specs.declared.fault.FileFault.{FileFault}
-use Rattle.omf_lowering.specs.declared.fault.FileFault.TheVariants as fault
+use Rattle.omf_lowered.specs.Modules.{IsLoweredModule, IsModuleRefused}
+use Rattle.omf_lowered.specs.declared.fault.FileFault.{FileFault}
+use Rattle.omf_lowered.specs.declared.fault.FileFault.TheVariants as fault
 
 -- Another module begins if the next byte is the type of a THEADR or LHEADR (TIS OMF 1.1).
 abbrev pub begins_module : List ℕ → Bool
@@ -24,7 +24,7 @@ unpadded (b ∷ bs) = if b == 0x00 then without 0x00 (b ∷ bs) else if b == 0x1
 -- An input is modules with these lowerings, one after another, each with the padding after it, and then the rest.
 abbrev pub IsFront : List ℕ → List (List ℕ) → List ℕ → Type 0
 IsFront input [] rest = input ≡ rest
-IsFront input (out ∷ outs) rest = (after : List ℕ) × IsLowered input out after × IsFront (unpadded after) outs rest
+IsFront input (out ∷ outs) rest = (after : List ℕ) × IsLoweredModule input out after × IsFront (unpadded after) outs rest
 
 -- A file has modules, one at least, and nothing else but padding, and these are the bytes of their lowerings.
 pub record IsLoweredFile (input out : List ℕ) : Type 0 where
@@ -40,7 +40,7 @@ pub record IsRefusedAfter (input : List ℕ) (count : ℕ) (why : Reason) (at : 
   pub front : IsFront input outs rest
   pub counted : length outs ≡ count
   pub begun : (outs ≡ []) ⊎ (begins_module rest ≡ true)
-  pub refused : IsRefused rest why at
+  pub refused : IsModuleRefused rest why at
 
 -- Something is left after the modules and their padding, from this offset on, and begins no module.
 pub record HasMore (input : List ℕ) (at : ℕ) : Type 0 where

@@ -1,12 +1,13 @@
 //! The modules of a file, lowered.
 
 ghost use Rattle.std.specs.Prelude.{◌≡◌, ◌≤◌, length, IfErr, IfOk};
-ghost use Rattle.omf_lowering.specs.Files.{IsFileFault, IsLoweredFile, begins_module, unpadded, without};
-ghost use Rattle.omf_lowering.specs.Inner.FileState.{IsAppended, in_module};
-ghost use Rattle.omf_lowering.specs.Lowering.{IsLoweringFault};
+ghost use Rattle.omf_lowered.specs.Files.{IsFileFault, IsLoweredFile, begins_module, unpadded, without};
+ghost use Rattle.omf_lowered.specs.Inner.FileState.{IsAppended, in_module};
+ghost use Rattle.omf_lowered.specs.Modules.{IsModuleFault};
 
-use crate::fault::{FileFault, LoweringFault};
-use crate::lowering::lowered;
+use crate::fault::FileFault;
+use crate::module::lowered_module;
+use omf_lowering::LoweringFault;
 use std::alloc::Global;
 
 /// Bytes without those of this value at their front.
@@ -47,15 +48,16 @@ fn begins_module(bytes: &[u8]) -> bool
 }
 
 /// Lowers the first module of `bytes` and appends it. Returns what is left after the module and its padding.
+#[tactic(auto, using(crate::proofs::ModuleLaws::rest_is_left))]
 fn append_module<'a>(
     alloc: Global,
     out: &mut Vec<u8>,
     bytes: &'a [u8],
 ) -> Result<&'a [u8], LoweringFault>
     ensures ok { IfOk result (λ left. IsAppended bytes.entry.now out.old.items out.new.items left.now) }
-    ensures err { IfErr result (IsLoweringFault bytes.entry.now) }
+    ensures err { IfErr result (IsModuleFault bytes.entry.now) }
 {
-    let module = match lowered(alloc, bytes) {
+    let module = match lowered_module(alloc, bytes) {
         Ok(module) => module,
         Err(fault) => return Err(fault),
     };
@@ -79,7 +81,7 @@ fn in_module(fault: LoweringFault, number: u32) -> FileFault
     }
 }
 
-/// The modules of a file, each lowered as by `lowered`, one after another. The padding after a module is left out: bytes of one value, 00H or 1AH.
+/// The modules of a file, each lowered as by `lowered_module`, one after another. The padding after a module is left out: bytes of one value, 00H or 1AH.
 ///
 /// # Errors
 ///

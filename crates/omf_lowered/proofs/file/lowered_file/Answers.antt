@@ -1,9 +1,9 @@
 use Rattle.std.proofs.Common.{◌≡◌, ◌<◌, ◌∙◌, [], inr, length, sym, subst, arith, rules}
 use Rattle.std.proofs.lemmas.Bool.{eqb-true}
 use Rattle.std.proofs.lemmas.List.{nil_from_length}
-use Rattle.omf_lowering.specs.Files.{IsFileFault}
-use Rattle.omf_lowering.proofs.FileLaws.{part_end, part_more, part_more_left, refused_after}
-use Rattle.omf_lowering.proofs.file.lowered_file.Goals as goal
+use Rattle.omf_lowered.specs.Files.{IsFileFault}
+use Rattle.omf_lowered.proofs.FileLaws.{part_end, part_more, part_more_left, refused_after}
+use Rattle.omf_lowered.proofs.file.lowered_file.Goals as goal
 
 pub returns-in-Err-clause-err : goal.returns-in-Err-clause-err
 returns-in-Err-clause-err c =

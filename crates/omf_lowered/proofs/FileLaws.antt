@@ -2,14 +2,14 @@
 use Rattle.std.proofs.Common.{◌≡◌, ◌⊎◌, inl, inr, ℕ, ◌+◌, ◌<◌, List, [], ◌∷◌, ◌++◌, length, length-append, append-nil, refl, sym, ap, subst, ◌∙◌, arith, true, false}
 use Rattle.std.specs.Prelude.{flat_map}
 use Rattle.std.proofs.lemmas.Grind.{flat_map-append}
-use Rattle.omf_lowering.specs.Files.{HasMore, IsFileFault, IsFront, IsLoweredFile, begins_module, unpadded}
-use Rattle.omf_lowering.specs.Inner.FileState.{IsAppended, IsOpenFile, IsPart, in_module}
-use Rattle.omf_lowering.specs.Lowering.{IsLowered, IsLoweringFault}
+use Rattle.omf_lowered.specs.Files.{HasMore, IsFileFault, IsFront, IsLoweredFile, begins_module, unpadded}
+use Rattle.omf_lowered.specs.Inner.FileState.{IsAppended, IsOpenFile, IsPart, in_module}
+use Rattle.omf_lowered.specs.Modules.{IsLoweredModule, IsModuleFault}
 use Rattle.omf_lowering.specs.declared.fault.LoweringFault.{LoweringFault}
 use Rattle.omf_lowering.specs.declared.fault.LoweringFault.TheVariants as lowering
 
-front_more : (outs : List (List ℕ)) (input left own after : List ℕ) → IsFront input outs left → IsLowered left own after → IsFront input (outs ++ own ∷ []) (unpadded after)
-front_more [] input left own after e l = (after, subst (λ x. IsLowered x own after) (sym e) l, refl)
+front_more : (outs : List (List ℕ)) (input left own after : List ℕ) → IsFront input outs left → IsLoweredModule left own after → IsFront input (outs ++ own ∷ []) (unpadded after)
+front_more [] input left own after e l = (after, subst (λ x. IsLoweredModule x own after) (sym e) l, refl)
 front_more (o ∷ outs) input left own after (a, h, f) l = (a, h, front_more outs (unpadded a) left own after f l)
 
 pub part_start : (input : List ℕ) → IsOpenFile input input [] 0
@@ -38,7 +38,7 @@ begun_of : (outs : List (List ℕ)) (left : List ℕ) (count : ℕ) → length o
 begun_of outs left count is (inl z) = inl (none_of outs (is ∙ z))
 begun_of outs left count is (inr b) = inr b
 
-pub refused_after : (input left out : List ℕ) (count : ℕ) (f : LoweringFault) → IsOpenFile input left out count → IsLoweringFault left f → IsFileFault input (in_module f count)
+pub refused_after : (input left out : List ℕ) (count : ℕ) (f : LoweringFault) → IsOpenFile input left out count → IsModuleFault left f → IsFileFault input (in_module f count)
 refused_after input left out count lowering.Memory o h = h
 refused_after input left out count (lowering.Refused why at) o h = record {
   outs = o.part.outs;

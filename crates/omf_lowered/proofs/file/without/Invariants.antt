@@ -1,6 +1,6 @@
 use Rattle.std.proofs.Common.{◌≡◌, ◌≤◌, length}
-use Rattle.omf_lowering.specs.Files.{without}
-use Rattle.omf_lowering.proofs.file.without.Given as goal
+use Rattle.omf_lowered.specs.Files.{without}
+use Rattle.omf_lowered.proofs.file.without.Given as goal
 
 -- without the value, the bytes that are left are the same as the bytes
 abbrev pub invariant-loop-first : goal.invariant-loop-first

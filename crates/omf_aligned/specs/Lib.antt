@@ -1,0 +1,4 @@
+pub mod Aligned
+pub mod Changed
+pub mod Laws
+pub mod Rows

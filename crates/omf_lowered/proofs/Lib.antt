@@ -1,0 +1,3 @@
+pub mod AcceptedLaws
+pub mod FileLaws
+pub mod ModuleLaws

@@ -1,0 +1,4 @@
+pub mod Modules
+pub mod Files
+pub mod Laws
+pub mod Inner

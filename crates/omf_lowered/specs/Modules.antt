@@ -1,0 +1,63 @@
+-- The lowering of a module after the steps before it: each frame that it names by a number has a segment, and no segment has A = 6 or 7.
+use Rattle.std.specs.Prelude.{◌⊎◌, ⊤, ℕ, List}
+use Rattle.omf_frame.specs.declared.fault.Place.{Place}
+use Rattle.omf_frame.specs.declared.fault.Reason.{Reason}
+use Rattle.omf_explicit.specs.Modules.{IsWithSegments, Stays as FramesStay}
+use Rattle.omf_aligned.specs.Changed.{IsWithPages, Stays as AlignmentsStay}
+use Rattle.omf_lowering.specs.Lowering.{IsLowered, IsRefused}
+use Rattle.omf_lowering.specs.declared.fault.LoweringFault.{LoweringFault}
+use Rattle.omf_lowering.specs.declared.fault.LoweringFault.TheVariants as lowering
+
+-- ---- a step, and what comes next
+--
+-- A step changes the module at the front of an input: `changes` is between the input, the bytes of the changed module, and the rest of the input. An input that it does not
+-- change stays as it is.
+
+-- What comes next makes this output of the changed module. (It has no bytes after that module, so that the rest is the one of the input.)
+pub record IsLoweredChanged (changes next : List ℕ → List ℕ → List ℕ → Type 0) (input out rest : List ℕ) : Type 0 where
+  pub own : List ℕ
+  pub after : List ℕ
+  pub changed : changes input own rest
+  pub lowered : next own out after
+
+-- What comes next makes this output, after the step.
+abbrev pub IsLoweredAfter : (List ℕ → List ℕ → List ℕ → Type 0) → (List ℕ → Type 0) → (List ℕ → List ℕ → List ℕ → Type 0) → List ℕ → List ℕ → List ℕ → Type 0
+IsLoweredAfter changes stays next input out rest = (stays input × next input out rest) ⊎ IsLoweredChanged changes next input out rest
+
+-- What comes next refuses the changed module, at this place in it.
+pub record IsRefusedChanged (changes : List ℕ → List ℕ → List ℕ → Type 0) (refuses : List ℕ → Reason → Place → Type 0) (input : List ℕ) (why : Reason) (at : Place) : Type 0 where
+  pub own : List ℕ
+  pub rest : List ℕ
+  pub changed : changes input own rest
+  pub refused : refuses own why at
+
+-- What comes next refuses the module, after the step.
+abbrev pub IsRefusedNext : (List ℕ → List ℕ → List ℕ → Type 0) → (List ℕ → Type 0) → (List ℕ → Reason → Place → Type 0) → List ℕ → Reason → Place → Type 0
+IsRefusedNext changes stays refuses input why at = (stays input × refuses input why at) ⊎ IsRefusedChanged changes refuses input why at
+
+-- ---- the steps, the last one first
+
+-- A = 4 in place of A = 6 and 7, and then the lowering.
+abbrev pub IsLoweredPaged : List ℕ → List ℕ → List ℕ → Type 0
+IsLoweredPaged = IsLoweredAfter IsWithPages AlignmentsStay IsLowered
+
+abbrev pub IsPagedRefused : List ℕ → Reason → Place → Type 0
+IsPagedRefused = IsRefusedNext IsWithPages AlignmentsStay IsRefused
+
+-- An input begins with a module that is lowered to these bytes, after all steps, and the rest follows: segments in place of frame numbers come first.
+abbrev pub IsLoweredModule : List ℕ → List ℕ → List ℕ → Type 0
+IsLoweredModule = IsLoweredAfter IsWithSegments FramesStay IsLoweredPaged
+
+abbrev pub IsModuleRefused : List ℕ → Reason → Place → Type 0
+IsModuleRefused = IsRefusedNext IsWithSegments FramesStay IsPagedRefused
+
+-- The cause of a fault. Memory may run out at any time.
+abbrev pub IsFaultBy : (List ℕ → Reason → Place → Type 0) → List ℕ → LoweringFault → Type 0
+IsFaultBy refuses input lowering.Memory = ⊤
+IsFaultBy refuses input (lowering.Refused why at) = refuses input why at
+
+abbrev pub IsPagedFault : List ℕ → LoweringFault → Type 0
+IsPagedFault = IsFaultBy IsPagedRefused
+
+abbrev pub IsModuleFault : List ℕ → LoweringFault → Type 0
+IsModuleFault = IsFaultBy IsModuleRefused

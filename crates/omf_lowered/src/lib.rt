@@ -1,0 +1,12 @@
+//! The modules of files, lowered: one step after another, each of which spells one more construct by records of this profile, and at last `lowered` of omf_lowering.
+#![tactic(auto)]
+
+mod fault;
+mod file;
+pub mod laws;
+mod module;
+
+pub use fault::FileFault;
+pub use file::lowered_file;
+pub use module::lowered_module;
+pub use omf_lowering::{LoweredModule, LoweringFault};

@@ -1,0 +1,53 @@
+//! The lowering of a module after the steps before it.
+
+ghost use Rattle.std.specs.Prelude.{IfErr, IfOk};
+ghost use Rattle.omf_lowered.specs.Modules.{IsLoweredModule, IsLoweredPaged, IsModuleFault, IsPagedFault};
+
+use omf_aligned::with_pages;
+use omf_explicit::with_segments;
+use omf_lowering::{LoweredModule, LoweringFault, lowered};
+use std::alloc::Global;
+
+/// The first module of `bytes`, lowered as by `lowered` after each SEGDEF with A = 6 or 7 has A = 4 (`with_pages` of omf_aligned).
+fn lowered_pages<'a>(alloc: Global, bytes: &'a [u8]) -> Result<LoweredModule<'a>, LoweringFault>
+    ensures ok { IfOk result (λ l. IsLoweredPaged bytes.entry.now l.bytes.items l.rest.now) }
+    ensures err { IfErr result (IsPagedFault bytes.entry.now) }
+{
+    match with_pages(alloc, bytes) {
+        Ok(Some(paged)) => match lowered(alloc, &paged.bytes) {
+            Ok(own) => Ok(LoweredModule {
+                bytes: own.bytes,
+                rest: paged.rest,
+            }),
+            Err(fault) => Err(fault),
+        },
+        Ok(None) => lowered(alloc, bytes),
+        Err(_) => Err(LoweringFault::Memory),
+    }
+}
+
+/// The first module of `bytes`, lowered as by `lowered` after two steps: each frame that it names by a number has a segment (`with_segments` of omf_explicit), and each SEGDEF
+/// with A = 6 or 7 has A = 4, with a comment if it was 6 (`with_pages` of omf_aligned). The bytes after the module are not read, but returned.
+///
+/// # Errors
+///
+/// `Refused` for the first record with a fault; `Memory` if memory runs out. In a module that a step changes, the place is that in the changed module.
+pub fn lowered_module<'a>(
+    alloc: Global,
+    bytes: &'a [u8],
+) -> Result<LoweredModule<'a>, LoweringFault>
+    ensures ok { IfOk result (λ l. IsLoweredModule bytes.entry.now l.bytes.items l.rest.now) }
+    ensures err { IfErr result (IsModuleFault bytes.entry.now) }
+{
+    match with_segments(alloc, bytes) {
+        Ok(Some(plain)) => match lowered_pages(alloc, &plain.bytes) {
+            Ok(own) => Ok(LoweredModule {
+                bytes: own.bytes,
+                rest: plain.rest,
+            }),
+            Err(fault) => Err(fault),
+        },
+        Ok(None) => lowered_pages(alloc, bytes),
+        Err(_) => Err(LoweringFault::Memory),
+    }
+}
