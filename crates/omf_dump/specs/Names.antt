@@ -11,7 +11,7 @@ use Rattle.omf_check.specs.Classes.{is_code_name}
 use Rattle.omf_check.specs.Tables.{defined_externals, entry, names, segments}
 use Rattle.omf_check.specs.WellFormed.{IsAccepted, recs}
 use Rattle.omf_check.specs.declared.segment.SegInfo.{SegInfo}
-use Rattle.omf_library.specs.Names.{import_class, imported}
+use Rattle.omf_library.specs.Imports.{import_class, imported}
 use Rattle.omf_placement.specs.Quoted.{hex}
 use Rattle.omf_placement.specs.Weak.{indices, paired}
 use Rattle.omf_placement.specs.declared.several.pairs.WeakPair.{WeakPair}

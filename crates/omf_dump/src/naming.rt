@@ -7,7 +7,7 @@ ghost use Rattle.omf_records.specs.Inner.Seen.{contents_seen, kind_seen};
 ghost use Rattle.omf_check.specs.Checking.{Decides};
 ghost use Rattle.omf_check.specs.Module.{recs_of};
 ghost use Rattle.omf_check.specs.Tables.{defined_externals};
-ghost use Rattle.omf_library.specs.Names.{imported};
+ghost use Rattle.omf_library.specs.Imports.{imported};
 ghost use Rattle.omf_dump.specs.Inner.Naming.{lines_of};
 ghost use Rattle.omf_dump.specs.Library.{Shows};
 ghost use Rattle.omf_dump.specs.Names.{IsNamed, bare_row, communal_row, external_rows, import_rows, module_rows, public_row, record_rows, row_line, rows_text};

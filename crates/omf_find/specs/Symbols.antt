@@ -5,7 +5,7 @@ use Rattle.omf_finding.specs.declared.findings.Verdict.{Verdict}
 use Rattle.omf_symbols.specs.Classes.{is_code}
 use Rattle.omf_symbols.specs.Symbol.{Symbol}
 use Rattle.omf_symbols.specs.Text.{symbols_text}
-use Rattle.omf_symbols.specs.declared.tool.Tool.{Tool}
+use Rattle.omf_host.specs.declared.tool.Tool.{Tool}
 use Rattle.omf_find.specs.NameRow.{NameRow}
 use Rattle.omf_find.specs.Rows.{AreNames}
 use Rattle.omf_find.specs.declared.reading.Gathered.{Gathered}

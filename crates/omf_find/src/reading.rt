@@ -1,14 +1,15 @@
-//! The modules of object files and libraries. What is refused is left out, with a line on why.
+//! The modules of object files and libraries, as a program takes them: one that the check refuses by its lowering. What is refused is left out, with a line on why.
 
 ghost use Rattle.std.specs.Prelude.{◌≡◌, ◌++◌, ◌∷◌, [], IfOk, List, OnOk};
-ghost use Rattle.omf_find.specs.Gathered.{Adds, AreTaken, IsTaken, IsVerdict, Taken};
+ghost use Rattle.omf_find.specs.Gathered.{Adds, AreTaken, IsTakenOf, Sourced};
 
 use crate::part::after;
 use crate::source::name_of;
-use omf_check::{CheckFault, Checked, Profile, check_with};
-use omf_frame::{Bytes, Framer, Place, Reason, is_header};
+use omf_check::{Checked, Profile};
+use omf_frame::{Framer, Place, is_header};
 use omf_host::put_quoted;
 use omf_library::{LibraryFault, Span, SpanFault, read_header, spans_in};
+use omf_making::{Judgement, Refusal, judge_taken};
 use std::alloc::{AllocError, Global};
 use std::fmt::Write;
 
@@ -32,30 +33,6 @@ pub struct Gathered {
     framer: Framer,
 }
 
-/// The answer of the check to a module.
-#[derive(Drop)]
-pub enum Verdict {
-    Accepted(Checked),
-    Refused { reason: Reason, place: Place },
-}
-
-/// Checks the module that bytes begin with.
-fn judge(
-    alloc: Global,
-    framer: &mut Framer,
-    profile: Profile,
-    bytes: &[u8],
-) -> Result<Verdict, AllocError>
-    ensures { IfOk result (IsVerdict profile bytes.now) }
-{
-    match check_with(alloc, framer, &mut Bytes::new(bytes), profile) {
-        Ok(module) => Ok(Verdict::Accepted(module)),
-        Err(CheckFault::Refused { reason, place }) => Ok(Verdict::Refused { reason, place }),
-        // Bytes in memory are always read.
-        Err(CheckFault::Memory | CheckFault::Read) => Err(AllocError),
-    }
-}
-
 /// Appends what is left out: `left out: file NAME`.
 fn put_head(text: &mut String, name: &str) -> Result<(), AllocError> {
     text.push_str("left out: file ")?;
@@ -68,9 +45,9 @@ fn put_refused(
     name: &str,
     member: usize,
     bytes: &[u8],
-    fault: (Reason, Place),
+    why: Refusal,
 ) -> Result<(), AllocError> {
-    let (reason, place) = fault;
+    let Refusal { reason, place } = why;
     let code = reason.number();
     let reason = reason.name();
     let Place {
@@ -170,18 +147,17 @@ impl Gathered {
         name: &str,
         bytes: &[u8],
     ) -> Result<Option<usize>, AllocError>
-        ensures { OnOk result ((own : List Taken) × IsTaken profile origin bytes.now own × Adds self.old self.new own) }
+        ensures { OnOk result ((own : List Sourced) × IsTakenOf profile origin bytes.now own × Adds self.old self.new own) }
     {
         let alloc = *self.left_out.allocator();
-        match judge(alloc, &mut self.framer, profile, bytes)? {
-            Verdict::Accepted(module) => {
-                let length = module.bytes().len();
-                self.push(origin, module)?;
+        match judge_taken(alloc, &mut self.framer, profile, bytes)? {
+            Judgement::Taken(taken) => {
+                let length = taken.length;
+                self.push(origin, taken.module)?;
                 Ok(Some(length))
             }
-            Verdict::Refused { reason, place } => {
-                let fault = (reason, place);
-                put_refused(&mut self.left_out, name, origin.member, bytes, fault)?;
+            Judgement::Refused(why) => {
+                put_refused(&mut self.left_out, name, origin.member, bytes, why)?;
                 Ok(None)
             }
         }
@@ -195,7 +171,7 @@ impl Gathered {
         name: &str,
         members: &[Span<'_>],
     ) -> Result<(), AllocError>
-        ensures { OnOk result ((own : List Taken) × AreTaken profile file 0 members.now own × Adds self.old self.new own) }
+        ensures { OnOk result ((own : List Sourced) × AreTaken profile file 0 members.now own × Adds self.old self.new own) }
     {
         for (member, span) in members.iter().enumerate() {
             let origin = Origin { file, member };

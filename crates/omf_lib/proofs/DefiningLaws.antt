@@ -3,9 +3,8 @@ use native.Mathlib.Omega.{arith}
 use Rattle.std.proofs.Common.{◌≡◌, ℕ, ◌+◌, ◌<◌, ◌==◌, ◌||◌, Bool, true, false, List, [], ◌∷◌, ◌++◌, length, refl, sym, ap, ap₂, ◌∙◌, subst, append_assoc, append-nil, below_more, Vec, Global, BTreeSet, Result, Ok, Err, IfOk, OnOk, Some, inl, ◌/◌}
 use Rattle.std.specs.List.{list_any}
 use Rattle.std.proofs.lemmas.Grind.{flat_map-append}
-use Rattle.omf_check.specs.Checking.{Decides}
 use Rattle.omf_check.specs.Listed.{placed_from}
-use Rattle.omf_check.specs.Module.{Module, recs_of}
+use Rattle.omf_check.specs.Module.{recs_of}
 use Rattle.omf_check.specs.WellFormed.{recs}
 use Rattle.omf_check.specs.declared.profile.Profile.{Profile}
 use Rattle.omf_frame.specs.Framing.{Raw, raw_bytes}
@@ -14,10 +13,12 @@ use Rattle.omf_host.specs.declared.ending.Status.{Status}
 use Rattle.omf_host.specs.declared.ending.Status.TheVariants as status
 use Rattle.omf_library.specs.Library.{header_of, page_size}
 use Rattle.omf_library.specs.Spans.{AreSpansIn}
-use Rattle.omf_library.specs.Made.{IsDictionary, is_case_sensitive}
+use Rattle.omf_making.specs.Taken.{IsTaken}
+use Rattle.omf_library.specs.Dictionary.{IsDictionary, is_case_sensitive}
 use Rattle.omf_library.specs.declared.dictionary.Dictionary.{Dictionary}
 use Rattle.omf_library.specs.declared.header.Header.{Header}
 use Rattle.omf_library.specs.declared.spans.Span.{Span}
+use Rattle.omf_making.specs.declared.taken.Taken.{Taken}
 use Rattle.omf_records.specs.Inner.Reading.{typed}
 use Rattle.omf_records.specs.Values.{Rec}
 use Rattle.omf_lib.specs.Defining.{AreDefiners, AreEntriesDefined, Definer, HasUndefined, IsAllDefined, IsAnyOf, IsDefiner, IsLibraryDefined, definers_in, has_alias}
@@ -87,13 +88,13 @@ pub ok_given : {T E P : Type 0} (r : Result T E) → P → OnOk r P
 ok_given (Ok x) p = p
 ok_given (Err e) p = tt
 
-pub module_added : {T E : Type 0} (profile : Profile) (page offset : ℕ) (bytes : List ℕ) (m : Module) (at : ℕ) (own s : Bool) (done : List (List ℕ)) (set : BTreeSet (Vec ℕ Global)) (r : Result T E) → at ≡ offset / page → own ≡ s → Decides profile bytes (Ok m)
-    → OnOk r (IsKeySet set (done ++ all_keys own (definers_in at (recs_of m.bytes)))) → OnOk r ((ds : List Definer) × IsDefiner profile page offset bytes ds × IsKeySet set (done ++ all_keys s ds))
-module_added profile page offset bytes m at own s done set r p q d o =
+pub module_added : {T E : Type 0} (profile : Profile) (page offset : ℕ) (bytes : List ℕ) (t : Taken) (at : ℕ) (own s : Bool) (done : List (List ℕ)) (set : BTreeSet (Vec ℕ Global)) (r : Result T E) → at ≡ offset / page → own ≡ s → IsTaken profile bytes t
+    → OnOk r (IsKeySet set (done ++ all_keys own (definers_in at (recs_of t.«module».bytes)))) → OnOk r ((ds : List Definer) × IsDefiner profile page offset bytes ds × IsKeySet set (done ++ all_keys s ds))
+module_added profile page offset bytes t at own s done set r p q d o =
     on_ok r (λ k. (
-      definers_in (offset / page) (recs_of m.bytes),
-      inl (m, d, refl),
-      subst (λ b. IsKeySet set (done ++ all_keys b (definers_in (offset / page) (recs_of m.bytes)))) q (subst (λ n. IsKeySet set (done ++ all_keys own (definers_in n (recs_of m.bytes)))) p k),
+      definers_in (offset / page) (recs_of t.«module».bytes),
+      inl (t, d, refl),
+      subst (λ b. IsKeySet set (done ++ all_keys b (definers_in (offset / page) (recs_of t.«module».bytes)))) q (subst (λ n. IsKeySet set (done ++ all_keys own (definers_in n (recs_of t.«module».bytes)))) p k),
     )) o
 
 -- A file that is read as a library.

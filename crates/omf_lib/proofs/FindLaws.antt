@@ -2,10 +2,9 @@
 use Rattle.std.proofs.Common.{◌≡◌, ℕ, ◌+◌, ◌<◌, Bool, true, false, List, [], ◌∷◌, ◌++◌, length, drop, get_or, refl, sym, ap, ap₂, subst, inr, ◌∙◌, append_assoc}
 use Rattle.std.proofs.lemmas.List.{append-nil, drop_more}
 use Rattle.std.specs.Prelude.{◌||◌, Option, Some, None, Result, Ok}
-use Rattle.omf_library.specs.Dictionary.{HasOther}
+use Rattle.omf_library.specs.Dictionary.{HasOther, IsDictionary}
 use Rattle.omf_library.specs.Library.{header_of}
 use Rattle.omf_library.specs.LibraryMembers.{names_kept}
-use Rattle.omf_library.specs.Made.{IsDictionary}
 use Rattle.omf_library.specs.declared.dictionary.Dictionary.{Dictionary}
 use Rattle.omf_library.specs.declared.header.Header.{Header}
 use Rattle.omf_library.specs.declared.spans.Span.{Span}

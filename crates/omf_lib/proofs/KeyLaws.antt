@@ -9,8 +9,8 @@ use Rattle.std.proofs.lemmas.List.{map-append, take_more}
 use Rattle.std.proofs.lemmas.List.Folds.{list_any-append}
 use Rattle.std.proofs.lemmas.Map.Text.{is_eq-slice_cmp}
 use Rattle.omf_library.specs.Dictionary.{folded, is_same_name}
-use Rattle.omf_library.specs.Names.{Defined, defined_names, name_seen, names_seen}
-use Rattle.omf_library.specs.declared.names.Defined.{Defined as CodeDefined}
+use Rattle.omf_making.specs.Names.{Defined, defined_names, name_seen, names_seen}
+use Rattle.omf_making.specs.declared.names.Defined.{Defined as CodeDefined}
 use Rattle.omf_records.specs.Values.{Rec}
 use Rattle.omf_lib.specs.Defining.{Definer, definers_in, has_alias, has_defined, is_defined, is_judged, is_of_module, is_undefined}
 use Rattle.omf_lib.specs.Keys.{IsKeySet, all_keys, has_key, keys_of, name_key, page_key}

@@ -1,23 +1,20 @@
 -- What the members of a library define, and the entries of its dictionary whose members do not define their names (this profile's rule).
 use Rattle.std.specs.Prelude.{◌≡◌, ◌⊎◌, ℕ, ◌/◌, ◌<◌, ◌==◌, ◌&&◌, nat_lt, not, if◌then◌else◌, Bool, true, false, List, [], ◌∷◌, ◌++◌, Ok, Some, Result, codes, eqb}
 use Rattle.std.specs.List.{ends_with, list_any}
-use Rattle.omf_check.specs.Checking.{Decides}
-use Rattle.omf_check.specs.Module.{Module, recs_of}
-use Rattle.omf_check.specs.Refusal.{IsRefused}
+use Rattle.omf_check.specs.Module.{recs_of}
 use Rattle.omf_check.specs.declared.profile.Profile.{Profile}
-use Rattle.omf_frame.specs.declared.fault.Place.{Place}
-use Rattle.omf_frame.specs.declared.fault.Reason.{Reason}
-use Rattle.omf_image.specs.Limits.{profile_limits}
-use Rattle.omf_library.specs.Dictionary.{block_count, block_of, entry_offset, is_inside, is_same_name, name_at, page_at}
+use Rattle.omf_library.specs.Dictionary.{IsDictionary, block_count, block_of, entry_offset, is_case_sensitive, is_inside, is_same_name, name_at, page_at}
 use Rattle.omf_library.specs.Hash.{buckets}
 use Rattle.omf_library.specs.Library.{HasHeader, header_of, page_size}
-use Rattle.omf_library.specs.Made.{IsDictionary, is_case_sensitive}
-use Rattle.omf_library.specs.Names.{Defined, defined_names}
+use Rattle.omf_making.specs.Names.{Defined, defined_names}
 use Rattle.omf_library.specs.Spans.{AreSpansIn}
+use Rattle.omf_making.specs.Taken.{IsTaken, IsUntaken}
 use Rattle.omf_library.specs.declared.dictionary.Dictionary.{Dictionary}
 use Rattle.omf_library.specs.declared.header.Header.{Header}
 use Rattle.omf_library.specs.declared.spans.Span.{Span}
 use Rattle.omf_library.specs.declared.spans.SpanFault.{SpanFault}
+use Rattle.omf_making.specs.declared.taken.Refusal.{Refusal}
+use Rattle.omf_making.specs.declared.taken.Taken.{Taken}
 use Rattle.omf_records.specs.Values.{Rec}
 use Rattle.omf_lib.specs.Lines.{entry_words}
 use Rattle.omf_lib.specs.declared.library.Library.{Library}
@@ -34,11 +31,11 @@ has_alias m = list_any (λ r. r.kind == 0xC6) m
 abbrev pub definers_in : ℕ → List Rec → List Definer
 definers_in page m = if has_alias m then [] else record { page = page; names = defined_names m } ∷ []
 
--- What the member at an offset defines, with pages of this size. One that the check refuses is not judged either.
+-- What the member at an offset defines, with pages of this size, by the module that a program takes of it. One of which none is taken is not judged either.
 abbrev pub IsDefiner : Profile → ℕ → ℕ → List ℕ → List Definer → Type 0
 IsDefiner profile page offset bytes ds =
-    ((m : Module) × Decides profile bytes (Ok m) × (ds ≡ definers_in (offset / page) (recs_of m.bytes)))
-    ⊎ ((why : Reason) × (at : Place) × IsRefused profile profile_limits bytes why at × (ds ≡ []))
+    ((t : Taken) × IsTaken profile bytes t × (ds ≡ definers_in (offset / page) (recs_of t.«module».bytes)))
+    ⊎ ((why : Refusal) × IsUntaken profile bytes why × (ds ≡ []))
 
 abbrev pub AreDefiners : Profile → ℕ → List Span → List Definer → Type 0
 AreDefiners profile page [] ds = ds ≡ []

@@ -4,12 +4,11 @@ use Rattle.omf_check.specs.declared.profile.Profile.{Profile}
 use Rattle.omf_host.specs.Lines.{failure_line}
 use Rattle.omf_host.specs.declared.ending.Status.{Status}
 use Rattle.omf_host.specs.declared.ending.Status.TheVariants as status
-use Rattle.omf_library.specs.Dictionary.{HasOther, IsFirstEntry, IsFirstInBlock, IsSought, block_count, block_of, entry_offset, is_same_name, look_of, name_at}
+use Rattle.omf_library.specs.Dictionary.{HasOther, IsDictionary, IsFirstEntry, IsFirstInBlock, IsSought, block_count, block_of, entry_offset, is_same_name, look_of, name_at}
 use Rattle.omf_library.specs.Hash.{buckets}
 use Rattle.omf_library.specs.declared.dictionary.Look.TheVariants as look
 use Rattle.omf_library.specs.LibraryMembers.{names_kept}
 use Rattle.omf_library.specs.Library.{HasHeader, IsHeaderRead, header_of, page_size}
-use Rattle.omf_library.specs.Made.{IsDictionary}
 use Rattle.omf_library.specs.Spans.{AreSpansIn}
 use Rattle.omf_library.specs.declared.dictionary.Dictionary.{Dictionary}
 use Rattle.omf_library.specs.declared.fault.LibraryFault.{LibraryFault}

@@ -1,19 +1,20 @@
 -- The members of a library, and the publics that they have (this profile's rule).
 use Rattle.std.specs.Prelude.{◌≡◌, ◌⊎◌, ℕ, ◌+◌, Bool, true, false, if◌then◌else◌, List, [], ◌∷◌, ◌++◌, map, Result, Ok, Err}
-use Rattle.omf_frame.specs.declared.fault.Place.{Place}
-use Rattle.omf_frame.specs.declared.fault.Reason.{Reason}
 use Rattle.omf_image.specs.Limits.{profile_limits}
 use Rattle.omf_check.specs.Checking.{Decides}
-use Rattle.omf_check.specs.Module.{Module, recs_of}
+use Rattle.omf_check.specs.Module.{recs_of}
 use Rattle.omf_check.specs.Refusal.{IsRefused}
 use Rattle.omf_check.specs.declared.profile.Profile.{Profile}
 use Rattle.omf_library.specs.Library.{HasHeader, IsHeaderRead, header_of, page_size}
-use Rattle.omf_library.specs.Names.{Defined, defined_names}
+use Rattle.omf_making.specs.Names.{Defined, defined_names}
 use Rattle.omf_library.specs.Spans.{AreSpansIn}
+use Rattle.omf_making.specs.Taken.{IsTaken, IsUntaken}
 use Rattle.omf_library.specs.declared.fault.LibraryFault.{LibraryFault}
-use Rattle.omf_library.specs.declared.names.Kind.{Kind}
-use Rattle.omf_library.specs.declared.names.Kind.TheVariants as kind
+use Rattle.omf_making.specs.declared.names.Kind.{Kind}
+use Rattle.omf_making.specs.declared.names.Kind.TheVariants as kind
 use Rattle.omf_library.specs.declared.spans.Span.{Span}
+use Rattle.omf_making.specs.declared.taken.Refusal.{Refusal}
+use Rattle.omf_making.specs.declared.taken.Taken.{Taken}
 use Rattle.omf_lib.specs.declared.finding.Listed.{Listed}
 use Rattle.omf_lib.specs.declared.library.Library.{Library}
 use Rattle.omf_lib.specs.declared.members.Verdict.{Verdict}
@@ -37,6 +38,7 @@ publics_seen ps = map public_seen ps
 
 abbrev pub is_public : Kind → Bool
 is_public kind.Public = true
+is_public kind.Comdat = true
 is_public _ = false
 
 -- The publics among the names that a module defines.
@@ -44,11 +46,11 @@ abbrev pub publics_among : ℕ → List Defined → List Public
 publics_among member [] = []
 publics_among member (d ∷ ds) = if is_public d.kind then record { member = member; name = d.name } ∷ publics_among member ds else publics_among member ds
 
--- The publics of a member: those of the module, or none if the check refuses it.
+-- The publics of a member: those of the module that a program takes of it, or none.
 abbrev pub ArePublics : Profile → ℕ → List ℕ → List Public → Type 0
 ArePublics profile number bytes ps =
-    ((m : Module) × Decides profile bytes (Ok m) × (ps ≡ publics_among number (defined_names (recs_of m.bytes))))
-    ⊎ ((why : Reason) × (at : Place) × IsRefused profile profile_limits bytes why at × (ps ≡ []))
+    ((t : Taken) × IsTaken profile bytes t × (ps ≡ publics_among number (defined_names (recs_of t.«module».bytes))))
+    ⊎ ((why : Refusal) × IsUntaken profile bytes why × (ps ≡ []))
 
 -- The publics of members, in order. The first of these members has this number.
 abbrev pub AreAllPublics : Profile → ℕ → List Span → List Public → Type 0

@@ -10,7 +10,7 @@ use omf_canon::canon;
 use omf_check::{Checked, Profile};
 use omf_frame::Sink;
 use omf_host::{Status, read_input};
-use omf_library::Part;
+use omf_making::Part;
 use std::alloc::{AllocError, Global};
 
 /// A member that the check accepts; None, after a line, if it refuses it.

@@ -2,15 +2,15 @@
 
 ghost use Rattle.std.specs.Prelude.{◌≡◌, ◌&&◌, ◌/◌, ◌++◌, ◌∷◌, [], false, List, ℕ, IfOk, OnOk, map, not};
 ghost use Rattle.omf_check.specs.Module.{recs_of};
-ghost use Rattle.omf_library.specs.Dictionary.{folded};
-ghost use Rattle.omf_library.specs.Made.{is_case_sensitive};
-ghost use Rattle.omf_library.specs.Names.{defined_names, names_seen};
+ghost use Rattle.omf_library.specs.Dictionary.{folded, is_case_sensitive};
+ghost use Rattle.omf_making.specs.Names.{defined_names, names_seen};
 ghost use Rattle.omf_lib.specs.Defining.{Definer, definers_in, has_alias, is_of_module, is_undefined};
 ghost use Rattle.omf_lib.specs.Keys.{all_keys, IsKeySet, keys_of, name_key, page_key};
 
 use crate::names::folded;
 use omf_check::Checked;
-use omf_library::{Defined, Header};
+use omf_library::Header;
+use omf_making::Defined;
 use std::alloc::{AllocError, Global};
 use std::collections::BTreeSet;
 

@@ -27,7 +27,7 @@ pub enum Fault<'a> {
         offset: usize,
         member: usize,
     },
-    /// 7: the check of modules refuses a member.
+    /// 7: no program takes a member.
     Member {
         offset: usize,
         member: usize,
@@ -58,17 +58,28 @@ pub enum Fault<'a> {
 
 /// What is odd about a library and no fault, and where.
 #[derive(Clone, Copy)]
-pub enum Note<'a> {
+pub enum Note {
     /// 17: the bytes between a member and the next page are not all zero; the offset of the first that is not.
-    Padding { offset: usize, member: usize },
+    Padding {
+        offset: usize,
+        member: usize,
+    },
     /// 18: bytes between the F1H record and the dictionary.
-    Gap { offset: usize, length: usize },
+    Gap {
+        offset: usize,
+        length: usize,
+    },
     /// 19: bytes after the dictionary, or after the F1H record if the header has none, that are no extended dictionary.
-    After { offset: usize, length: usize },
-    /// 20: a communal of a member is found by neither search.
-    Communal(Public<'a>),
-    /// 22: a refused member has a lowering that is accepted; a linker takes that.
-    Lowered { offset: usize, member: usize },
+    After {
+        offset: usize,
+        length: usize,
+    },
+    /// 22: the check of modules refuses a member, and accepts its lowering; a linker takes that. The type of the record at which the check refuses it.
+    Lowered {
+        offset: usize,
+        member: usize,
+        kind: u8,
+    },
 }
 
 /// An entry of the dictionary: the offset of its bucket, its page and its name.
@@ -79,7 +90,7 @@ pub struct Named<'a> {
     pub name: &'a [u8],
 }
 
-/// A public or a communal of a member.
+/// A public of a member.
 #[derive(Clone, Copy)]
 pub struct Public<'a> {
     pub offset: usize,

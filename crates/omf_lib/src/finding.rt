@@ -6,7 +6,7 @@ ghost use Rattle.omf_frame.specs.Bytes.{AddsText};
 ghost use Rattle.omf_host.specs.Lines.{failure_line};
 ghost use Rattle.omf_library.specs.Dictionary.{IsBucket, block_count, block_of};
 ghost use Rattle.omf_library.specs.LibraryMembers.{names_kept};
-ghost use Rattle.omf_library.specs.Names.{names_seen};
+ghost use Rattle.omf_making.specs.Names.{names_seen};
 ghost use Rattle.omf_lib.specs.Find.{any_profile, AreNamesFound, ArePlaces, entry_text, found_word, is_nowhere, IsEntry, IsEntryText, IsFirstSpelled, IsFirstSpelledIn, IsSpelledAt, IsFound, IsFoundIn, IsNameFound, name_text, near_public, near_words, nowhere_reason, public_text, publics_text, refused_status};
 ghost use Rattle.omf_lib.specs.Members.{AreAllPublics, ArePublics, is_public, public_seen, publics_among, publics_seen, Public};
 
@@ -14,7 +14,7 @@ use crate::asked::Find;
 use crate::fault::Fault;
 use crate::library::{Library, read_library};
 use crate::listing::put_public;
-use crate::members::{Verdict, judge};
+use crate::members::taken_of;
 use crate::names::is_same_name;
 use crate::near::{bare, is_near};
 use crate::shown::{Stop, send, status_of};
@@ -22,7 +22,8 @@ use crate::text::put_fault;
 use omf_check::Profile;
 use omf_frame::Sink;
 use omf_host::{Status, put_name, put_quoted};
-use omf_library::{BUCKETS, Bucket, Defined, Dictionary, Kind, Rule, Sought, Span, defined_names};
+use omf_library::{BUCKETS, Bucket, Dictionary, Rule, Sought, Span};
+use omf_making::{Defined, Judgement, Kind, defined_names};
 use std::alloc::{AllocError, Global};
 use std::fmt::Write;
 
@@ -33,12 +34,12 @@ struct Listed {
     name: Vec<u8>,
 }
 
-/// Whether a name is that of a PUBDEF.
+/// Whether a name is that of a PUBDEF or of a COMDAT that was lowered.
 fn is_public(kind: Kind) -> bool
     ensures { result ≡ is_public kind }
 {
     match kind {
-        Kind::Public => true,
+        Kind::Public | Kind::Comdat => true,
         Kind::Import | Kind::Communal => false,
     }
 }
@@ -56,7 +57,7 @@ fn push_named(all: &mut Vec<Listed>, member: usize, names: Vec<Defined>) -> Resu
     Ok(())
 }
 
-/// Appends the publics of a member. One that is refused has none.
+/// Appends the publics of a member. One that no program takes has none.
 fn push_publics(
     alloc: Global,
     all: &mut Vec<Listed>,
@@ -68,9 +69,9 @@ fn push_publics(
     let profile = Profile {
         refuse_vendor_comments: false,
     };
-    match judge(alloc, profile, member.bytes)? {
-        Verdict::Accepted(module) => push_named(all, number, defined_names(alloc, &module)?),
-        Verdict::Refused { .. } => Ok(()),
+    match taken_of(alloc, profile, member.bytes)? {
+        Judgement::Taken(taken) => push_named(all, number, defined_names(alloc, &taken.module)?),
+        Judgement::Refused(_) => Ok(()),
     }
 }
 

@@ -2,26 +2,23 @@
 
 ghost use Rattle.std.specs.Prelude.{◌≡◌, ◌<◌, ◌++◌, List, ℕ, false, IfOk, OnOk};
 ghost use Rattle.omf_host.specs.declared.ending.Status.TheVariants as status;
-ghost use Rattle.omf_library.specs.Dictionary.{block_count};
-ghost use Rattle.omf_library.specs.Made.{is_case_sensitive};
+ghost use Rattle.omf_library.specs.Dictionary.{block_count, is_case_sensitive};
 ghost use Rattle.omf_lib.specs.Defining.{AreDefiners, Definer, IsAllDefined, IsDefiner, IsLibraryDefined};
 ghost use Rattle.omf_lib.specs.Keys.{all_keys, IsKeySet};
 
 use crate::defining::{KeySet, add_module, home_of};
 use crate::fault::{Fault, Named, Note, Public};
 use crate::library::{Library, member_of, page_of, read_library};
-use crate::members::{Member, Verdict, judge};
+use crate::members::{Member, Verdict, judge, taken_of};
 use crate::noting::note_regions;
 use crate::shown::{Shown, Stop};
 use crate::text::put_note;
 use crate::undefined::judge_definitions;
 use omf_check::Profile;
-use omf_frame::{Place, Reason, Sink};
+use omf_frame::Sink;
 use omf_host::Status;
-use omf_library::{
-    BLOCK, BUCKETS, Bucket, Defined, Dictionary, Kind, Rule, Sought, Span, credit_of, defined_names,
-};
-use omf_lowering::{LoweringFault, lowered};
+use omf_library::{BLOCK, BUCKETS, Bucket, Dictionary, Rule, Sought, Span, credit_of};
+use omf_making::{Defined, Judgement, Kind, Refusal, defined_names};
 use std::alloc::{AllocError, Global};
 use std::collections::BTreeSet;
 use std::fmt::Write;
@@ -30,7 +27,7 @@ use std::fmt::Write;
 #[derive(Drop)]
 struct Report {
     shown: Shown,
-    /// The notes on communals, which follow the faults.
+    /// The notes on members, which follow the faults.
     notes: String,
     publics: u64,
     entries: u64,
@@ -100,19 +97,19 @@ fn look_up(
     }
 }
 
-/// Looks up a communal of a member. The entry may be that of another member.
-fn look_up_communal(
+/// Looks up a COMDAT of a member that is lowered. The entry may be that of another member.
+fn look_up_comdat(
     report: &mut Report,
     dictionary: Dictionary<'_>,
-    communal: Public<'_>,
+    comdat: Public<'_>,
 ) -> Result<(), AllocError> {
-    match report.search_both(dictionary, communal.name) {
-        Some(None) => put_note(&mut report.notes, Note::Communal(communal)),
+    match report.search_both(dictionary, comdat.name) {
+        Some(None) => report.shown.fault(Fault::NoEntry(comdat)),
         None | Some(Some(_)) => Ok(()),
     }
 }
 
-/// Looks up the publics and communals of a member, if there is a dictionary.
+/// Looks up the publics of a member, if there is a dictionary. A communal may have an entry, or none.
 fn look_up_all(
     report: &mut Report,
     library: &Library<'_>,
@@ -134,53 +131,59 @@ fn look_up_all(
                 report.publics = report.publics.saturating_add(1);
                 look_up(report, dictionary, page, public)?;
             }
-            Kind::Communal => look_up_communal(report, dictionary, public)?,
-            Kind::Import => {}
+            Kind::Comdat => {
+                report.publics = report.publics.saturating_add(1);
+                look_up_comdat(report, dictionary, public)?;
+            }
+            Kind::Communal | Kind::Import => {}
         }
     }
     Ok(())
 }
 
-/// Whether a member that is refused has a lowering that is accepted.
-fn is_lowered(alloc: Global, profile: Profile, bytes: &[u8]) -> Result<bool, AllocError> {
-    match lowered(alloc, bytes) {
-        Ok(lower) => match judge(alloc, profile, &lower.bytes)? {
-            Verdict::Accepted(_) => Ok(true),
-            Verdict::Refused { .. } => Ok(false),
+/// Appends the fault of a member that no program takes.
+fn put_refused(report: &mut Report, member: &Member<'_>, why: Refusal) -> Result<(), AllocError> {
+    report.shown.fault(Fault::Member {
+        offset: member.offset,
+        member: member.number,
+        reason: why.reason,
+        place: why.place,
+    })
+}
+
+/// The type of the record at which the check refuses a member; 0 if it accepts it.
+fn refused_type(alloc: Global, profile: Profile, bytes: &[u8]) -> Result<u8, AllocError> {
+    match judge(alloc, profile, bytes)? {
+        Verdict::Refused { place, .. } => match bytes.get(place.start as usize) {
+            Some(kind) => Ok(*kind),
+            None => Ok(0),
         },
-        Err(LoweringFault::Memory) => Err(AllocError),
-        Err(LoweringFault::Refused { .. }) => Ok(false),
+        Verdict::Accepted(_) => Ok(0),
     }
 }
 
-/// Appends the fault of a member that is refused, and a note if a linker takes it lowered.
-fn put_refused(
+/// Appends a note on a member, if it is taken by its lowering.
+fn note_lowered(
     report: &mut Report,
     profile: Profile,
     member: &Member<'_>,
-    reason: Reason,
-    place: Place,
+    is_lowered: bool,
 ) -> Result<(), AllocError> {
-    let (offset, number) = (member.offset, member.number);
-    report.shown.fault(Fault::Member {
-        offset,
-        member: number,
-        reason,
-        place,
-    })?;
-    if is_lowered(*report.shown.text.allocator(), profile, member.bytes)? {
-        return put_note(
-            &mut report.notes,
-            Note::Lowered {
-                offset,
-                member: number,
-            },
-        );
+    if !is_lowered {
+        return Ok(());
     }
-    Ok(())
+    let kind = refused_type(*report.shown.text.allocator(), profile, member.bytes)?;
+    put_note(
+        &mut report.notes,
+        Note::Lowered {
+            offset: member.offset,
+            member: member.number,
+            kind,
+        },
+    )
 }
 
-/// Checks a member, looks up its publics and communals, and appends the keys of its names.
+/// Checks a member, looks up its publics, and appends the keys of its names.
 fn judge_member(
     report: &mut Report,
     keys: &mut KeySet,
@@ -191,13 +194,14 @@ fn judge_member(
     ensures { (done : List (List ℕ)) → IsKeySet keys.old done → OnOk result ((own : List Definer) × IsDefiner profile library.now.header.page member.now.offset member.now.bytes.now own × IsKeySet keys.new (done ++ all_keys (is_case_sensitive library.now.header) own)) }
 {
     let alloc = *report.shown.text.allocator();
-    match judge(alloc, profile, member.bytes)? {
-        Verdict::Refused { reason, place } => put_refused(report, profile, member, reason, place),
-        Verdict::Accepted(module) => {
-            let names = defined_names(alloc, &module)?;
+    match taken_of(alloc, profile, member.bytes)? {
+        Judgement::Refused(why) => put_refused(report, member, why),
+        Judgement::Taken(taken) => {
+            note_lowered(report, profile, member, taken.is_lowered)?;
+            let names = defined_names(alloc, &taken.module)?;
             look_up_all(report, library, member, names.as_slice())?;
             let home = home_of(library.header, member.offset);
-            add_module(alloc, keys, home, &module, names.as_slice())
+            add_module(alloc, keys, home, &taken.module, names.as_slice())
         }
     }
 }

@@ -1,7 +1,7 @@
 //! What of a file can be read as a library: its header, and its members one after another.
 
 ghost use Rattle.std.specs.Prelude.{◌≡◌, IfOk};
-ghost use Rattle.omf_library.specs.Made.{IsDictionary};
+ghost use Rattle.omf_library.specs.Dictionary.{IsDictionary};
 ghost use Rattle.omf_lib.specs.Members.{IsLibraryRead};
 
 use crate::members::Member;

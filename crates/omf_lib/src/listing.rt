@@ -7,13 +7,14 @@ ghost use Rattle.omf_lib.specs.Lines.{public_line};
 use crate::fault::Fault;
 use crate::imports::put_imports;
 use crate::library::{Library, member_of, page_of, read_library};
-use crate::members::{Member, Verdict, judge, name_of};
+use crate::members::{Member, name_of, taken_of};
 use crate::shown::{Shown, Stop, Told};
 use crate::text::put_reason;
 use omf_check::Profile;
 use omf_frame::Sink;
 use omf_host::{Status, Streams, put_quoted};
-use omf_library::{Defined, Header, Kind, defined_names};
+use omf_library::Header;
+use omf_making::{Defined, Judgement, Kind, Refusal, Taken, defined_names};
 use std::alloc::{AllocError, Global};
 use std::fmt::Write;
 
@@ -29,7 +30,7 @@ pub fn put_public(text: &mut String, member: usize, name: &[u8]) -> Result<(), A
 /// Appends a line for each public of a member.
 fn put_publics(text: &mut String, member: usize, names: &[Defined]) -> Result<(), AllocError> {
     for defined in names {
-        if defined.kind == Kind::Public {
+        if matches!(defined.kind, Kind::Public | Kind::Comdat) {
             put_public(text, member, defined.name.as_slice())?;
         }
     }
@@ -68,6 +69,17 @@ fn put_member(text: &mut String, header: Header, member: &Member<'_>) -> Result<
     put_quoted(text, name_of(bytes))
 }
 
+/// Appends the lines of a member that a program takes: ` lowered` where the check refuses it, and a line for each public and each import.
+fn list_taken(text: &mut String, member: usize, taken: &Taken) -> Result<(), AllocError> {
+    if taken.is_lowered {
+        text.push_str(" lowered")?;
+    }
+    text.push('\n')?;
+    let names = defined_names(*text.allocator(), &taken.module)?;
+    put_publics(text, member, names.as_slice())?;
+    put_imports(text, member, &taken.module)
+}
+
 /// Appends the lines of a member: its own, and one for each public and each import.
 fn list_member(
     shown: &mut Shown,
@@ -77,14 +89,9 @@ fn list_member(
 ) -> Result<(), AllocError> {
     put_member(&mut shown.text, library.header, member)?;
     let alloc = *shown.text.allocator();
-    match judge(alloc, profile, member.bytes)? {
-        Verdict::Accepted(module) => {
-            shown.text.push('\n')?;
-            let names = defined_names(alloc, &module)?;
-            put_publics(&mut shown.text, member.number, names.as_slice())?;
-            put_imports(&mut shown.text, member.number, &module)
-        }
-        Verdict::Refused { reason, place } => {
+    match taken_of(alloc, profile, member.bytes)? {
+        Judgement::Taken(taken) => list_taken(&mut shown.text, member.number, &taken),
+        Judgement::Refused(Refusal { reason, place }) => {
             shown.raise(Status::Refused);
             shown.text.push_str(" refused")?;
             put_reason(&mut shown.text, reason, place)?;

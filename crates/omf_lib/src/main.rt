@@ -19,6 +19,7 @@ mod names;
 mod naming;
 mod near;
 mod noting;
+mod parts;
 mod shown;
 mod taking;
 mod text;

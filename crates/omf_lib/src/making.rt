@@ -3,15 +3,15 @@
 use crate::asked::Make;
 use crate::fault::Fault;
 use crate::library::read_library;
-use crate::members::{Verdict, judge};
+use crate::members::taken_of;
 use crate::names::is_same_name;
+use crate::parts::{PartsFault, parts_of_file};
 use crate::shown::{Stop, Told, send_bytes};
 use crate::text::put_reason;
-use omf_check::{Checked, Profile};
+use omf_check::Profile;
 use omf_frame::Sink;
 use omf_host::{Status, Written, put_name, put_quoted, read_input, write_new};
-use omf_library::{Defined, Kind, MakeFault, Part, make};
-use omf_linking::{LinkFault, file_modules};
+use omf_making::{Defined, Judgement, Kind, MakeFault, Part, Refusal, make};
 use std::alloc::{AllocError, Global};
 use std::fmt::Write;
 
@@ -19,13 +19,11 @@ use std::fmt::Write;
 const LIBRARY_HEADER: u8 = 0xF0;
 
 /// Appends the line of a module that is refused.
-fn put_refused(told: &mut Told<'_>, name: &str, why: &Verdict) -> Result<(), AllocError> {
+fn put_refused(told: &mut Told<'_>, name: &str, why: Refusal) -> Result<(), AllocError> {
     told.shown.raise(Status::Refused);
     put_name(&mut told.faults, name.as_bytes())?;
     told.faults.push_str(": refused")?;
-    if let Verdict::Refused { reason, place } = why {
-        put_reason(&mut told.faults, *reason, *place)?;
-    }
+    put_reason(&mut told.faults, why.reason, why.place)?;
     told.faults.push('\n')
 }
 
@@ -45,13 +43,13 @@ fn push_module(
     bytes: &[u8],
 ) -> Result<(), AllocError> {
     let alloc = *told.faults.allocator();
-    match judge(alloc, profile, bytes)? {
-        Verdict::Accepted(module) => {
-            given.parts.push(Part::new(alloc, &module)?)?;
+    match taken_of(alloc, profile, bytes)? {
+        Judgement::Taken(taken) => {
+            given.parts.push(Part::taken(alloc, bytes, &taken)?)?;
             given.names.push(name)?;
             Ok(())
         }
-        refused => put_refused(told, name.as_str(), &refused),
+        Judgement::Refused(why) => put_refused(told, name.as_str(), why),
     }
 }
 
@@ -94,13 +92,15 @@ fn push_all(
     alloc: Global,
     given: &mut Given,
     file: &str,
-    modules: &[Checked],
+    parts: Vec<Part>,
 ) -> Result<(), AllocError> {
-    let is_one = modules.len() == 1;
-    for (before, module) in modules.iter().enumerate() {
+    let is_one = parts.len() == 1;
+    let mut before = 0usize;
+    for part in parts {
         let number = if is_one { None } else { Some(before) };
-        given.parts.push(Part::new(alloc, module)?)?;
+        given.parts.push(part)?;
         given.names.push(module_name(alloc, file, number)?)?;
+        before = before.saturating_add(1);
     }
     Ok(())
 }
@@ -109,15 +109,11 @@ fn push_all(
 fn put_refused_in(
     told: &mut Told<'_>,
     file: &str,
-    module: u32,
-    why: &Verdict,
+    module: usize,
+    why: Refusal,
 ) -> Result<(), AllocError> {
     let alloc = *told.faults.allocator();
-    let number = if module == 0 {
-        None
-    } else {
-        Some(module as usize)
-    };
+    let number = if module == 0 { None } else { Some(module) };
     let name = module_name(alloc, file, number)?;
     put_refused(told, name.as_str(), why)
 }
@@ -131,20 +127,14 @@ fn push_modules(
     bytes: &[u8],
 ) -> Result<(), AllocError> {
     let alloc = *told.faults.allocator();
-    match file_modules(alloc, profile, bytes) {
-        Ok(modules) => push_all(alloc, given, file, modules.as_slice()),
-        Err(
-            LinkFault::Refused {
-                module,
-                reason,
-                place,
-            },
-        ) => put_refused_in(told, file, module, &Verdict::Refused { reason, place }),
-        Err(LinkFault::NoText(at)) => {
+    match parts_of_file(alloc, profile, bytes) {
+        Ok(parts) => push_all(alloc, given, file, parts),
+        Err(PartsFault::Refused { module, why }) => put_refused_in(told, file, module, why),
+        Err(PartsFault::Rest(at)) => {
             let why = format!(in alloc; "neither a module nor padding at {at}")?;
             told.refuse(file, why.as_str())
         }
-        Err(_) => Err(AllocError),
+        Err(PartsFault::Memory) => Err(AllocError),
     }
 }
 
@@ -184,7 +174,9 @@ struct Twice<'a> {
 /// The first public or import that is this name, but for its case; the name itself if there is none.
 fn spelled<'a>(names: &'a [Defined], name: &'a [u8]) -> &'a [u8] {
     for defined in names {
-        if defined.kind != Kind::Communal && is_same_name(false, defined.name.as_slice(), name) {
+        if matches!(defined.kind, Kind::Public | Kind::Import)
+            && is_same_name(false, defined.name.as_slice(), name)
+        {
             return defined.name.as_slice();
         }
     }

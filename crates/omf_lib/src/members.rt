@@ -1,10 +1,12 @@
 //! Members, and the check of one.
 
 ghost use Rattle.std.specs.Prelude.{IfOk};
+ghost use Rattle.omf_making.specs.Taken.{IsJudgement};
 ghost use Rattle.omf_lib.specs.Members.{IsVerdict};
 
 use omf_check::{CheckFault, Checked, Profile, check};
-use omf_frame::{Bytes, Place, Reason};
+use omf_frame::{Bytes, Framer, Place, Reason};
+use omf_making::{Judgement, judge_taken};
 use std::alloc::{AllocError, Global};
 
 /// A member of a library: its number from 0, its offset, and its bytes from the THEADR to the MODEND.
@@ -32,6 +34,13 @@ pub fn judge(alloc: Global, profile: Profile, bytes: &[u8]) -> Result<Verdict, A
         // Bytes in memory are always read.
         Err(CheckFault::Memory | CheckFault::Read) => Err(AllocError),
     }
+}
+
+/// What a program takes of a member: it, or its lowering if the check refuses it.
+pub fn taken_of(alloc: Global, profile: Profile, bytes: &[u8]) -> Result<Judgement, AllocError>
+    ensures { IfOk result (λ j. IsJudgement profile bytes.now j) }
+{
+    judge_taken(alloc, &mut Framer::new(alloc), profile, bytes)
 }
 
 /// The name in the first record of a module, which is a THEADR or an LHEADR.

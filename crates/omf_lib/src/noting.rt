@@ -20,12 +20,7 @@ fn first_filled(bytes: &[u8], region: Region) -> Option<usize> {
 
 /// What is odd about a region. `after` is the number of the member before it, if it is the padding of a member's last page.
 /// `is_whole` is false where a dictionary is missing, which fault 9 is about.
-fn note_of(
-    bytes: &[u8],
-    region: Region,
-    after: Option<usize>,
-    is_whole: bool,
-) -> Option<Note<'static>> {
+fn note_of(bytes: &[u8], region: Region, after: Option<usize>, is_whole: bool) -> Option<Note> {
     let Region {
         kind,
         offset,

@@ -5,7 +5,7 @@ ghost use Rattle.omf_frame.specs.Bytes.{AddsText};
 ghost use Rattle.omf_lib.specs.Lines.{fault_head, fault_line, fault_words, of_entry, of_member, of_public, reason_text};
 
 use crate::fault::{Fault, Named, Note, Public};
-use omf_frame::{Place, Reason};
+use omf_frame::{Place, Reason, type_name};
 use omf_host::put_quoted;
 use std::alloc::AllocError;
 use std::fmt::Write;
@@ -134,7 +134,7 @@ fn put_note_head(
 }
 
 /// Appends a note without its line feed.
-fn put_note_words(text: &mut String, note: Note<'_>) -> Result<(), AllocError> {
+fn put_note_words(text: &mut String, note: Note) -> Result<(), AllocError> {
     match note {
         Note::Padding { offset, member } => {
             put_note_head(text, 17, "Padding", offset)?;
@@ -148,21 +148,20 @@ fn put_note_words(text: &mut String, note: Note<'_>) -> Result<(), AllocError> {
             put_note_head(text, 19, "After", offset)?;
             write!(text, " length {length}")
         }
-        Note::Communal(public) => {
-            let member = public.member;
-            put_note_head(text, 20, "Communal", public.offset)?;
-            write!(text, " member {member} ")?;
-            put_quoted(text, public.name)
-        }
-        Note::Lowered { offset, member } => {
+        Note::Lowered {
+            offset,
+            member,
+            kind,
+        } => {
+            let name = type_name(kind);
             put_note_head(text, 22, "Lowered", offset)?;
-            write!(text, " member {member}")
+            write!(text, " member {member} {name}")
         }
     }
 }
 
 /// Appends the line of a note.
-pub fn put_note(text: &mut String, note: Note<'_>) -> Result<(), AllocError> {
+pub fn put_note(text: &mut String, note: Note) -> Result<(), AllocError> {
     put_note_words(text, note)?;
     text.push('\n')
 }

@@ -1,8 +1,7 @@
 //! The entries of a dictionary whose members do not define their names.
 
 ghost use Rattle.std.specs.Prelude.{◌≡◌, ◌<◌, ◌++◌, List, ℕ, false, IfOk, string_bytes};
-ghost use Rattle.omf_library.specs.Dictionary.{IsBucket, block_count, block_of};
-ghost use Rattle.omf_library.specs.Made.{is_case_sensitive};
+ghost use Rattle.omf_library.specs.Dictionary.{IsBucket, block_count, block_of, is_case_sensitive};
 ghost use Rattle.omf_lib.specs.Defining.{AreEntriesDefined, Definer, HasUndefined, HasUndefinedIn, is_undefined_at, undefined_text};
 ghost use Rattle.omf_lib.specs.Keys.{all_keys, IsKeySet};
 

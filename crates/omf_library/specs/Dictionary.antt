@@ -3,8 +3,10 @@ use Rattle.std.specs.Prelude.{◌≡◌, ◌≢◌, ℕ, zero, suc, ◌+◌, ◌
 use Rattle.omf_library.specs.Hash.{buckets, probe_of}
 use Rattle.omf_library.specs.declared.dictionary.Bucket.{Bucket}
 use Rattle.omf_library.specs.declared.dictionary.Bucket.TheVariants as content
+use Rattle.omf_library.specs.declared.dictionary.Dictionary.{Dictionary}
 use Rattle.omf_library.specs.declared.dictionary.Look.{Look}
 use Rattle.omf_library.specs.declared.dictionary.Look.TheVariants as look
+use Rattle.omf_library.specs.declared.header.Header.{Header}
 use Rattle.omf_library.specs.declared.search.Ended.{Ended}
 use Rattle.omf_library.specs.declared.search.Ended.TheVariants as ended
 use Rattle.omf_library.specs.declared.search.Rule.{Rule}
@@ -145,3 +147,16 @@ pub record IsAbsentAfter (rule : Rule) (sensitive : Bool) (dictionary name : Lis
 -- has passed.
 abbrev pub IsSought : Rule → Bool → List ℕ → List ℕ → Sought → Type 0
 IsSought rule sensitive dictionary name s = MatchOption s.page (IsAbsentAfter rule sensitive dictionary name s.passed) (λ page. IsFoundAfter rule sensitive dictionary name s.passed page)
+
+-- The bytes of the dictionary, which the header places: blocks of 512 bytes.
+abbrev pub dictionary_at : Header → List ℕ → List ℕ
+dictionary_at h bytes = take (block_size * h.blocks) (drop h.dictionary bytes)
+
+-- Whether names that differ in case differ: the flag 1.
+abbrev pub is_case_sensitive : Header → Bool
+is_case_sensitive h = h.flags % 2 == 1
+
+-- The dictionary of a library, or none if a part of it is not there.
+abbrev pub IsDictionary : Header → List ℕ → Option Dictionary → Type 0
+IsDictionary h bytes result = MatchOption result (length bytes < h.dictionary + block_size * h.blocks)
+    (λ (d : Dictionary). (h.dictionary + block_size * h.blocks ≤ length bytes) × (d.bytes.now ≡ dictionary_at h bytes) × (d.is_case_sensitive ≡ is_case_sensitive h))

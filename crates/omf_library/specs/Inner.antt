@@ -5,5 +5,4 @@ pub mod Names
 pub mod Search
 pub mod Walk
 pub mod Judging
-pub mod Making
 pub mod Weak

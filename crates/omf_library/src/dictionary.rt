@@ -1,9 +1,10 @@
 //! The dictionary of a library (TIS OMF 1.1, appendix 2, "Dictionary"): its entries, and two ways to search them.
 
 ghost use Rattle.std.specs.Prelude.{◌≡◌, ◌+◌, ◌*◌, ◌<◌, ◌≤◌, ◌^◌, length, true};
-ghost use Rattle.omf_library.specs.Dictionary.{block_count, block_of, folded, is_inside, is_same_name, look_of, page_at, name_at, IsBucket, IsFirstEntry, IsFirstInBlock};
+ghost use Rattle.omf_library.specs.Dictionary.{block_count, block_of, folded, is_inside, is_same_name, look_of, page_at, name_at, IsBucket, IsDictionary, IsFirstEntry, IsFirstInBlock};
 
 use crate::hash::BUCKETS;
+use crate::header::Header;
 
 /// The size of a block.
 pub const BLOCK: usize = 512;
@@ -32,7 +33,7 @@ pub enum Bucket<'a> {
 }
 
 /// A character as names are compared.
-pub(crate) fn folded(is_case_sensitive: bool, c: u8) -> u8
+pub fn folded(is_case_sensitive: bool, c: u8) -> u8
     ensures { result ≡ folded is_case_sensitive c }
 {
     if !is_case_sensitive && c >= b'A' && c <= b'Z' {
@@ -43,7 +44,7 @@ pub(crate) fn folded(is_case_sensitive: bool, c: u8) -> u8
 }
 
 /// Whether two names are one.
-pub(crate) fn is_same_name(is_case_sensitive: bool, one: &[u8], other: &[u8]) -> bool
+pub fn is_same_name(is_case_sensitive: bool, one: &[u8], other: &[u8]) -> bool
     ensures { result ≡ is_same_name is_case_sensitive one.now other.now }
 {
     if one.len() != other.len() {
@@ -132,15 +133,30 @@ pub struct Dictionary<'a> {
     pub is_case_sensitive: bool,
 }
 
+/// The dictionary of a library with this header; None where it is not all there.
+pub fn dictionary_in<'a>(header: Header, bytes: &'a [u8]) -> Option<Dictionary<'a>>
+    ensures { IsDictionary header bytes.entry.now result }
+{
+    let offset = header.dictionary as usize;
+    let end = offset + BLOCK * header.blocks as usize;
+    if bytes.len() < end {
+        return None;
+    }
+    Some(Dictionary {
+        bytes: bytes.split_at(offset).1.split_at(end - offset).0,
+        is_case_sensitive: header.flags % 2 == 1,
+    })
+}
+
 /// The number of blocks of a dictionary.
-pub(crate) fn block_count(bytes: &[u8]) -> usize
+pub fn block_count(bytes: &[u8]) -> usize
     ensures { result ≡ block_count bytes.now }
 {
     bytes.len() / BLOCK
 }
 
 /// The bytes of a block.
-pub(crate) fn block_of<'a>(bytes: &'a [u8], number: usize) -> &'a [u8]
+pub fn block_of<'a>(bytes: &'a [u8], number: usize) -> &'a [u8]
     requires { number < block_count bytes.now }
     ensures value { result.now ≡ block_of bytes.entry.now number }
     ensures whole { length result.now ≡ 512 }
@@ -176,7 +192,7 @@ pub(crate) fn first_entry(is_case_sensitive: bool, bytes: &[u8], name: &[u8]) ->
 }
 
 /// What a bucket of a block has.
-pub(crate) fn bucket_of<'a>(block: &'a [u8], bucket: usize) -> Bucket<'a>
+pub fn bucket_of<'a>(block: &'a [u8], bucket: usize) -> Bucket<'a>
     requires { bucket < length block.now }
     ensures { IsBucket block.entry.now bucket result }
 {

@@ -11,42 +11,38 @@
 
 mod account;
 mod aliases;
-mod costs;
 mod dictionary;
-mod entries;
 mod fault;
-mod filling;
 mod hash;
 mod header;
+mod imports;
 mod judged;
 pub mod laws;
-mod making;
 mod member;
 mod members;
 mod modules;
-mod names;
 pub mod needed;
-mod pages;
-mod prime;
 mod publics;
 pub mod rows;
 mod search;
-mod sound;
 mod spans;
-mod spots;
 
 pub use account::{Region, RegionKind, account_of};
 pub use aliases::{AliasPair, alias_pairs};
-pub use dictionary::{BLOCK, Bucket, Dictionary, Look};
+pub use dictionary::{
+    BLOCK, Bucket, Dictionary, Look, block_count, block_of, bucket_of, dictionary_in, folded,
+    is_same_name,
+};
 pub use fault::LibraryFault;
 pub use hash::{BUCKETS, Probe, probe_of};
 pub use header::{Header, read_header};
+pub use imports::imported;
 pub use judged::{LibraryMember, RefusedMember, library_members};
-pub use making::{MakeFault, Part, dictionary_in, make};
 pub use member::Member;
-pub use members::members_in;
+pub use members::{LIBRARY_END, members_in, next_page};
 pub use modules::modules_in;
-pub use names::{Defined, Kind, defined_names};
 pub use needed::needed_members;
-pub use search::{Ended, Rule, Sought, credit_of};
+pub use search::{
+    CREDIT, Ended, FIRST_CREDIT, LOOK, Rule, Sought, credit_of, hash_cost, looks_cost,
+};
 pub use spans::{Span, SpanFault, Spans, spans_in};

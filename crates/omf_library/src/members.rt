@@ -13,10 +13,10 @@ use omf_frame::{Bytes, Framer};
 use std::alloc::Global;
 
 /// The type of the record after the members.
-pub(crate) const LIBRARY_END: u8 = 0xF1;
+pub const LIBRARY_END: u8 = 0xF1;
 
 /// The offset of the first page at or after an offset.
-pub(crate) fn next_page(page: usize, at: usize) -> usize
+pub fn next_page(page: usize, at: usize) -> usize
     requires filled { 0 < page }
     requires low { at + page < 2 ^ 64 }
     ensures { result ≡ next_page page at }

@@ -7,16 +7,16 @@ use crate::dictionary::{Dictionary, Look, block_count, block_of, entry_length, l
 use crate::hash::{BUCKETS, probe_of};
 
 /// What a look at a bucket costs, beside the characters that are compared.
-pub(crate) const LOOK: u64 = 4;
+pub const LOOK: u64 = 4;
 
 /// How often a search reads each character of its name for the hash.
 const HASHED: u64 = 4;
 
 /// What the searches of a library may cost, whatever its size.
-pub(crate) const FIRST_CREDIT: u64 = 1 << 20;
+pub const FIRST_CREDIT: u64 = 1 << 20;
 
 /// What the searches of a library may cost for each of its bytes.
-pub(crate) const CREDIT: u64 = 64;
+pub const CREDIT: u64 = 64;
 
 /// What all searches of a library of this size may cost together.
 pub fn credit_of(size: usize) -> u64 {
@@ -66,7 +66,7 @@ struct Task<'a> {
 }
 
 /// What it costs to hash a name.
-pub(crate) fn hash_cost(name: &[u8]) -> u64 {
+pub fn hash_cost(name: &[u8]) -> u64 {
     (name.len() as u64).saturating_add(1).saturating_mul(HASHED)
 }
 
@@ -82,7 +82,7 @@ fn look_cost(block: &[u8], bucket: usize, name: &[u8]) -> u64
 }
 
 /// What it costs at most to look at this many buckets for a name.
-pub(crate) fn looks_cost(name: &[u8], looks: u64) -> u64 {
+pub fn looks_cost(name: &[u8], looks: u64) -> u64 {
     looks.saturating_mul(LOOK.saturating_add(name.len() as u64))
 }
 

@@ -1,5 +1,5 @@
 use Rattle.std.proofs.Common.{[], ◌++◌, ◌∷◌}
-use Rattle.omf_library.specs.Names.{names_seen}
+use Rattle.omf_making.specs.Names.{names_seen}
 use Rattle.omf_lib.proofs.KeyLaws.{member_keys, on_ok}
 use Rattle.omf_lib.proofs.defining.add_member.Goals as goal
 

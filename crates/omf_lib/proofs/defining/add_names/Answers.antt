@@ -1,5 +1,5 @@
 use Rattle.std.proofs.Common.{[], ◌+◌, ◌++◌, ◌∷◌, ◌∙◌, ap, map, take}
-use Rattle.omf_library.specs.Names.{names_seen}
+use Rattle.omf_making.specs.Names.{names_seen}
 use Rattle.omf_lib.specs.Keys.{name_key}
 use Rattle.omf_lib.proofs.KeyLaws.{more_keys, names_next}
 use Rattle.omf_lib.proofs.defining.add_names.Goals as goal

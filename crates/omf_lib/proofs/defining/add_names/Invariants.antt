@@ -1,5 +1,5 @@
 use Rattle.std.proofs.Common.{ℕ, List, ◌++◌, map, take}
-use Rattle.omf_library.specs.Names.{names_seen}
+use Rattle.omf_making.specs.Names.{names_seen}
 use Rattle.omf_lib.specs.Keys.{IsKeySet, name_key}
 use Rattle.omf_lib.proofs.defining.add_names.Given as goal
 

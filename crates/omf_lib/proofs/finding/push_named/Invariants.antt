@@ -1,5 +1,5 @@
 use Rattle.std.proofs.Common.{◌≡◌, ◌++◌}
-use Rattle.omf_library.specs.Names.{names_seen}
+use Rattle.omf_making.specs.Names.{names_seen}
 use Rattle.omf_lib.specs.Members.{publics_among, publics_seen}
 use Rattle.omf_lib.proofs.finding.push_named.Given as goal
 

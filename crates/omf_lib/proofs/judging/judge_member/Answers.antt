@@ -1,6 +1,6 @@
 use Rattle.std.proofs.Common.{[], inr, refl, subst}
-use Rattle.omf_library.specs.Made.{is_case_sensitive}
-use Rattle.omf_lib.specs.Members.{IsVerdict}
+use Rattle.omf_library.specs.Dictionary.{is_case_sensitive}
+use Rattle.omf_making.specs.Taken.{IsJudgement}
 use Rattle.omf_lib.proofs.DefiningLaws.{module_added, ok_given}
 use Rattle.omf_lib.proofs.KeyLaws.{same_keys}
 use Rattle.omf_lib.proofs.judging.judge_member.Goals as goal
@@ -8,12 +8,12 @@ use Rattle.omf_lib.proofs.judging.judge_member.Goals as goal
 pub returns-in-Refused : goal.returns-in-Refused
 returns-in-Refused c = λ done h. ok_given c.put_refused.result (
   [],
-  inr (c.in-Refused.reason, c.in-Refused.place, subst (IsVerdict c.args.profile c.args.member.now.bytes.now) c.in-Refused.is c.in_ok-reason.ensures, refl),
+  inr (c.in-Refused.why, subst (IsJudgement c.args.profile c.args.member.now.bytes.now) c.in-Refused.is c.in_ok-why.ensures, refl),
   same_keys c.args.keys.now done h,
 )
 
-pub returns-in_ok-look_up_all-in-Accepted : goal.returns-in_ok-look_up_all-in-Accepted
-returns-in_ok-look_up_all-in-Accepted c = λ done h.
-    module_added c.args.profile c.args.library.now.header.page c.args.member.now.offset c.args.member.now.bytes.now c.in-Accepted.module c.home_of-home.result.page c.home_of-home.result.is_case_sensitive
+pub returns-in_ok-look_up_all-in-Taken : goal.returns-in_ok-look_up_all-in-Taken
+returns-in_ok-look_up_all-in-Taken c = λ done h.
+    module_added c.args.profile c.args.library.now.header.page c.args.member.now.offset c.args.member.now.bytes.now c.in-Taken.taken c.home_of-home.result.page c.home_of-home.result.is_case_sensitive
     (is_case_sensitive c.args.library.now.header) done c.add_module.new.keys c.add_module.result c.home_of-home.ensures.page c.home_of-home.ensures.sensitive
-    (subst (IsVerdict c.args.profile c.args.member.now.bytes.now) c.in-Accepted.is c.in_ok-reason.ensures) (c.add_module.ensures done h)
+    (subst (IsJudgement c.args.profile c.args.member.now.bytes.now) c.in-Taken.is c.in_ok-why.ensures) (c.add_module.ensures done h)

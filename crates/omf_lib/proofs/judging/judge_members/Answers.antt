@@ -1,6 +1,6 @@
 use Rattle.std.proofs.Common.{◌+◌, drop}
 use Rattle.std.proofs.lemmas.List.{drop_all, get_or_default}
-use Rattle.omf_library.specs.Made.{is_case_sensitive}
+use Rattle.omf_library.specs.Dictionary.{is_case_sensitive}
 use Rattle.omf_lib.specs.Keys.{all_keys}
 use Rattle.omf_lib.proofs.DefiningLaws.{so_far_all, so_far_more, so_far_none}
 use Rattle.omf_lib.proofs.FindLaws.{rest_more}

@@ -1,5 +1,5 @@
 use Rattle.std.proofs.Common.{drop}
-use Rattle.omf_library.specs.Made.{is_case_sensitive}
+use Rattle.omf_library.specs.Dictionary.{is_case_sensitive}
 use Rattle.omf_lib.proofs.DefiningLaws.{AreSoFar}
 use Rattle.omf_lib.proofs.judging.judge_members.Given as goal
 

@@ -1,5 +1,0 @@
-use Rattle.std.proofs.Common.{◌<◌}
-use Rattle.omf_library.proofs.filling.slot_of.Given as goal
-
-abbrev pub invariant-loop-looked : goal.invariant-loop-looked
-invariant-loop-looked l = l.bucket < 37

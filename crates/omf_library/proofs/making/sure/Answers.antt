@@ -1,4 +1,0 @@
-use Rattle.omf_library.proofs.making.sure.Goals as goal
-
-pub returns : goal.returns
-returns c = c.fault_of_parts.ensures c.args.is_case_sensitive

@@ -1,0 +1,19 @@
+//! Worked examples of the names that a module defines.
+
+ghost use Rattle.std.specs.Prelude.{◌≡◌, [], ◌∷◌, codes};
+ghost use Rattle.omf_library.specs.Rows.{comment, communal};
+ghost use Rattle.omf_lowering.specs.Marks.{mark_text};
+ghost use Rattle.omf_making.specs.Names.{defined_names};
+ghost use Rattle.omf_making.specs.Rows.{defined, public};
+ghost use Rattle.omf_making.specs.declared.names.Kind.TheVariants.{Comdat, Communal, Public};
+
+/// What a module defines: a PUBDEF that the mark of a COMDAT follows is of a COMDAT, other comments change nothing, and an LPUBDEF defines nothing for others.
+pub fn names_of_comdats()
+    ensures public { defined_names (public 0x90 (codes "P") ∷ communal 0xB0 (codes "C") ∷ []) ≡ defined Public (codes "P") ∷ defined Communal (codes "C") ∷ [] }
+    ensures comdat { defined_names (public 0x90 (codes "P") ∷ public 0x90 (codes "X") ∷ comment 0xDC (mark_text 1) ∷ []) ≡ defined Public (codes "P") ∷ defined Comdat (codes "X") ∷ [] }
+    ensures other_comment { defined_names (public 0x90 (codes "P") ∷ comment 0xDC (codes "COMDAT") ∷ []) ≡ defined Public (codes "P") ∷ [] }
+    ensures other_class { defined_names (public 0x90 (codes "P") ∷ comment 0xDD (mark_text 1) ∷ []) ≡ defined Public (codes "P") ∷ [] }
+    ensures mark_before { defined_names (comment 0xDC (mark_text 1) ∷ public 0x90 (codes "P") ∷ []) ≡ defined Public (codes "P") ∷ [] }
+    ensures local { defined_names (public 0xB6 (codes "X") ∷ comment 0xDC (mark_text 1) ∷ []) ≡ [] }
+    ensures communal { defined_names (communal 0xB0 (codes "C") ∷ comment 0xDC (mark_text 1) ∷ []) ≡ defined Communal (codes "C") ∷ [] }
+{}
