@@ -1,4 +1,5 @@
 pub mod MapLaws
 pub mod MissingLaws
+pub mod OneMap
 pub mod PublicLaws
 pub mod SourceLaws

@@ -1,13 +1,16 @@
--- The far addresses of publics, as a debugger shows them (this profile's rule): a selector and an offset. Selectors of a DOS program count from the paragraph at
+-- The combined segments and the far addresses of publics, as LINK's map and a debugger show them (this profile's rule): a far address is a selector and an offset. Selectors of a DOS program count from the paragraph at
 -- which it is loaded.
-use Rattle.std.specs.Prelude.{ℕ, ◌+◌, ◌-◌, List, [], ◌∷◌, ◌++◌, flat_map, codes, decimal, nat_lt, false, Option, Some, None, option_map, option_to_list, unwrap_or, if◌then◌else◌}
+use Rattle.std.specs.Prelude.{◌≡◌, ℕ, ◌+◌, ◌-◌, ◌^◌, min, List, [], ◌∷◌, ◌++◌, flat_map, codes, decimal, nat_lt, Option, Some, None, option_map, option_to_list, unwrap_or, if◌then◌else◌}
 use Rattle.std.specs.List.{enumerate_from}
 use Rattle.omf_check.specs.Module.{Module, typed_modules}
 use Rattle.omf_check.specs.Tables.{entry, groups, names}
+use Rattle.omf_listing.specs.Combined.{CombinedSegment, by_start, combined_segments}
+use Rattle.omf_listing.specs.Publics.{by_name, by_value}
+use Rattle.omf_listing.specs.Sorted.{AreSorted}
 use Rattle.omf_lowering.specs.Layouts.{LineNumbers}
 use Rattle.omf_lowering.specs.Lines.{lines_of}
 use Rattle.omf_lowering.specs.declared.linnum.LineNumber.{LineNumber}
-use Rattle.omf_placement.specs.Derive.{PlacedModule, PlacedPublic, base_of, placed_modules, publics}
+use Rattle.omf_placement.specs.Derive.{PlacedModule, PlacedPublic, all_publics, base_of, placed_modules}
 use Rattle.omf_placement.specs.Placement.{Places}
 use Rattle.omf_placement.specs.Quoted.{hex, named, quoted}
 use Rattle.omf_placement.specs.declared.frame.Frame.{Frame}
@@ -24,16 +27,17 @@ far selector offset = hex 4 selector ++ 58 ∷ hex 4 offset
 abbrev pub far_place : Placed → List ℕ
 far_place p = if nat_lt p.address p.frame.base then codes "-" else far p.frame.selector (p.address - p.frame.base)
 
--- A public: its place and its name.
-abbrev pub far_line : PlacedPublic → List ℕ
-far_line p = line (codes "at" ∷ far_place p.place ∷ quoted p.name ∷ [])
+-- A public: the word of its list, its place and its name.
+abbrev pub far_line : List ℕ → PlacedPublic → List ℕ
+far_line word p = line (word ∷ far_place p.place ∷ quoted p.name ∷ [])
 
--- The publics of modules that are not local, module by module.
-abbrev pub module_far : PlacedModule → List ℕ
-module_far m = flat_map far_line (publics false m)
+-- An address or a length in a line. (Of a module that is accepted none is above 2^33.)
+abbrev pub eight : ℕ → List ℕ
+eight n = hex 8 (min n (2 ^ 64 - 1))
 
-abbrev pub far_lines : List PlacedModule → List ℕ
-far_lines ms = flat_map module_far ms
+-- A combined segment: the addresses of its first and of its last byte, its length, its name and that of its class.
+abbrev pub whole_line : CombinedSegment → List ℕ
+whole_line s = line (codes "whole" ∷ eight s.start ∷ eight (s.end - 1) ∷ eight (s.end - s.start) ∷ quoted s.name ∷ quoted s.class ∷ [])
 
 -- The selector of a group; a dash if the placement has none.
 abbrev pub selector_or_dash : Option Frame → List ℕ
@@ -58,9 +62,14 @@ lines_at number pl (Some l) = flat_map (λ base. flat_map (source_line number ba
 abbrev pub source_lines : ℕ × PlacedModule → List ℕ
 source_lines m = flat_map (λ r. lines_at m.0 m.1.1 (lines_of r.kind r.contents)) m.1.0
 
--- The map of a program: that of its modules at their placements, and after it the selectors of their groups, the far addresses of their publics, and of the lines of
--- their sources. Modules are counted from 1, and so are the groups of each.
-abbrev pub program_map : List Module → List Places → List ℕ
-program_map ms pls =
-    let all = placed_modules ms pls in
-    map_text (addressed (typed_modules ms) pls) ++ flat_map group_lines (enumerate_from 1 all) ++ far_lines all ++ flat_map source_lines (enumerate_from 1 all)
+-- The map of a program: that of its modules at their placements, and after it their combined segments by address, the selectors of their groups, the far addresses of
+-- their publics that are not local, first by name and then by value, and those of the lines of their sources. Modules are counted from 1, and so are the groups of each.
+pub record IsProgramMap (ms : List Module) (pls : List Places) (text : List ℕ) : Type 0 where
+  pub segments : List CombinedSegment
+  pub names : List PlacedPublic
+  pub values : List PlacedPublic
+  pub by_address : AreSorted by_start (combined_segments (typed_modules ms) pls) segments
+  pub by_name : AreSorted by_name (all_publics (placed_modules ms pls)) names
+  pub by_value : AreSorted by_value (all_publics (placed_modules ms pls)) values
+  pub printed : text ≡ map_text (addressed (typed_modules ms) pls) ++ flat_map whole_line segments ++ flat_map group_lines (enumerate_from 1 (placed_modules ms pls))
+      ++ flat_map (far_line (codes "name")) names ++ flat_map (far_line (codes "value")) values ++ flat_map source_lines (enumerate_from 1 (placed_modules ms pls))

@@ -1,24 +1,28 @@
-//! The far addresses of groups, publics and lines, as a debugger shows them.
+//! The combined segments of a program, and the far addresses of its groups, publics and lines, as LINK's map and a debugger show them.
 
-ghost use Rattle.std.specs.Prelude.{◌+◌, ◌++◌, ◌∷◌, [], ◌≡◌, IfOk, Some, codes, decimal, false, flat_map, length, option_map, string_bytes, unwrap_or};
+ghost use Rattle.std.specs.Prelude.{◌-◌, ◌<◌, ◌^◌, ◌++◌, ◌∷◌, [], ◌≡◌, IfOk, Some, codes, decimal, flat_map, length, option_map, string_bytes, unwrap_or};
 ghost use Rattle.std.specs.List.{enumerate_from};
 ghost use Rattle.omf_check.specs.Module.{recs_of};
 ghost use Rattle.omf_check.specs.Tables.{entry, groups};
 ghost use Rattle.omf_frame.specs.Bytes.{AddsText};
 ghost use Rattle.omf_lowering.specs.Lines.{lines_of};
-ghost use Rattle.omf_placement.specs.Derive.{placed_modules, public_at, publics_at, record_publics};
+ghost use Rattle.omf_placement.specs.Derive.{placed_modules};
 ghost use Rattle.omf_placement.specs.Quoted.{hex, quoted};
 ghost use Rattle.omf_records.specs.Values.{GroupItem};
-ghost use Rattle.omf_map.specs.Far.{far, far_line, far_lines, far_place, group_line, group_lines, lines_at, module_far, program_map, selector_or_dash, source_line, source_lines};
+ghost use Rattle.omf_map.specs.Far.{IsProgramMap, eight, far, far_line, far_place, group_line, group_lines, lines_at, selector_or_dash, source_line, source_lines, whole_line};
 ghost use Rattle.omf_map.specs.MapText.{line};
 
 use crate::listing::map_text;
 use crate::printing::{print_name, print_number, print_quoted};
 use omf_check::{Checked, Undecoded};
+use omf_externals::print_digits;
 use omf_frame::Name;
+use omf_listing::{
+    CombinedSegment, FarPublic, combined_segments, publics_by_name, publics_by_value,
+};
 use omf_lowering::{LineNumber, line_numbers};
-use omf_placement::{Frame, Placed, Placement, base_of, publics_of};
-use omf_records::{At, Items, Public, Rec};
+use omf_placement::{Frame, Placed, Placement, base_of};
+use omf_records::{At, Rec};
 use std::alloc::{AllocError, Global};
 use std::fmt::Write;
 
@@ -49,71 +53,60 @@ fn print_place(text: &mut String, address: u64, frame: Frame) -> Result<(), Allo
     print_far(text, frame.selector, address - base)
 }
 
-/// Prints the line of a public by the base of its PUBDEF.
-fn print_item(text: &mut String, base: Placed, public: &At<Public<'_>>) -> Result<(), AllocError>
-    ensures { AddsText result (string_bytes text.old) (string_bytes text.new) (far_line (public_at public.now.item.name (base.address + public.now.item.offset) base.frame)) }
+/// Prints the line of a public, which begins with the word of its list.
+fn print_public(text: &mut String, word: &str, public: &FarPublic<'_>) -> Result<(), AllocError>
+    ensures { AddsText result (string_bytes text.old) (string_bytes text.new) (far_line word.now public.now) }
 {
-    let item = &public.item;
-    let address = u64::from(base.address) + u64::from(item.offset);
-    text.push_str("at ")?;
-    print_place(text, address, base.frame)?;
-    print_quoted(text, item.name.0)?;
+    text.push_str(word)?;
+    text.push_str(" ")?;
+    print_place(text, public.address, public.frame)?;
+    print_quoted(text, public.name)?;
     text.push_str("\n")
 }
 
-/// Prints a line for each public of a PUBDEF by its base.
-fn print_items(
-    text: &mut String,
-    base: Placed,
-    publics: Items<Public<'_>>,
-) -> Result<(), AllocError>
-    ensures { AddsText result (string_bytes text.old) (string_bytes text.new) (flat_map far_line (publics_at base publics.entry)) }
+/// Prints a line for each public of a list, whose lines begin with this word.
+fn print_publics(text: &mut String, word: &str, publics: &[FarPublic<'_>]) -> Result<(), AllocError>
+    ensures { AddsText result (string_bytes text.old) (string_bytes text.new) (flat_map (far_line word.now) publics.now) }
 {
     for public in publics {
-        print_item(text, base, &public)?;
+        print_public(text, word, public)?;
     }
     Ok(())
 }
 
-/// Prints a line for each public of a record that is not local. No other record is decoded.
-fn print_record(
-    text: &mut String,
-    placement: &Placement,
-    rec: &Undecoded<'_>,
-) -> Result<(), AllocError>
-    ensures { AddsText result (string_bytes text.old) (string_bytes text.new) (flat_map far_line (record_publics false placement.now rec.now.kind rec.now.contents)) }
+/// Prints a space and a number of eight hexadecimal digits or more.
+fn print_eight(text: &mut String, number: u128) -> Result<(), AllocError>
+    ensures { AddsText result (string_bytes text.old) (string_bytes text.new) (32 ∷ eight number) }
 {
-    match publics_of(false, rec, placement) {
-        Some((base, publics)) => print_items(text, base, publics),
-        None => Ok(()),
-    }
+    print_digits(text, number.min(u128::from(u64::MAX)) as u64)
 }
 
-/// Prints a line for each public of a module that is not local.
-fn print_module(
-    text: &mut String,
-    module: &Checked,
-    placement: &Placement,
-) -> Result<(), AllocError>
-    ensures { AddsText result (string_bytes text.old) (string_bytes text.new) (module_far (recs_of «module».now.bytes, placement.now)) }
+/// Prints the addresses of the first and the last byte of a combined segment, and its length.
+fn print_extent(text: &mut String, segment: &CombinedSegment<'_>) -> Result<(), AllocError>
+    ensures { AddsText result (string_bytes text.old) (string_bytes text.new) (32 ∷ eight segment.now.start ++ 32 ∷ eight (segment.now.end - 1) ++ 32 ∷ eight (segment.now.end - segment.now.start)) }
 {
-    for (_, rec) in module.undecoded() {
-        print_record(text, placement, &rec)?;
-    }
-    Ok(())
+    print_eight(text, segment.start)?;
+    print_eight(text, segment.end.saturating_sub(1))?;
+    print_eight(text, segment.end.saturating_sub(segment.start))
 }
 
-/// Prints a line for each public of modules that is not local, module by module.
-fn print_modules(
-    text: &mut String,
-    modules: &[Checked],
-    placements: &[Placement],
-) -> Result<(), AllocError>
-    requires { length placements.now ≡ length modules.now }
-    ensures { AddsText result (string_bytes text.old) (string_bytes text.new) (far_lines (placed_modules modules.now placements.now)) }
+/// Prints the line of a combined segment.
+fn print_whole(text: &mut String, segment: &CombinedSegment<'_>) -> Result<(), AllocError>
+    ensures { AddsText result (string_bytes text.old) (string_bytes text.new) (whole_line segment.now) }
 {
-    for (j, module) in modules.iter().enumerate() {
-        print_module(text, module, &placements[j])?;
+    text.push_str("whole")?;
+    print_extent(text, segment)?;
+    print_quoted(text, segment.name)?;
+    print_quoted(text, segment.class)?;
+    text.push_str("\n")
+}
+
+/// Prints a line for each of several combined segments.
+fn print_wholes(text: &mut String, segments: &[CombinedSegment<'_>]) -> Result<(), AllocError>
+    ensures { AddsText result (string_bytes text.old) (string_bytes text.new) (flat_map whole_line segments.now) }
+{
+    for segment in segments {
+        print_whole(text, segment)?;
     }
     Ok(())
 }
@@ -285,9 +278,13 @@ fn print_all_sources(
 
 /// Returns the map of a program, of modules at their placements: what `map_text` returns, and after it
 ///
+/// - `whole AAAAAAAA ZZZZZZZZ LLLLLLLL "NAME" "CLASS"` for each combined segment, by address: the addresses of its first and of its last byte, its length in bytes, its
+/// name and that of its class, of eight hexadecimal digits or more. The public and the stack segments of one class and name are one, and the common ones are one. A private
+/// or an absolute segment is one by itself. Segments without a byte are left out (TIS OMF 1.1, "SEGDEF", C field);
 /// - `group M I SSSS "NAME"` for each group, module by module: the numbers of the module and of the group in it, from 1, and its selector;
-/// - `at SSSS:OOOO "NAME"` for each public that is not local, module by module. Its place is the selector of its frame (of its PUBDEF's group, or else of its segment)
+/// - `name SSSS:OOOO "NAME"` for each public that is not local, by name. Its place is the selector of its frame (of its PUBDEF's group, or else of its segment)
 /// and the offset from the frame's base, each in hexadecimal, or a dash where its address is below that base;
+/// - `value SSSS:OOOO "NAME"` for the same publics, by address;
 /// - `line SSSS:OOOO M N` for each line of a source that a LINNUM has, module by module: its place, found as a public's, the number of its module, and its own.
 ///
 /// # Errors
@@ -298,12 +295,18 @@ pub fn program_map(
     modules: &[Checked],
     placements: &[Placement],
 ) -> Result<String, AllocError>
-    requires { length placements.now ≡ length modules.now }
-    ensures { IfOk result (λ text. string_bytes text ≡ program_map modules.now placements.now) }
+    requires few { length modules.now < 2 ^ 32 }
+    requires placed { length placements.now ≡ length modules.now }
+    ensures { IfOk result (λ text. IsProgramMap modules.now placements.now (string_bytes text)) }
 {
+    let segments = combined_segments(alloc, modules, placements)?;
+    let names = publics_by_name(alloc, modules, placements)?;
+    let values = publics_by_value(alloc, modules, placements)?;
     let mut text = map_text(alloc, modules, placements)?;
+    print_wholes(&mut text, &segments)?;
     print_all_groups(&mut text, modules, placements)?;
-    print_modules(&mut text, modules, placements)?;
+    print_publics(&mut text, "name", &names)?;
+    print_publics(&mut text, "value", &values)?;
     print_all_sources(alloc, &mut text, modules, placements)?;
     Ok(text)
 }

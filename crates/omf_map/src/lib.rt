@@ -15,6 +15,7 @@
 mod addresses;
 mod far;
 mod given;
+pub mod laws;
 mod listing;
 mod printing;
 mod publics;

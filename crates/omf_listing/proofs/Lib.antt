@@ -1,0 +1,3 @@
+pub mod SortedLaws
+pub mod OrderLaws
+pub mod CombinedLaws

@@ -1,0 +1,4 @@
+pub mod Sorted
+pub mod Publics
+pub mod Combined
+pub mod Rows
