@@ -16,3 +16,6 @@ pub mod WithoutLaws
 pub mod ReachedLaws
 pub mod RecLaws
 pub mod TripleLaws
+pub mod KeptLaws
+pub mod OnceLaws
+pub mod ClashLaws

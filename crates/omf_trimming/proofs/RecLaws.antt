@@ -25,7 +25,7 @@ module _ (p : LeftPublics) (gone : List ℕ) where
   left_of before t = recs_left t (left_after p gone before t.contents)
 
   -- What each record gives is what it gives to the whole.
-  all-left : {A : Type 0} (f g : Rec → List A) → ((before : List Rec) (t : Rec) → flat_map f (left_of before t) ≡ g t) → (before m : List Rec) → flat_map f (with_before left_of before m) ≡ flat_map g m
+  pub all-left : {A : Type 0} (f g : Rec → List A) → ((before : List Rec) (t : Rec) → flat_map f (left_of before t) ≡ g t) → (before m : List Rec) → flat_map f (with_before left_of before m) ≡ flat_map g m
   all-left f g h before [] = refl
   all-left f g h before (t ∷ m) =
       flat_map-append f (left_of before t) (with_before left_of (before ++ t ∷ []) m) ∙ ap₂ (λ xs ys. xs ++ ys) (h before t) (all-left f g h (before ++ t ∷ []) m)

@@ -1,6 +1,7 @@
 pub mod Choice
 pub mod ChoiceLaws
 pub mod ChoiceRows
+pub mod Clashes
 pub mod Inner
 pub mod Reaching
 pub mod ReachingLaws

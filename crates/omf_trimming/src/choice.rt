@@ -3,6 +3,7 @@
 ghost use Rattle.std.specs.Prelude.{◌≡◌, IfOk, map};
 ghost use Rattle.omf_trimming.specs.Choice.{AreChosen, all_left_out};
 
+pub(crate) mod clashes;
 mod firsts;
 mod marked;
 mod parts;

@@ -1,7 +1,7 @@
 //! Trimming: accepted modules without the segments that a linker leaves out. These are COMDATs of which it takes another one, and debug information and code that nothing reaches.
 //!
 //! ```
-//! // The modules of a link, in its order, as `lowered_file` of omf_lowering gives them.
+//! // The modules of a link, in its order, as `lowered_file` of omf_lowered gives them.
 //! let modules = chosen(alloc, modules)?;
 //! // With all that a linker adds to them.
 //! let modules = trimmed(alloc, LeftOut { code: false, debug: true }, modules)?;
@@ -18,6 +18,7 @@ mod trimming;
 mod without;
 
 pub use choice::chosen;
+pub use choice::clashes::{Clash, clashes};
 pub use optional::{LeftOut, has_optional};
 pub use reaching::without_unreached;
 pub use trimming::trimmed;

@@ -2,9 +2,11 @@
 
 ghost use Rattle.std.specs.Prelude.{◌≡◌, ◌∷◌, ◌++◌, [], IfOk, OnOk, List, bytes_eq, flat_map};
 ghost use Rattle.std.specs.Cmp.Lexicographic.{pointwise};
-ghost use Rattle.omf_trimming.specs.Choice.{Marked as MarkedItem, agree, allows, is_left_out};
+ghost use Rattle.omf_trimming.specs.Choice.{Marked as MarkedItem, agree, allows, first_named, is_left_out};
+ghost use Rattle.omf_trimming.specs.Clashes.{clash_after, refused_after, refused_by};
 ghost use Rattle.omf_trimming.specs.Inner.Choosing.{AreFirsts, segment_if};
 
+use crate::choice::clashes::Clash;
 use crate::choice::marked::Marked;
 use crate::choice::parts::data_of;
 use omf_names::NameKey;
@@ -48,6 +50,23 @@ fn agree(alloc: Global, one: &Marked<'_>, other: &Marked<'_>) -> Result<bool, Al
         return Ok(true);
     }
     allows(alloc, other.selection, one, other)
+}
+
+/// The selection that does not let a linker take one of two instances for the other, if there is one.
+fn refused_by(
+    alloc: Global,
+    first: &Marked<'_>,
+    other: &Marked<'_>,
+) -> Result<Option<u8>, AllocError>
+    ensures { IfOk result (λ o. o ≡ refused_by first.now other.now) }
+{
+    if !allows(alloc, first.selection, first, other)? {
+        return Ok(Some(first.selection));
+    }
+    if !allows(alloc, other.selection, first, other)? {
+        return Ok(Some(other.selection));
+    }
+    Ok(None)
 }
 
 /// The first instance of each name.
@@ -104,6 +123,52 @@ impl<'a> Firsts<'a> {
             self.push_left_out(alloc, &mut gone, marked)?;
         }
         Ok(gone)
+    }
+
+    /// The selection that keeps an instance after these, if one of its name is among them.
+    fn refusal(&self, alloc: Global, marked: &Marked<'a>) -> Result<Option<u8>, AllocError>
+        ensures { (before : List MarkedItem) → AreFirsts self.now.by_name before → IfOk result (λ o. o ≡ refused_after (first_named before marked.now.name) marked.now) }
+    {
+        match self.by_name.get(&NameKey::of(marked.name)) {
+            Some(first) => refused_by(alloc, first, marked),
+            None => Ok(None),
+        }
+    }
+
+    /// Appends an instance of the module of a number, if a selection keeps it after these.
+    fn push_clash(
+        &self,
+        alloc: Global,
+        number: u32,
+        found: &mut Vec<Clash<'a>>,
+        marked: &Marked<'a>,
+    ) -> Result<(), AllocError>
+        ensures { (before : List MarkedItem) → AreFirsts self.now.by_name before → OnOk result (found.new.items ≡ found.old.items ++ clash_after number before marked.now) }
+    {
+        if let Some(selection) = self.refusal(alloc, marked)? {
+            found.push(Clash {
+                number,
+                name: marked.name,
+                selection,
+            })?;
+        }
+        Ok(())
+    }
+
+    /// Appends the instances of the module of a number that a selection keeps after these.
+    pub(crate) fn push_clashes(
+        &self,
+        alloc: Global,
+        number: u32,
+        found: &mut Vec<Clash<'a>>,
+        own: &[Marked<'a>],
+    ) -> Result<(), AllocError>
+        ensures { (before : List MarkedItem) → AreFirsts self.now.by_name before → OnOk result (found.new.items ≡ found.old.items ++ flat_map (clash_after number before) own.now) }
+    {
+        for marked in own {
+            self.push_clash(alloc, number, found, marked)?;
+        }
+        Ok(())
     }
 
     /// Adds an instance, unless there is one of its name.

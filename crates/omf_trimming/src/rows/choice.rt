@@ -7,6 +7,7 @@ ghost use Rattle.omf_frame.specs.Rows.{hex};
 ghost use Rattle.omf_trimming.specs.Choice.{instances, left_out};
 ghost use Rattle.omf_trimming.specs.Without.{without};
 ghost use Rattle.omf_trimming.specs.declared.without.LeftPublics.TheVariants.{AtStart, Gone};
+ghost use Rattle.omf_trimming.specs.Clashes.{clashes};
 ghost use Rattle.omf_trimming.specs.ChoiceRows.{exact_match, in_module, left_out_after, no_match, pick_any, same_size, with_mark, with_other_data, with_other_size};
 ghost use Rattle.omf_lowering.specs.Rows.{base, f_data, f_public, f_segment};
 
@@ -31,6 +32,14 @@ pub fn left_out_instances()
     ensures exact { left_out_after (with_mark exact_match) (with_mark exact_match) ≡ 2 ∷ [] }
     ensures other_data { left_out_after (with_mark exact_match) (with_other_data exact_match) ≡ [] }
     ensures other_size { left_out_after (with_mark pick_any) (with_other_size exact_match) ≡ [] }
+{}
+
+/// A second instance that is not left out: the selection of the first does not allow it, or else its own.
+pub fn clashes_of_modules()
+    ensures first { clashes (in_module (with_mark exact_match) ∷ in_module (with_other_data pick_any) ∷ []) ≡ record { number = 1; name = codes "f"; selection = 3 } ∷ [] }
+    ensures own { clashes (in_module (with_mark pick_any) ∷ in_module (with_mark no_match) ∷ []) ≡ record { number = 1; name = codes "f"; selection = 0 } ∷ [] }
+    ensures both { clashes (in_module (with_mark same_size) ∷ in_module (with_other_size exact_match) ∷ []) ≡ record { number = 1; name = codes "f"; selection = 2 } ∷ [] }
+    ensures none { clashes (in_module (with_mark pick_any) ∷ in_module (with_other_size pick_any) ∷ []) ≡ [] }
 {}
 
 /// What is left of a module: the SEGDEF with the length 0 and byte alignment, the mark, and the THREADs of the data; the rest is as it was.
