@@ -2,9 +2,8 @@
 use Rattle.std.specs.Prelude.{◌≡◌, ℕ, ◌*◌, List, map, Option, Some, None, Result, Ok, Err}
 use Rattle.omf_frame.specs.Fault.{reason_number}
 use Rattle.omf_check.specs.declared.profile.Profile.{Profile}
-use Rattle.omf_library.specs.Dictionary.{IsFirstEntry}
+use Rattle.omf_library.specs.Dictionary.{IsDictionary, IsFirstEntry}
 use Rattle.omf_library.specs.Library.{AreMembersIn, IsHeaderRead}
-use Rattle.omf_library.specs.Made.{IsDictionary}
 use Rattle.omf_library.specs.declared.dictionary.Dictionary.{Dictionary}
 use Rattle.omf_library.specs.declared.fault.LibraryFault.{LibraryFault}
 use Rattle.omf_library.specs.declared.fault.LibraryFault.TheVariants as fault

@@ -16,14 +16,14 @@ use Rattle.omf_placement.specs.Inner.Derived.{given_or, of_name, one_public}
 use Rattle.omf_layout.specs.declared.own.homes.Home.{Home}
 use Rattle.omf_layout.specs.Own.Claims.{Claim, all_claims, claims_in, communal_claim, module_claims, public_claim, record_claims}
 use Rattle.omf_layout.specs.Own.Communals.{are_grouped, communals, communals_records, far_publics, far_segment, fars, first_far, front_records, group_index, has_near, is_communal, is_in_group, module_of, name_of, near_group, near_publics, near_room, near_segment, nears, room, runs_in, shared_by}
-use Rattle.omf_layout.specs.Own.Order.{bss_names, bss_slots, data_names, data_slots, dos_slots, end_publics, has_claim, is_missing, missing, order_group, order_records, slot_records, slots, slots_records}
+use Rattle.omf_layout.specs.Own.Order.{bss_names, bss_slots, data_names, data_slots, dos_slots, end_publics, has_claim, is_missing, missing, order_group, order_records, raise_records, slot_records, slots, slots_records}
 use Rattle.omf_layout.specs.Own.Shared.{Shared}
-use Rattle.omf_layout.specs.Own.Written.{end_record, group_record, public_record, segment_record}
+use Rattle.omf_layout.specs.Own.Written.{end_record, group_record, public_record, raise_record, raisings, segment_record}
 use Rattle.omf_layout.specs.Several.Gathered.{distinct, names_in, value_of, of_name as claims_of}
 use Rattle.omf_layout.specs.Several.Portions.{Named}
 use Rattle.omf_layout.specs.declared.several.portion.Portion.{Portion}
 use Rattle.omf_layout.proofs.SeveralLaws.GatherLaws.{Name, Once, has, has-distinct, itself, once-distinct, other, same}
-use Rattle.omf_combining.specs.Classes.{class_order_records, leader_records, leaders, leaders_records}
+use Rattle.omf_combining.specs.Classes.{class_order_records, leader_records, leaders, leaders_records, raise_records as leader_raises}
 use Rattle.omf_combining.specs.Stack.{more_records}
 use Rattle.omf_drafting.specs.Laws.{HasBases}
 use Rattle.omf_exe.specs.Laws.{AddedDefineNewNames, CommunalsAreFound, HaveNone, IsCommunalOf}
@@ -412,6 +412,11 @@ module _ (ms : List (List Rec)) (name : Name) (claimed : has_claim (all_claims m
   each-quiet f g none more quiet j [] = ap seen (none j)
   each-quiet f g none more quiet j (x ∷ xs) = ap seen (more j x xs) ∙ seen-both (g j x) (f (j + 1) xs) (quiet j x) (each-quiet f g none more quiet (j + 1) xs)
 
+  raisings-seen : (i : ℕ) (bs : List Bool) → seen (raisings i bs) ≡ []
+  raisings-seen i [] = refl
+  raisings-seen i (true ∷ bs) = seen-both (raise_record i ∷ []) (raisings (i + 1) bs) refl (raisings-seen (i + 1) bs)
+  raisings-seen i (false ∷ bs) = raisings-seen (i + 1) bs
+
   group-seen : (b : Bool) (count : ℕ) → seen (order_group b count) ≡ []
   group-seen true count = refl
   group-seen false count = refl
@@ -464,12 +469,15 @@ module _ (ms : List (List Rec)) (name : Name) (claimed : has_claim (all_claims m
       let a = seen-both bss (end_record ∷ []) (missing-seen second bss_names) refl in
       let b = seen-both ends (bss ++ end_record ∷ []) (missing-seen first data_names) a in
       let c = seen-both (order_group grouped (length all)) (ends ++ (bss ++ end_record ∷ [])) (group-seen grouped (length all)) b in
-      seen-both (slots_records 0 all) (order_group grouped (length all) ++ (ends ++ (bss ++ end_record ∷ []))) (each-quiet slots_records slot_records (λ j. refl) (λ j s ss. refl) (λ j s. refl) 0 all) c
+      let last = order_group grouped (length all) ++ (ends ++ (bss ++ end_record ∷ [])) in
+      let d = seen-both (raise_records all) last (raisings-seen 1 (map (λ s. s.raised) all)) c in
+      seen-both (slots_records 0 all) (raise_records all ++ last) (each-quiet slots_records slot_records (λ j. refl) (λ j s ss. refl) (λ j s. refl) 0 all) d
 
   classes-seen : (classes : List Name) → seen (class_order_records classes ms) ≡ []
   classes-seen classes =
       let all = leaders ms classes in
-      seen-both (leaders_records 0 all) (end_record ∷ []) (each-quiet leaders_records leader_records (λ j. refl) (λ j s ss. refl) (λ j s. refl) 0 all) refl
+      let raises = seen-both (leader_raises all) (end_record ∷ []) (raisings-seen 1 (map (λ s. s.raised) all)) refl in
+      seen-both (leaders_records 0 all) (leader_raises all ++ end_record ∷ []) (each-quiet leaders_records leader_records (λ j. refl) (λ j s ss. refl) (λ j s. refl) 0 all) raises
 
   stack-seen : (last : Option Portion) (size : ℕ) → HaveNone name ((more_records ms last size, pl) ∷ [])
   stack-seen None size = refl

@@ -12,7 +12,7 @@ use Rattle.omf_output.specs.Exe.Moved.{Movers}
 use Rattle.omf_output.proofs.DerivingLaws.{movers-many}
 use Rattle.omf_exe.specs.Laws.{MapsShowPrograms, ShowsAddressesOf}
 use Rattle.omf_exe.specs.Program.{AreLaid, AreMade, IsMapOf, members_from, weak_of}
-use Rattle.omf_map.specs.Far.{program_map}
+use Rattle.omf_map.specs.Far.{IsProgramMap}
 use Rattle.omf_exe.proofs.ExeLaws.{laid-many, placements-many}
 
 -- As many placements and movers as modules: the members have each placement.
@@ -38,7 +38,7 @@ shown-of ms text members m a =
     let same : m.placements ≡ a.placements = cc in
     let placed = placements-many ms a.places a.placements (weak_of ms a.places) (laid-many ms a.places a.laid) a.derived in
     let moved = movers-many ms (placed_modules ms a.places) a.movers a.moving in
-    m.printed ∙ ap (program_map ms) (same ∙ sym (places-kept 0 ms a.placements a.movers placed moved) ∙ ap (λ (xs : List Member). map (λ (x : Member). x.places) xs) (sym a.numbered))
+    subst (λ (pls : List Places). IsProgramMap ms pls text) (same ∙ sym (places-kept 0 ms a.placements a.movers placed moved) ∙ ap (λ (xs : List Member). map (λ (x : Member). x.places) xs) (sym a.numbered)) m.printed
 
 pub maps-show-programs : MapsShowPrograms
 maps-show-programs ms text m = record { of_exe = λ most bytes has_stack p. shown-of ms text p.members m p.made; of_com = λ bytes p. shown-of ms text p.members m p.made }

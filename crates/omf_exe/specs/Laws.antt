@@ -22,7 +22,7 @@ use Rattle.omf_drafting.specs.Laws.{HasBases}
 use Rattle.omf_combining.specs.Classes.{class_order_records}
 use Rattle.omf_combining.specs.Stack.{more_records}
 use Rattle.omf_exe.specs.Program.{AreMade, IsComOf, IsMapOf, IsProgramOf}
-use Rattle.omf_map.specs.Far.{program_map}
+use Rattle.omf_map.specs.Far.{IsProgramMap}
 
 -- A name is that of a communal of modules: a COMDEF has it, and no PUBDEF.
 pub record IsCommunalOf (ms : List (List Rec)) (name : List ℕ) : Type 0 where
@@ -58,7 +58,7 @@ AddedDefineNewNames = (ms : List (List Rec)) (name : List ℕ) → has_claim (al
 
 -- A map shows the addresses of members of a program: it is that of their modules at the placements with which they are linked.
 abbrev pub ShowsAddressesOf : List Module → List Member → List ℕ → Type 0
-ShowsAddressesOf ms members text = text ≡ program_map ms (map (λ m. m.places) members)
+ShowsAddressesOf ms members text = IsProgramMap ms (map (λ m. m.places) members) text
 
 -- So does a map of modules for each program of them, an .EXE or a .COM file.
 pub record ShowsAddresses (ms : List Module) (text : List ℕ) : Type 0 where

@@ -7,7 +7,7 @@ use Rattle.omf_check.specs.Refusal.{IsRefused as IsModuleRefused}
 use Rattle.omf_frame.specs.declared.fault.Place.{Place}
 use Rattle.omf_frame.specs.Fault.{reason_number}
 use Rattle.omf_frame.specs.declared.fault.Reason.{Reason}
-use Rattle.omf_frame.specs.declared.fault.Reason.TheVariants.{FixupOnIterated, UnsupportedType}
+use Rattle.omf_frame.specs.declared.fault.Reason.TheVariants.{Alignment, FixupOnIterated, FrameMethod, TargetMethod, UnsupportedType}
 use Rattle.omf_image.specs.Limits.{profile_limits}
 use Rattle.omf_library.specs.LibraryMembers.{IsLibraryOf}
 use Rattle.omf_library.specs.declared.judged.LibraryMember.{LibraryMember}
@@ -16,10 +16,10 @@ use Rattle.omf_library.specs.declared.judged.RefusedMember.{RefusedMember}
 use Rattle.omf_linking.specs.Files.{IsFile}
 use Rattle.omf_linking.specs.declared.fault.LinkFault.{LinkFault}
 use Rattle.omf_linking.specs.declared.fault.LinkFault.TheVariants as link
-use Rattle.omf_lowering.specs.Files.{IsFileFault, IsLoweredFile}
-use Rattle.omf_lowering.specs.Lowering.{IsLowered, IsRefused}
-use Rattle.omf_lowering.specs.declared.fault.FileFault.{FileFault}
-use Rattle.omf_lowering.specs.declared.fault.FileFault.TheVariants as lowering
+use Rattle.omf_lowered.specs.Files.{IsFileFault, IsLoweredFile}
+use Rattle.omf_lowered.specs.Modules.{IsLoweredModule as IsModuleLowered, IsModuleRefused as IsModuleUnlowered}
+use Rattle.omf_lowered.specs.declared.fault.FileFault.{FileFault}
+use Rattle.omf_lowered.specs.declared.fault.FileFault.TheVariants as lowering
 use Rattle.omf_aliases.specs.Aliases.{any_profile}
 use Rattle.omf_exe.specs.declared.lowered.Unlowered.{Unlowered}
 use Rattle.omf_exe.specs.declared.lowered.Unlowered.TheVariants as unlowered
@@ -29,9 +29,11 @@ abbrev pub is_link_memory : LinkFault → Bool
 is_link_memory link.Memory = true
 is_link_memory _ = false
 
--- The reason is that a record's type is not supported, or that a fixup is of repeated data: what a lowering mends.
+-- What a lowering mends: a record type, a fixup of repeated data, an alignment of 6 or 7, a frame by number.
 abbrev pub is_mendable : Reason → Bool
-is_mendable why = (reason_number why == reason_number UnsupportedType) || (reason_number why == reason_number FixupOnIterated)
+is_mendable why =
+    let is : Reason → Bool = λ r. reason_number why == reason_number r in
+    (((is UnsupportedType || is FixupOnIterated) || is Alignment) || is FrameMethod) || is TargetMethod
 
 -- ---- files
 
@@ -88,14 +90,14 @@ IsUntaken bytes f = is_link_memory f ≡ false → (own : LinkFault) × (why : U
 pub record IsLoweredModule (bytes : List ℕ) (m : Module) : Type 0 where
   pub lowered : List ℕ
   pub rest : List ℕ
-  pub lowering : IsLowered bytes lowered rest
+  pub lowering : IsModuleLowered bytes lowered rest
   pub accepted : Decides any_profile lowered (Ok m)
 
 -- The lowering of the module that bytes begin with is refused.
 pub record IsLoweringRefused (bytes : List ℕ) : Type 0 where
   pub lowered : List ℕ
   pub rest : List ℕ
-  pub lowering : IsLowered bytes lowered rest
+  pub lowering : IsModuleLowered bytes lowered rest
   pub why : Reason
   pub at : Place
   pub refused : IsModuleRefused any_profile profile_limits lowered why at
@@ -106,7 +108,7 @@ with_fault r why at = if is_mendable r.reason then record { offset = r.offset; r
 
 -- A member that stays refused: its lowering is refused too; or it has none, and the fault shown is as for a file.
 abbrev pub IsStillRefused : List ℕ → RefusedMember → RefusedMember → Type 0
-IsStillRefused bytes r s = (IsLoweringRefused bytes × (s ≡ r)) ⊎ ((why : Reason) × (at : Place) × IsRefused bytes why at × (s ≡ with_fault r why at))
+IsStillRefused bytes r s = (IsLoweringRefused bytes × (s ≡ r)) ⊎ ((why : Reason) × (at : Place) × IsModuleUnlowered bytes why at × (s ≡ with_fault r why at))
 
 -- What a program takes of a member of a library: the member, or, if it is refused, its lowering, if it has one that is not.
 abbrev pub IsTakenOf : List ℕ → LibraryMember → LibraryMember → Type 0

@@ -22,10 +22,10 @@ use Rattle.omf_output.specs.Exe.Linked.{IsExeFault, exe_fault, linked, linked_at
 use Rattle.omf_output.specs.Exe.Loading.{loaded}
 use Rattle.omf_output.specs.Exe.Members.{Member, portions, stack}
 use Rattle.omf_output.specs.Exe.Moved.{Movers}
-use Rattle.omf_map.specs.Far.{program_map}
+use Rattle.omf_map.specs.Far.{IsProgramMap}
 use Rattle.omf_symbols.specs.Placed.{placed_symbols}
 use Rattle.omf_symbols.specs.Text.{symbols_text}
-use Rattle.omf_symbols.specs.declared.tool.Tool.{Tool}
+use Rattle.omf_host.specs.declared.tool.Tool.{Tool}
 use Rattle.omf_exe.specs.declared.fault.ComProgramFault.{ComProgramFault}
 use Rattle.omf_exe.specs.declared.input.Origin.{Origin}
 use Rattle.omf_exe.specs.declared.fault.ComProgramFault.TheVariants as no_com
@@ -117,7 +117,7 @@ pub record IsMapOf (ms : List Module) (text : List ℕ) : Type 0 where
   pub placements : List Places
   pub laid : AreLaid ms places
   pub derived : derived (placed_modules ms places) (weak_of ms places) ≡ Ok placements
-  pub printed : text ≡ program_map ms placements
+  pub printed : IsProgramMap ms placements text
 
 -- The symbols of a program for a tool that loads it at an address, by its modules at their placements.
 pub record AreSymbolsOf (tool : Tool) (load : ℕ) (ms : List Module) (text : List ℕ) : Type 0 where

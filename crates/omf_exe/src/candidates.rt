@@ -55,16 +55,3 @@ pub fn library_files(alloc: Global, name: &str) -> Result<Vec<String>, AllocErro
     files.push(upper_file)?;
     Ok(files)
 }
-
-/// Whether a file has the name of a library, or its name with `.lib`, where case does not count.
-pub fn is_named(file: &str, library: &str) -> bool {
-    if file.eq_ignore_ascii_case(library) {
-        return true;
-    }
-    match file.rsplit_once('.') {
-        Some((name, ending)) => {
-            name.eq_ignore_ascii_case(library) && ending.eq_ignore_ascii_case("lib")
-        }
-        None => false,
-    }
-}

@@ -29,7 +29,7 @@ mod sharing;
 mod with_communals;
 
 pub use asked::{Call, call_of};
-pub use candidates::{is_named, library_files};
+pub use candidates::library_files;
 pub use defaults::{missing_lines, sought};
 pub use fault::{ComProgramFault, PlacingFault, ProgramFault};
 pub use joining::{Joined, JoiningFault, join_needed};

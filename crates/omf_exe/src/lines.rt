@@ -8,6 +8,7 @@ ghost use Rattle.omf_exe.specs.Refusing.{AreTwiceLines, HaveNamesTwice};
 
 use crate::fault::{ComProgramFault, PlacingFault, ProgramFault};
 use crate::input::Origin;
+use crate::making::placements_of;
 use crate::ordering::OrderingFault;
 use crate::sharing::SharingFault;
 use omf_aliases::FollowingFault;
@@ -18,7 +19,9 @@ use omf_externals::{put_own, repeated_text, unresolved_text};
 use omf_frame::Place;
 use omf_layout::own::{CommunalReason, CommunalsFault, OrderFault};
 use omf_library::LibraryFault;
-use omf_lines::{Labeled, high_line, put_owner, put_part, put_stray, reach_line, starts_line};
+use omf_lines::{
+    Labeled, high_line, miss_of, put_owner, put_part, put_stray, reach_line, starts_line,
+};
 use omf_linking::InputFile;
 use omf_linking::locator::module_name;
 use omf_linking::space::Owner;
@@ -308,7 +311,28 @@ fn external_lines(
     }
 }
 
-/// The line of a module that does not reach. A location that is not in the frame of its target is one of a near reference into another frame.
+/// By how many bytes a reference of a module of a program does not fit; none if that is not known.
+fn miss_in(
+    alloc: Global,
+    modules: &[Checked],
+    module: u32,
+    place: Place,
+    cause: Cause,
+) -> Option<u64> {
+    let placements = placements_of(alloc, modules)?;
+    let number = module as usize;
+    miss_of(modules.get(number)?, placements.get(number)?, place, cause)
+}
+
+/// A line with the number of bytes that a reference misses by.
+fn with_miss(alloc: Global, line: &str, bytes: u64) -> Result<String, AllocError> {
+    let (front, _) = line.split_once('\n').unwrap_or((line, ""));
+    let mut text = String::new(alloc);
+    write!(text, "{front}, {bytes} bytes too far\n")?;
+    Ok(text)
+}
+
+/// The line of a module that does not reach, and by how much. A location that is not in the frame of its target is one of a near reference into another frame.
 fn far_line(
     alloc: Global,
     named: Labeled<'_>,
@@ -318,7 +342,7 @@ fn far_line(
     let ReachFault::TooFar {
         number,
         within,
-        cause: Cause::Location,
+        cause,
     } = fault
     else {
         return reach_line(alloc, named, module, fault);
@@ -328,9 +352,16 @@ fn far_line(
         start: 0,
         within,
     };
-    let mut text = String::new(alloc);
-    put_stray(&mut text, named, Stray { module, place })?;
-    Ok(text)
+    if matches!(cause, Cause::Location) {
+        let mut text = String::new(alloc);
+        put_stray(&mut text, named, Stray { module, place })?;
+        return Ok(text);
+    }
+    let line = reach_line(alloc, named, module, fault)?;
+    match miss_in(alloc, named.modules, module, place, cause) {
+        Some(bytes) => with_miss(alloc, &line, bytes),
+        None => Ok(line),
+    }
 }
 
 /// The line of a fault of the modules at their placements.

@@ -3,7 +3,7 @@
 ghost use Rattle.std.specs.Prelude.{◌≡◌, IfErr, IfNone, IfOk, IfSome, drop};
 ghost use Rattle.std.specs.List.{AllZip};
 ghost use Rattle.omf_library.specs.declared.judged.LibraryMember.TheVariants.{Refused};
-ghost use Rattle.omf_lowering.specs.Lowering.{IsLoweringFault};
+ghost use Rattle.omf_lowered.specs.Modules.{IsModuleFault};
 ghost use Rattle.omf_exe.specs.Lowered.{AreOfLowered, AreTaken, IsLoweredModule, IsLoweringRefused, IsTakenOf, IsUnlowered, IsUntaken, is_mendable, is_mendable_fault, shown, with_fault, with_lowering};
 
 use crate::memory::is_link_memory;
@@ -12,7 +12,7 @@ use omf_check::{CheckFault, Checked, check};
 use omf_frame::{Bytes, Place, Reason};
 use omf_library::{LibraryMember, RefusedMember};
 use omf_linking::{LinkFault, file_modules};
-use omf_lowering::{FileFault, LoweringFault, lowered, lowered_file};
+use omf_lowered::{FileFault, LoweringFault, lowered_file, lowered_module};
 use std::alloc::{AllocError, Global};
 
 /// Why the lowering of a file gives no modules.
@@ -26,12 +26,15 @@ pub(crate) enum Unlowered {
     Refused,
 }
 
-/// Whether the reason is that a record's type is not supported, or that a fixup is of repeated data: what a lowering mends.
+/// Whether a lowering may mend what a module is refused for: a record type, a fixup of repeated data, an alignment of 6 or 7, a frame by number.
 fn is_mendable(reason: Reason) -> bool
     ensures { result ≡ is_mendable reason }
 {
     reason.number() == Reason::UnsupportedType.number()
         || reason.number() == Reason::FixupOnIterated.number()
+        || reason.number() == Reason::Alignment.number()
+        || reason.number() == Reason::FrameMethod.number()
+        || reason.number() == Reason::TargetMethod.number()
 }
 
 /// Whether a fault is one that a lowering mends.
@@ -135,13 +138,13 @@ pub(crate) fn taken_modules(alloc: Global, bytes: &[u8]) -> Result<Vec<Checked>,
 ///
 /// # Errors
 ///
-/// The fault of `lowered`; `Memory` if memory runs out.
-fn lowered_module(alloc: Global, bytes: &[u8]) -> Result<Option<Checked>, LoweringFault>
+/// The fault of `lowered_module`; `Memory` if memory runs out.
+fn lowering_of(alloc: Global, bytes: &[u8]) -> Result<Option<Checked>, LoweringFault>
     ensures some { IfOk result (λ found. IfSome found (IsLoweredModule bytes.now)) }
     ensures none { IfOk result (λ found. IfNone found (IsLoweringRefused bytes.now)) }
-    ensures fault { IfErr result (IsLoweringFault bytes.now) }
+    ensures fault { IfErr result (IsModuleFault bytes.now) }
 {
-    let lower = match lowered(alloc, bytes) {
+    let lower = match lowered_module(alloc, bytes) {
         Ok(lower) => lower,
         Err(fault) => return Err(fault),
     };
@@ -190,7 +193,7 @@ fn taken_of_refused(
 ) -> Result<LibraryMember, AllocError>
     ensures { IfOk result (IsTakenOf bytes.now (Refused refused)) }
 {
-    match lowered_module(alloc, bytes_from(bytes, refused.offset)) {
+    match lowering_of(alloc, bytes_from(bytes, refused.offset)) {
         Ok(Some(module)) => Ok(LibraryMember::Module(module)),
         Ok(None) => Ok(LibraryMember::Refused(refused)),
         Err(LoweringFault::Memory) => Err(AllocError),

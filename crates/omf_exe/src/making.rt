@@ -88,6 +88,16 @@ fn place_and_settle(
     }
 }
 
+/// The placements of modules from address 0 on; none if they have none, or if memory runs out.
+pub(crate) fn placements_of(alloc: Global, modules: &[Checked]) -> Option<Vec<Placement>> {
+    if modules.len() > u32::MAX as usize {
+        return None;
+    }
+    let linkage = Linkage::of(alloc, modules).ok()?;
+    let settled = place_and_settle(alloc, &linkage, modules).ok()?;
+    Some(settled.placements)
+}
+
 /// The members of the program.
 fn members_of<'a>(
     alloc: Global,

@@ -3,8 +3,7 @@
 ghost use Rattle.std.specs.Prelude.{◌≡◌};
 ghost use Rattle.omf_exe.specs.Making.{maximum};
 
-use crate::candidates::is_named;
-use omf_host::amount;
+use omf_host::{amount, is_named};
 use omf_symbols::{Tool, tool_named};
 use omf_trimming::LeftOut;
 use std::alloc::{AllocError, Global};

@@ -18,7 +18,9 @@ use Rattle.omf_cmd.specs.FaultLine.{cause_name, fault_line as run_line}
 use Rattle.omf_cmd.specs.declared.fault.RunFault.TheVariants as run
 use Rattle.omf_lines.specs.TextLines.{text_lines}
 use Rattle.omf_externals.specs.Unresolved.{AreLines, label_of}
+use Rattle.omf_lines.specs.declared.lines.Aim.{Aim}
 use Rattle.omf_lines.specs.declared.spot.Spot.{Spot}
+use Rattle.omf_lines.specs.declared.spot.Target.{Target}
 
 -- ---- parts of lines
 
@@ -44,6 +46,25 @@ abbrev pub spot_text : List (List Rec) → ℕ → Option Spot → ℕ → List 
 spot_text ms j None number = codes " record " ++ decimal number
 spot_text ms j (Some s) number = segment_text ms j s.segment ++ codes " offset " ++ hex 8 s.offset
 
+-- An entry of a module that a reference is to: an external by its name, a segment or a group by its name or, if it has none, its index.
+abbrev pub entry_text : List (List Rec) → ℕ → Kind → ℕ → List ℕ
+entry_text ms j kinds.External i = after_space (name_at ms j kinds.External i)
+entry_text ms j kinds.Segment i = segment_text ms j i
+entry_text ms j kinds.Group i = codes " group " ++ unwrap_or (option_map quoted (name_at ms j kinds.Group i)) (decimal i)
+
+abbrev pub to_text : List (List Rec) → ℕ → Option Target → List ℕ
+to_text ms j None = []
+to_text ms j (Some t) = entry_text ms j t.kind t.index
+
+-- The segment of the public that an external is at.
+abbrev pub in_text : List (List Rec) → Option Owner → List ℕ
+in_text ms None = []
+in_text ms (Some o) = codes " in" ++ segment_text ms o.«module» o.segment
+
+-- What a reference is to.
+abbrev pub target_text : List (List Rec) → ℕ → Option Target → Option Owner → List ℕ
+target_text ms j to into = to_text ms j to ++ in_text ms into
+
 -- ---- lines
 
 -- An external whose address is too high.
@@ -64,13 +85,13 @@ abbrev pub reach_text : List (List Rec) → ℕ → ReachFault → List ℕ
 reach_text ms j (reach.Missing kind i) = missing_text ms j kind i
 reach_text ms j f = 32 ∷ run_line (run.Reach f)
 
--- A reference that does not fit its location: where it is, why, and the name of the external that it is to.
-abbrev pub far_line : List (List ℕ) → List (List Rec) → ℕ → ℕ → Cause → Option Spot → Option (List ℕ) → List ℕ
-far_line labels ms j number cause s to = label_of labels j ++ spot_text ms j s number ++ codes ": TooFar " ++ cause_name cause ++ after_space to ++ 10 ∷ []
+-- A reference that does not fit its location: where it is, why, what it is to, and the segment of an external's public.
+abbrev pub far_line : List (List ℕ) → List (List Rec) → ℕ → ℕ → Cause → Aim → List ℕ
+far_line labels ms j number cause a = label_of labels j ++ spot_text ms j a.spot number ++ codes ": TooFar " ++ cause_name cause ++ target_text ms j a.to a.into ++ 10 ∷ []
 
--- A fault of a module's placement. Of a reference this leaves open which offset and which external the line names.
+-- A fault of a module's placement. Of a reference this leaves open which offset, target and segment the line names.
 abbrev pub IsReachLine : List (List ℕ) → List (List Rec) → ℕ → ReachFault → List ℕ → Type 0
-IsReachLine labels ms j (reach.TooFar number within cause) line = (s : Option Spot) × (to : Option (List ℕ)) × (line ≡ far_line labels ms j number cause s to)
+IsReachLine labels ms j (reach.TooFar number within cause) line = (a : Aim) × (line ≡ far_line labels ms j number cause a)
 IsReachLine labels ms j f line = line ≡ label_of labels j ++ reach_text ms j f ++ 10 ∷ []
 
 -- What is before the line of a fault of a module's placement: the lines of names, if a text has no line for a segment or no frame for a group. A name is

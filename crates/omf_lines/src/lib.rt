@@ -6,6 +6,7 @@ mod fault;
 mod files;
 mod files_fault;
 mod lines;
+mod miss;
 mod naming;
 mod near;
 mod printed;
@@ -21,5 +22,6 @@ pub use lines::{
     Labeled, beyond_line, high_line, name_at, outside_line, overlap_line, put_owner, put_part,
     put_segment, put_stray, reach_line, starts_line,
 };
+pub use miss::miss_of;
 pub use naming::named;
 pub use text_fault::TextFault;

@@ -6,11 +6,12 @@ ghost use Rattle.omf_frame.specs.Bytes.{AddsText};
 ghost use Rattle.omf_placement.specs.Quoted.{hex};
 ghost use Rattle.omf_cmd.specs.FaultLine.{cause_name, fault_line as run_line};
 ghost use Rattle.omf_cmd.specs.declared.fault.RunFault.TheVariants.{Reach};
+ghost use Rattle.omf_reloc.specs.declared.fault.Kind.TheVariants.{Group};
 ghost use Rattle.omf_externals.specs.Unresolved.{label_of};
-ghost use Rattle.omf_lines.specs.Named.{IsReachLine, after_space, beyond_line, far_line, high_line, missing_front, missing_text, name_at, outside_front, outside_line, overlap_line, owner_text, segment_text, spot_text, starts_line};
-ghost use Rattle.omf_lines.specs.Strays.{AddsNear, in_text, near_line, target_text};
+ghost use Rattle.omf_lines.specs.Named.{IsReachLine, after_space, beyond_line, entry_text, far_line, high_line, in_text, missing_front, missing_text, name_at, outside_front, outside_line, overlap_line, owner_text, segment_text, spot_text, starts_line, target_text, to_text};
+ghost use Rattle.omf_lines.specs.Strays.{AddsNear, near_line};
 
-use crate::spot::{Spot, external_at, public_of, spot_of};
+use crate::spot::{Spot, Target, public_of, spot_of, target_at};
 use omf_check::Checked;
 use omf_cmd::{RunFault, fault_line};
 use omf_externals::{print_digits, put_own};
@@ -125,7 +126,66 @@ pub fn put_part(
     text.push_str(what)
 }
 
-/// Appends the segment that a near reference is into; nothing for none.
+/// Where a reference is, and what it is to.
+#[derive(Drop)]
+struct Aim {
+    /// Where its data is; none for a start.
+    spot: Option<Spot>,
+    /// What it is to.
+    to: Option<Target>,
+    /// The segment of the public that its external is at, if there is one.
+    into: Option<Owner>,
+}
+
+/// The reference at a place of a module.
+fn aim_at(modules: &[Checked], number: u32, place: Place) -> Aim {
+    match modules.get(number as usize) {
+        Some(module) => Aim {
+            spot: spot_of(module, place),
+            to: target_at(module, place),
+            into: public_of(modules, number, place),
+        },
+        None => Aim {
+            spot: None,
+            to: None,
+            into: None,
+        },
+    }
+}
+
+/// Appends a group of a module: its name, or its index if it has none.
+fn put_group(
+    text: &mut String,
+    modules: &[Checked],
+    module: u32,
+    group: u16,
+) -> Result<(), AllocError>
+    ensures { AddsText result (string_bytes text.old) (string_bytes text.new) (entry_text (typed_modules modules.now) «module» Group group) }
+{
+    text.push_str(" group ")?;
+    match name_at(modules, module, Kind::Group, group) {
+        Some(name) => print_quoted(text, name.0),
+        None => write!(text, "{group}"),
+    }
+}
+
+/// Appends an entry of a module that a reference is to: an external by its name; a segment or a group by its name, or its index if it has none.
+fn put_entry(
+    text: &mut String,
+    modules: &[Checked],
+    module: u32,
+    to: Target,
+) -> Result<(), AllocError>
+    ensures { AddsText result (string_bytes text.old) (string_bytes text.new) (entry_text (typed_modules modules.now) «module» to.kind to.index) }
+{
+    match to.kind {
+        Kind::External => put_after(text, name_at(modules, module, Kind::External, to.index)),
+        Kind::Segment => put_segment(text, modules, module, to.index),
+        Kind::Group => put_group(text, modules, module, to.index),
+    }
+}
+
+/// Appends the segment of the public that an external is at; nothing for none.
 fn put_into(text: &mut String, modules: &[Checked], into: Option<Owner>) -> Result<(), AllocError>
     ensures { AddsText result (string_bytes text.old) (string_bytes text.new) (in_text (typed_modules modules.now) into) }
 {
@@ -138,48 +198,18 @@ fn put_into(text: &mut String, modules: &[Checked], into: Option<Owner>) -> Resu
     }
 }
 
-/// Appends the external that a near reference is to, and the segment of its public.
-fn put_target(
+/// Appends what a reference of a module is to; nothing for none.
+fn put_to(
     text: &mut String,
     modules: &[Checked],
-    to: Option<Name<'_>>,
-    into: Option<Owner>,
+    module: u32,
+    to: Option<Target>,
 ) -> Result<(), AllocError>
-    ensures { AddsText result (string_bytes text.old) (string_bytes text.new) (target_text (typed_modules modules.now) to.entry into) }
+    ensures { AddsText result (string_bytes text.old) (string_bytes text.new) (to_text (typed_modules modules.now) «module» to) }
 {
     match to {
-        Some(name) => {
-            put_after(text, Some(name))?;
-            put_into(text, modules, into)
-        }
-        None => text.push_str(" its target"),
-    }
-}
-
-/// A near reference into another frame.
-#[derive(Drop)]
-struct NearSpot<'a> {
-    /// Where its data is; none for a start.
-    spot: Option<Spot>,
-    /// The name of the external that it is to, if it is to one.
-    to: Option<Name<'a>>,
-    /// The segment of that one's public, if there is one.
-    into: Option<Owner>,
-}
-
-/// The near reference at a place of a module.
-fn near_at(modules: &[Checked], stray: Stray) -> NearSpot<'_> {
-    match modules.get(stray.module as usize) {
-        Some(module) => NearSpot {
-            spot: spot_of(module, stray.place),
-            to: external_at(module, stray.place),
-            into: public_of(modules, stray.module, stray.place),
-        },
-        None => NearSpot {
-            spot: None,
-            to: None,
-            into: None,
-        },
+        Some(to) => put_entry(text, modules, module, to),
+        None => Ok(()),
     }
 }
 
@@ -198,39 +228,54 @@ fn put_near_spot(
     text.push_str(":")
 }
 
+/// Appends what a reference of a module is to, and the segment of the public that its external is at.
+fn put_target(
+    text: &mut String,
+    modules: &[Checked],
+    module: u32,
+    to: Option<Target>,
+    into: Option<Owner>,
+) -> Result<(), AllocError>
+    ensures { AddsText result (string_bytes text.old) (string_bytes text.new) (target_text (typed_modules modules.now) «module» to into) }
+{
+    put_to(text, modules, module, to)?;
+    put_into(text, modules, into)
+}
+
 /// Appends what a near reference into another frame is to.
 fn put_near_target(
     text: &mut String,
     modules: &[Checked],
-    to: Option<Name<'_>>,
+    module: u32,
+    to: Option<Target>,
     into: Option<Owner>,
 ) -> Result<(), AllocError>
-    ensures { AddsText result (string_bytes text.old) (string_bytes text.new) (target_text (typed_modules modules.now) to.entry into ++ codes " is in another frame" ++ 10 ∷ []) }
+    ensures { AddsText result (string_bytes text.old) (string_bytes text.new) (target_text (typed_modules modules.now) «module» to into ++ codes " is in another frame" ++ 10 ∷ []) }
 {
-    put_target(text, modules, to, into)?;
+    put_target(text, modules, module, to, into)?;
     text.push_str(" is in another frame")?;
     text.push_str("\n")
 }
 
 /// Appends the line of this near reference into another frame.
-fn put_near(
-    text: &mut String,
-    named: Labeled<'_>,
-    stray: Stray,
-    near: NearSpot<'_>,
-) -> Result<(), AllocError>
-    ensures { AddsText result (string_bytes text.old) (string_bytes text.new) (near_line (map string_bytes named.entry.labels.now) (typed_modules named.entry.modules.now) stray.«module» stray.place.number near.entry.spot near.entry.to near.entry.into) }
+fn put_near(text: &mut String, named: Labeled<'_>, stray: Stray, aim: Aim) -> Result<(), AllocError>
+    ensures { AddsText result (string_bytes text.old) (string_bytes text.new) (near_line (map string_bytes named.entry.labels.now) (typed_modules named.entry.modules.now) stray.«module» stray.place.number aim) }
 {
-    let NearSpot { spot, to, into } = near;
+    let Aim { spot, to, into } = aim;
     put_near_spot(text, named, stray, spot)?;
-    put_near_target(text, named.modules, to, into)
+    put_near_target(text, named.modules, stray.module, to, into)
 }
 
 /// Appends the line of a near reference into another frame.
 pub fn put_stray(text: &mut String, named: Labeled<'_>, stray: Stray) -> Result<(), AllocError>
     ensures { AddsNear result (map string_bytes named.entry.labels.now) (typed_modules named.entry.modules.now) stray (string_bytes text.old) (string_bytes text.new) }
 {
-    put_near(text, named, stray, near_at(named.modules, stray))
+    put_near(
+        text,
+        named,
+        stray,
+        aim_at(named.modules, stray.module, stray.place),
+    )
 }
 
 /// The line of an external whose address is too high.
@@ -312,17 +357,27 @@ fn cause_name(cause: Cause) -> &'static str
     }
 }
 
-/// A reference that does not fit its location.
-#[derive(Drop)]
-struct Far<'a> {
-    /// The number of its record, from 0.
-    number: u32,
-    /// Why it does not fit.
-    cause: Cause,
-    /// Where its data is; none for a start.
+/// Appends where a reference that does not fit its location is, and why it does not.
+fn put_far(
+    text: &mut String,
+    named: Labeled<'_>,
+    module: u32,
+    far: Far,
     spot: Option<Spot>,
-    /// The name of the external that it is to, if it is to one.
-    to: Option<Name<'a>>,
+) -> Result<(), AllocError>
+    ensures { AddsText result (string_bytes text.old) (string_bytes text.new) (label_of (map string_bytes named.entry.labels.now) «module» ++ spot_text (typed_modules named.entry.modules.now) «module» spot far.number ++ codes ": TooFar " ++ cause_name far.cause) }
+{
+    put_own(text, named.labels, module)?;
+    put_spot(text, named.modules, module, spot, far.number)?;
+    text.push_str(": TooFar ")?;
+    text.push_str(cause_name(far.cause))
+}
+
+/// The record, from 0, of a reference that does not fit its location, and why it does not.
+#[derive(Clone, Copy)]
+struct Far {
+    number: u32,
+    cause: Cause,
 }
 
 /// The line of a reference that does not fit its location.
@@ -330,40 +385,17 @@ fn far_line(
     alloc: Global,
     named: Labeled<'_>,
     module: u32,
-    far: Far<'_>,
+    far: Far,
+    aim: Aim,
 ) -> Result<String, AllocError>
-    ensures { IfOk result (λ line. string_bytes line ≡ far_line (map string_bytes named.entry.labels.now) (typed_modules named.entry.modules.now) «module» far.entry.number far.entry.cause far.entry.spot far.entry.to) }
+    ensures { IfOk result (λ line. string_bytes line ≡ far_line (map string_bytes named.entry.labels.now) (typed_modules named.entry.modules.now) «module» far.number far.cause aim) }
 {
+    let Aim { spot, to, into } = aim;
     let mut line = String::new(alloc);
-    put_own(&mut line, named.labels, module)?;
-    put_spot(&mut line, named.modules, module, far.spot, far.number)?;
-    line.push_str(": TooFar ")?;
-    line.push_str(cause_name(far.cause))?;
-    put_after(&mut line, far.to)?;
+    put_far(&mut line, named, module, far, spot)?;
+    put_target(&mut line, named.modules, module, to, into)?;
     line.push_str("\n")?;
     Ok(line)
-}
-
-/// The reference at a place of a module.
-fn far_at(modules: &[Checked], module: u32, place: Place, cause: Cause) -> Far<'_>
-    ensures number { result.number ≡ place.number }
-    ensures cause { result.cause ≡ cause }
-{
-    let number = place.number;
-    match modules.get(module as usize) {
-        Some(module) => Far {
-            number,
-            cause,
-            spot: spot_of(module, place),
-            to: external_at(module, place),
-        },
-        None => Far {
-            number,
-            cause,
-            spot: None,
-            to: None,
-        },
-    }
 }
 
 /// The line of a fault of a module's placement.
@@ -389,8 +421,8 @@ pub fn reach_line(
                 start: 0,
                 within,
             };
-            let far = far_at(named.modules, module, place, cause);
-            far_line(alloc, named, module, far)
+            let aim = aim_at(named.modules, module, place);
+            far_line(alloc, named, module, Far { number, cause }, aim)
         }
     }
 }

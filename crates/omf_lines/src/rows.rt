@@ -12,7 +12,8 @@ ghost use Rattle.omf_linking.specs.declared.locator.fault.LineFault.TheVariants 
 ghost use Rattle.omf_lines.specs.Near.{near_name};
 ghost use Rattle.omf_lines.specs.TextLines.{text_lines};
 ghost use Rattle.omf_lines.specs.Named.{beyond_line, far_line, high_line, outside_line, overlap_line, starts_line};
-ghost use Rattle.omf_lines.specs.Rows.{line_of, one_label, reach_shown, segment_of, spot_of, two_modules};
+ghost use Rattle.omf_lines.specs.Rows.{aim_of, entry_of, line_of, one_label, reach_shown, segment_of, spot_of, two_modules};
+ghost use Rattle.omf_lines.specs.Strays.{near_line};
 
 /// Near names: the first that differs in case, in what compilers put around names, or by one edit.
 pub fn near_names()
@@ -65,8 +66,10 @@ pub fn lines_by_names()
     ensures missing { reach_shown 1 (reach.Missing kind.Segment 1) ≡ codes "module 2: no line for segment 1 \"T\"\n" }
     ensures no_frame { reach_shown 0 (reach.Missing kind.Group 3) ≡ codes "file \"a.obj\" module 1: no frame for group 3\n" }
     ensures absolute { reach_shown 1 (reach.Absolute 2) ≡ codes "module 2 reach 3 Absolute 2\n" }
-    ensures far { far_line one_label two_modules 0 4 cause.Distance (Some (spot_of 1 8)) (Some (codes "X")) ≡ codes "file \"a.obj\" module 1 segment \"T\" offset 00000008: TooFar Distance \"X\"\n" }
-    ensures start { far_line one_label two_modules 1 6 cause.Target None None ≡ codes "module 2 record 6: TooFar Target\n" }
+    ensures far { far_line one_label two_modules 0 4 cause.Distance (aim_of (Some (spot_of 1 8)) (Some (entry_of kind.External 1)) (Some (segment_of 1 1))) ≡ codes "file \"a.obj\" module 1 segment \"T\" offset 00000008: TooFar Distance \"X\" in segment \"T\"\n" }
+    ensures local { far_line one_label two_modules 0 4 cause.Target (aim_of (Some (spot_of 1 8)) (Some (entry_of kind.Segment 1)) None) ≡ codes "file \"a.obj\" module 1 segment \"T\" offset 00000008: TooFar Target segment \"T\"\n" }
+    ensures grouped { far_line one_label two_modules 1 6 cause.Target (aim_of None (Some (entry_of kind.Group 2)) None) ≡ codes "module 2 record 6: TooFar Target group 2\n" }
+    ensures near { near_line one_label two_modules 0 4 (aim_of (Some (spot_of 1 1)) (Some (entry_of kind.External 1)) (Some (segment_of 1 1))) ≡ codes "near: file \"a.obj\" module 1 segment \"T\" offset 00000001: \"X\" in segment \"T\" is in another frame\n" }
     ensures starts { starts_line one_label 0 1 ≡ codes "two starts: file \"a.obj\" module 1 and module 2\n" }
     ensures beyond { beyond_line one_label two_modules (segment_of 1 1) ≡ codes "module 2 segment \"T\": beyond the last address\n" }
     ensures overlap { overlap_line one_label two_modules 0x10020 (segment_of 0 1) (segment_of 1 7) ≡ codes "file \"a.obj\" module 1 segment \"T\" overlaps module 2 segment 7 at 00010020\n" }

@@ -1,10 +1,10 @@
 //! Parts of modules as a person finds them: a segment by its name, and an offset in it.
 
 use omf_check::{Checked, Data, Undecoded};
-use omf_frame::{Name, Place};
+use omf_frame::Place;
 use omf_linking::space::Owner;
-use omf_records::{Items, Kind, Public};
-use omf_reloc::{Piece, PlainReference, pieces_of};
+use omf_records::{Items, Kind as TargetKind, Public};
+use omf_reloc::{Kind, Piece, PlainReference, pieces_of};
 
 /// Where a part of a module is: the index of the segment of its data, and its offset there.
 #[derive(Clone, Copy)]
@@ -69,42 +69,57 @@ pub(crate) fn spot_of(module: &Checked, place: Place) -> Option<Spot> {
     None
 }
 
-/// The index of the external that a reference is to; none if it is to none.
-fn target_of(reference: &PlainReference) -> Option<u16> {
-    match reference.target.kind {
-        Kind::External => Some(reference.target.index.0),
-        Kind::Segment => None,
-        Kind::Group => None,
+/// What a reference is to: an entry of a table of its module.
+#[derive(Clone, Copy)]
+pub(crate) struct Target {
+    pub(crate) kind: Kind,
+    pub(crate) index: u16,
+}
+
+/// What a reference is to.
+fn target_of(reference: &PlainReference) -> Target {
+    let kind = match reference.target.kind {
+        TargetKind::Segment => Kind::Segment,
+        TargetKind::Group => Kind::Group,
+        TargetKind::External => Kind::External,
+    };
+    Target {
+        kind,
+        index: reference.target.index.0,
     }
 }
 
-/// The index of the external that a piece, a fixup or a start, refers to; none if it refers to none.
-fn external_of(piece: &Piece<'_>) -> Option<u16> {
+/// What a piece, a fixup or a start, refers to; none for any other piece.
+fn target_in(piece: &Piece<'_>) -> Option<Target> {
     match piece {
         Piece::Kept(_) => None,
-        Piece::Fixed { fixup, .. } => target_of(&fixup.reference),
+        Piece::Fixed { fixup, .. } => Some(target_of(&fixup.reference)),
         Piece::End {
             start: Some(start),
             ..
-        } => target_of(start),
+        } => Some(target_of(start)),
         Piece::End { start: None, .. } => None,
     }
 }
 
-/// The index of the external that the fixup or the start at a place of a module refers to; none if it refers to none.
-fn index_at(module: &Checked, place: Place) -> Option<u16> {
+/// What the fixup or the start at a place of a module refers to; none if there is none.
+pub(crate) fn target_at(module: &Checked, place: Place) -> Option<Target> {
     for (here, piece) in pieces_of(module) {
         if here.number == place.number && here.within == place.within {
-            return external_of(&piece);
+            return target_in(&piece);
         }
     }
     None
 }
 
-/// The name of the external that the fixup or the start at a place of a module refers to; none if it refers to none.
-pub(crate) fn external_at(module: &Checked, place: Place) -> Option<Name<'_>> {
-    let index = index_at(module, place)?;
-    module.external(index)
+/// The index of the external that the fixup or the start at a place of a module refers to; none if it refers to none.
+fn external_at(module: &Checked, place: Place) -> Option<u16> {
+    let target = target_at(module, place)?;
+    match target.kind {
+        Kind::External => Some(target.index),
+        Kind::Segment => None,
+        Kind::Group => None,
+    }
 }
 
 /// Whether one of these publics has a name.
@@ -145,7 +160,7 @@ fn shared_segment(modules: &[Checked], name: &[u8]) -> Option<Owner> {
 /// The module and the segment of the public to which the fixup or the start at a place of a module refers; none if it refers to none.
 pub(crate) fn public_of(modules: &[Checked], number: u32, place: Place) -> Option<Owner> {
     let module = modules.get(number as usize)?;
-    let index = index_at(module, place)?;
+    let index = external_at(module, place)?;
     let name = module.external(index)?;
     if !module.local(index).unwrap_or(false) {
         return shared_segment(modules, name.0);

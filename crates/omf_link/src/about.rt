@@ -89,10 +89,11 @@ pub(crate) const ABOUT: About = About {
                            default for other modules, with selector 0
 
 Numbers are hexadecimal, but for BYTES: 1000, 0x1000 and 1000H are one, and so
-are --base 1000 and --base=1000. @FILE is the words of a file, and -- ends the
-options.
+are --base 1000 and --base=1000, or -L DIR and -LDIR. @FILE is the words of a
+file, and -- ends the options.
 
-The name of a module's file may lack .obj. Where a file is -, omf-link reads the
+The name of a module's file may lack .obj, and for exe and com it may be in
+another case than the file's own. Where a file is -, omf-link reads the
 standard input; without files also, but for exe and com. omf-link(1),
 docs/DOS.md and docs/ADDRESSES.md show examples, and explain each line that is
 printed.

@@ -1,5 +1,6 @@
 //! The folders in which files and libraries are looked for: the current one, those of the options, and those of the variable LIB.
 
+use crate::listing::{Folder, Listings};
 use omf_exe::ExeOptions;
 use omf_host::with_ending;
 use std::alloc::AllocError;
@@ -8,6 +9,9 @@ use std::env::VarError;
 
 /// The endings of the names of files that may be left out, after the name as it is.
 const ENDINGS: [&str; 5] = ["", ".obj", ".lib", ".OBJ", ".LIB"];
+
+/// The same where case does not count.
+const CASELESS: [&str; 3] = ["", ".obj", ".lib"];
 
 /// The folders of a search.
 #[derive(Drop)]
@@ -53,22 +57,52 @@ impl Folders {
         self.fronts.as_slice()
     }
 
+    /// The folders in which an argument is looked for: with a `/` in it, only the current one.
+    fn searched(&self, name: &str) -> &[String] {
+        if name.contains('/') {
+            self.fronts().get(..1).unwrap_or(&[])
+        } else {
+            self.fronts()
+        }
+    }
+
+    /// The file that an argument names in another case: the only one in its folder, in the first folder that has one.
+    fn in_other_case(
+        &self,
+        rt: &HostRuntime,
+        listings: &mut Listings,
+        name: &str,
+    ) -> Result<Option<String>, AllocError> {
+        for (number, front) in self.searched(name).iter().enumerate() {
+            let front = front.as_str();
+            let folder = Folder { number, front };
+            if let Some(path) = listings.only(rt, folder, name, &CASELESS)? {
+                return Ok(Some(path));
+            }
+        }
+        Ok(None)
+    }
+
     /// The file that an argument names: its name, with `.obj` or `.lib` after it where there is no file of the name alone, in the first folder
-    /// that has one. The argument itself, if there is none; a name with a `/` is not looked for in other folders.
-    pub(crate) fn file(&self, rt: &HostRuntime, name: &str) -> Result<String, AllocError> {
-        let mut fronts = self.fronts();
+    /// that has one; where none has one, in another case. The argument itself, if there is none.
+    fn file(
+        &self,
+        rt: &HostRuntime,
+        listings: &mut Listings,
+        name: &str,
+    ) -> Result<String, AllocError> {
         if name == "-" {
             return String::from_str(rt.alloc(), name);
         }
-        if name.contains('/') {
-            fronts = fronts.get(..1).unwrap_or(&[]);
-        }
-        for front in fronts {
+        for front in self.searched(name) {
             if let Some(path) = with_ending(rt, front.as_str(), name, &ENDINGS)? {
                 return Ok(path);
             }
         }
-        String::from_str(rt.alloc(), name)
+        match self.in_other_case(rt, listings, name)? {
+            Some(path) => Ok(path),
+            None => String::from_str(rt.alloc(), name),
+        }
     }
 
     /// The files that arguments name.
@@ -77,9 +111,10 @@ impl Folders {
         rt: &HostRuntime,
         names: &[String],
     ) -> Result<Vec<String>, AllocError> {
+        let mut listings = Listings::new(rt.alloc());
         let mut files = Vec::with_capacity(rt.alloc(), names.len())?;
         for name in names {
-            files.push(self.file(rt, name.as_str())?)?;
+            files.push(self.file(rt, &mut listings, name.as_str())?)?;
         }
         Ok(files)
     }

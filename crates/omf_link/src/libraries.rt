@@ -4,7 +4,7 @@ ghost use Rattle.std.specs.Prelude.{◌≡◌};
 
 use crate::folders::Folders;
 use crate::host::read_files;
-use crate::listing::{Listing, has_name, to_read};
+use crate::listing::{Folder, Listings, has_name, to_read};
 use crate::missing::{Missing, Why};
 use omf_exe::host::read_library;
 use omf_exe::{ExeOptions, ProgramFiles, Refusal};
@@ -32,8 +32,8 @@ pub(crate) struct Sources<'a> {
     known: BTreeSet<Vec<u8>>,
     /// Those that were not found.
     pub(crate) missing: Vec<Missing>,
-    /// The listings of the folders that were searched, in the order of the search.
-    listings: Vec<Listing>,
+    /// The listings of the folders that were searched.
+    listings: Listings,
     /// The files that were read, and are no libraries.
     others: BTreeSet<String>,
 }
@@ -43,15 +43,6 @@ pub(crate) struct Sources<'a> {
 pub(crate) struct Search<'a, 'b> {
     pub(crate) options: &'a ExeOptions<'b>,
     pub(crate) folders: &'a Folders,
-}
-
-/// A folder of a search.
-#[derive(Clone, Copy)]
-struct Folder<'a> {
-    /// Its number in the order of the search, from 0.
-    number: usize,
-    /// What comes before the name of a file in it.
-    front: &'a str,
 }
 
 /// What comes of the search for a library.
@@ -80,7 +71,7 @@ impl<'a> Sources<'a> {
             libraries: Vec::new(alloc),
             known: BTreeSet::new(alloc),
             missing: Vec::new(alloc),
-            listings: Vec::new(alloc),
+            listings: Listings::new(alloc),
             others: BTreeSet::new(alloc),
         }))
     }
@@ -126,22 +117,6 @@ impl<'a> Sources<'a> {
         Ok(false)
     }
 
-    /// The files in a folder that are named as a library, where case does not count. The folder is listed, unless it was before.
-    fn files_in(
-        &mut self,
-        rt: &HostRuntime,
-        folder: Folder<'_>,
-        library: &str,
-    ) -> Result<Vec<String>, AllocError> {
-        if self.listings.len() <= folder.number {
-            self.listings.push(Listing::of(rt, folder.front)?)?;
-        }
-        match self.listings.get(folder.number) {
-            Some(listing) => listing.files(rt, folder.front, library),
-            None => Ok(Vec::new(rt.alloc())),
-        }
-    }
-
     /// Looks for a library in a folder.
     fn take_in(
         &mut self,
@@ -149,7 +124,7 @@ impl<'a> Sources<'a> {
         folder: Folder<'_>,
         library: &str,
     ) -> Result<Sought, AllocError> {
-        let files = self.files_in(rt, folder, library)?;
+        let files = self.listings.files(rt, folder, library)?;
         let read = to_read(rt.alloc(), library, &files)?;
         if self.take_first(rt, folder.front, &read)? {
             return Ok(Sought::Taken);

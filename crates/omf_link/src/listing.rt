@@ -1,4 +1,4 @@
-//! The files of a folder that may be a library: a folder is listed once in a run.
+//! The files of a folder by their names, where case does not count. For the libraries of a run a folder is listed once.
 
 use omf_exe::library_files;
 use omf_host::{is_file, unless_failed};
@@ -56,6 +56,18 @@ fn alike(alloc: Global, names: &Names, library: &str) -> Result<Vec<String>, All
     Ok(found)
 }
 
+/// Those of the names in a folder that are files, in order.
+fn files_of(rt: &HostRuntime, front: &str, names: Vec<String>) -> Result<Vec<String>, AllocError> {
+    let mut files = Vec::new(rt.alloc());
+    for name in names {
+        let path = format!(in rt.alloc(); "{front}{name}")?;
+        if is_file(rt, path.as_str())? {
+            files.push(name)?;
+        }
+    }
+    Ok(files)
+}
+
 impl Listing {
     /// The names in a folder, of which this is before the name of each file.
     pub(crate) fn of(rt: &HostRuntime, front: &str) -> Result<Listing, AllocError> {
@@ -82,20 +94,97 @@ impl Listing {
     }
 
     /// The files in the folder that are named as a library, where case does not count; in order.
-    pub(crate) fn files(
+    fn files(
         &self,
         rt: &HostRuntime,
         front: &str,
         library: &str,
     ) -> Result<Vec<String>, AllocError> {
-        let mut files = Vec::new(rt.alloc());
-        for name in self.names(rt.alloc(), library)? {
-            let path = format!(in rt.alloc(); "{front}{name}")?;
-            if is_file(rt, path.as_str())? {
-                files.push(name)?;
+        files_of(rt, front, self.names(rt.alloc(), library)?)
+    }
+
+    /// The only file in the folder with a name, where case does not count. None if there are none or several, or if the folder cannot be listed.
+    fn only(
+        &self,
+        rt: &HostRuntime,
+        front: &str,
+        name: &str,
+    ) -> Result<Option<String>, AllocError> {
+        let Some(names) = &self.names else {
+            return Ok(None);
+        };
+        let mut alike = Vec::new(rt.alloc());
+        add_alike(&mut alike, names, lower(rt.alloc(), name)?.as_str())?;
+        match files_of(rt, front, alike)?.as_slice() {
+            [only] => Ok(Some(only.clone()?)),
+            _ => Ok(None),
+        }
+    }
+}
+
+/// A folder of a search.
+#[derive(Clone, Copy)]
+pub(crate) struct Folder<'a> {
+    /// Its number in the order of the search, from 0.
+    pub(crate) number: usize,
+    /// What comes before the name of a file in it.
+    pub(crate) front: &'a str,
+}
+
+/// The listings of the folders of a search, in its order: each is made when it is first asked for, after those before it.
+#[derive(Drop)]
+pub(crate) struct Listings {
+    made: Vec<Listing>,
+}
+
+impl Listings {
+    /// None yet.
+    pub(crate) fn new(alloc: Global) -> Listings {
+        Listings {
+            made: Vec::new(alloc),
+        }
+    }
+
+    /// The listing of a folder.
+    fn of(&mut self, rt: &HostRuntime, folder: Folder<'_>) -> Result<Option<&Listing>, AllocError> {
+        if self.made.len() <= folder.number {
+            self.made.push(Listing::of(rt, folder.front)?)?;
+        }
+        Ok(self.made.get(folder.number))
+    }
+
+    /// The files in a folder that are named as a library, where case does not count; in order.
+    pub(crate) fn files(
+        &mut self,
+        rt: &HostRuntime,
+        folder: Folder<'_>,
+        library: &str,
+    ) -> Result<Vec<String>, AllocError> {
+        match self.of(rt, folder)? {
+            Some(listing) => listing.files(rt, folder.front, library),
+            None => Ok(Vec::new(rt.alloc())),
+        }
+    }
+
+    /// The path of the only file in a folder with a name and the first of the endings that makes one, where case does not count. None if there is none.
+    pub(crate) fn only(
+        &mut self,
+        rt: &HostRuntime,
+        folder: Folder<'_>,
+        name: &str,
+        endings: &[&str],
+    ) -> Result<Option<String>, AllocError> {
+        let Some(listing) = self.of(rt, folder)? else {
+            return Ok(None);
+        };
+        let front = folder.front;
+        for ending in endings {
+            let whole = format!(in rt.alloc(); "{name}{ending}")?;
+            if let Some(file) = listing.only(rt, front, whole.as_str())? {
+                return Ok(Some(format!(in rt.alloc(); "{front}{file}")?));
             }
         }
-        Ok(files)
+        Ok(None)
     }
 }
 

@@ -11,7 +11,7 @@ use omf_host::{
 };
 use omf_lines::{FilesFault, file_front};
 use omf_linking::LinkFault;
-use omf_lowering::{FileFault, lowered_file};
+use omf_lowered::{FileFault, lowered_file};
 use std::alloc::{AllocError, Global};
 
 /// The type of the record that a library begins with (TIS OMF 1.1, appendix 2).

@@ -4,12 +4,11 @@ use Rattle.std.specs.List.{enumerate_from, zip}
 use Rattle.omf_check.specs.Tables.{attributes, segments}
 use Rattle.omf_check.specs.declared.segment.SegInfo.{SegInfo}
 use Rattle.omf_layout.specs.Several.Portions.{name_at}
-use Rattle.omf_layout.specs.Wants.{alignment_named}
+use Rattle.omf_layout.specs.Wants.{alignment_in}
 use Rattle.omf_layout.specs.declared.alignment.Alignment.{Alignment}
 use Rattle.omf_linking.specs.Segments.{address_in, is_common}
 use Rattle.omf_linking.specs.declared.space.stretch.Owner.{Owner}
 use Rattle.omf_placement.specs.Derive.{PlacedModule}
-use Rattle.omf_records.specs.Values.{alignment}
 use Rattle.omf_warnings.specs.declared.span.Sharing.{Sharing}
 use Rattle.omf_warnings.specs.declared.span.Sharing.TheVariants.{Alone, Common, Absolute}
 use Rattle.omf_warnings.specs.declared.span.Span.{Span}
@@ -36,7 +35,7 @@ lying j m x = record {
   name = name_at m.0 x.1.0.name;
   class = name_at m.0 x.1.0.class;
   sharing = sharing_of x.1.0.absolute x.1.1;
-  alignment = alignment_named (alignment x.1.1);
+  alignment = alignment_in m.0 x.0 x.1.1;
   first = address_in m.1.segments x.0;
   end = address_in m.1.segments x.0 + x.1.0.length;
 }

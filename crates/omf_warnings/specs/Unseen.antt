@@ -16,7 +16,7 @@ use Rattle.omf_warnings.specs.declared.finding.Finding.{Finding as Found}
 use Rattle.omf_warnings.specs.declared.finding.Finding.TheVariants.{Overlap, Align, Group, Frames, Selector, Near}
 use Rattle.omf_warnings.specs.declared.frames.Framed.{Framed}
 
--- The address is no multiple of the alignment (TIS OMF 1.1, "SEGDEF", A field). An absolute segment has none.
+-- The address is no multiple of the alignment (TIS OMF 1.1, "SEGDEF", A field; 4,096 of a raised segment). An absolute segment has none.
 abbrev pub is_misaligned : Span → Bool
 is_misaligned s = not (s.first % bytes_aligned s.alignment == 0)
 

@@ -43,7 +43,7 @@ pub enum Finding {
         segment: Owner,
         /// Its address.
         address: u32,
-        /// Its alignment in bytes: 2, 4, 16 or 256.
+        /// Its alignment in bytes: 2, 4, 16, 256 or 4,096.
         alignment: u16,
     },
     /// A 16-bit member of a group ends more than 65536 bytes after the base of the group's frame.

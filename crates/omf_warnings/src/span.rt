@@ -28,7 +28,7 @@ pub struct Span<'a> {
     pub class: &'a [u8],
     /// With which segments it may share addresses.
     pub sharing: Sharing,
-    /// Its alignment (TIS OMF 1.1, "SEGDEF", A field).
+    /// Its alignment (TIS OMF 1.1, "SEGDEF", A field; 4,096 of a segment that a comment raises).
     pub alignment: Alignment,
     /// Its first address.
     pub first: u32,

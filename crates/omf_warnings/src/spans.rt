@@ -1,15 +1,17 @@
 //! The segments of modules at their placements.
 
-ghost use Rattle.std.specs.Prelude.{◌≡◌, ◌++◌, ◌<◌, ◌^◌, IfOk, OnOk, length, map};
+ghost use Rattle.std.specs.Prelude.{◌≡◌, ◌++◌, ◌<◌, ◌^◌, List, IfOk, OnOk, length, map};
 ghost use Rattle.omf_check.specs.Module.{recs_of};
 ghost use Rattle.omf_layout.specs.Several.Portions.{name_at};
+ghost use Rattle.omf_layout.specs.Wants.{AreRaised};
 ghost use Rattle.omf_linking.specs.Segments.{address_in};
 ghost use Rattle.omf_placement.specs.Derive.{placed_modules};
+ghost use Rattle.omf_records.specs.Values.{Rec};
 ghost use Rattle.omf_warnings.specs.Lying.{lying, lyings, lyings_in, seen, sharing_of};
 
 use crate::span::{Sharing, Span};
 use omf_check::{Checked, SegInfo};
-use omf_layout::Alignment;
+use omf_layout::raised::{Raised, alignment_in, raised_in};
 use omf_linking::space::Owner;
 use omf_placement::Placement;
 use std::alloc::{AllocError, Global};
@@ -48,23 +50,24 @@ fn address_of(placement: &Placement, index: u16) -> u32
     }
 }
 
-/// Returns a segment of a module at its place.
+/// Returns a segment at its place in a module of which these segments are raised, by its SEGDEF and its attribute byte.
 fn span_of<'a>(
     module: &'a Checked,
+    raised: &Raised,
     placement: &Placement,
     owner: Owner,
-    segment: SegInfo,
-    attribute: u8,
+    defined: (SegInfo, u8),
 ) -> Span<'a>
-    ensures { seen result ≡ lying owner.«module» (recs_of «module».entry.now.bytes, placement.now) (owner.segment, (segment, attribute)) }
+    ensures { AreRaised raised.now (recs_of «module».entry.now.bytes) → seen result ≡ lying owner.«module» (recs_of «module».entry.now.bytes, placement.now) (owner.segment, defined) }
 {
+    let (segment, attribute) = defined;
     let first = address_of(placement, owner.segment);
     Span {
         owner,
         name: name_at(module, segment.name),
         class: name_at(module, segment.class),
         sharing: sharing_of(segment, attribute),
-        alignment: Alignment::named_by(attribute),
+        alignment: alignment_in(raised, owner.segment, attribute),
         first,
         end: u128::from(first) + u128::from(segment.length),
     }
@@ -72,6 +75,7 @@ fn span_of<'a>(
 
 /// Adds the segments of a module.
 fn add_spans<'a>(
+    alloc: Global,
     spans: &mut Vec<Span<'a>>,
     module: &'a Checked,
     placement: &Placement,
@@ -79,6 +83,7 @@ fn add_spans<'a>(
 ) -> Result<(), AllocError>
     ensures { OnOk result (map seen spans.new.items ≡ map seen spans.old.items ++ lyings_in (number, (recs_of «module».entry.now.bytes, placement.now))) }
 {
+    let raised = raised_in(alloc, module)?;
     for before in 0..module.segments() {
         let index = before + 1;
         let Some(segment) = module.segment(index) else {
@@ -91,7 +96,8 @@ fn add_spans<'a>(
             module: number,
             segment: index,
         };
-        spans.push(span_of(module, placement, owner, segment, attribute))?;
+        let defined = (segment, attribute);
+        spans.push(span_of(module, &raised, placement, owner, defined))?;
     }
     Ok(())
 }
@@ -112,7 +118,7 @@ pub fn spans_of<'a>(
 {
     let mut spans = Vec::new(alloc);
     for (j, module) in modules.iter().enumerate() {
-        add_spans(&mut spans, module, &placements[j], j as u32)?;
+        add_spans(alloc, &mut spans, module, &placements[j], j as u32)?;
     }
     Ok(spans)
 }

@@ -1,11 +1,12 @@
-use Rattle.std.proofs.Common.{◌∙◌, ap, length}
-use Rattle.omf_map.specs.Far.{program_map}
+use Rattle.std.proofs.Common.{◌∙◌, List, ap, length, string_bytes, subst}
+use Rattle.omf_map.specs.Far.{IsProgramMap}
+use Rattle.omf_placement.specs.Placement.{Places}
 use Rattle.omf_exe.specs.Program.{weak_of}
 use Rattle.omf_exe.proofs.ExeLaws.{laid-many, placements-many}
 use Rattle.omf_exe.proofs.making.map_linked.Goals as goal
 
-pub program_map-requires : goal.program_map-requires
-program_map-requires c =
+pub program_map-requires-clause-placed : goal.program_map-requires-clause-placed
+program_map-requires-clause-placed c =
     let ms = c.args.modules.now in
     let pls = c.in_ok-places.places.items in
     ap length c.deref.ensures.value ∙ placements-many ms pls c.in-Ok.settled.placements.items (weak_of ms pls) (laid-many ms pls c.in_ok-places.ensures.laid) c.in-Ok.ensures.derived
@@ -18,5 +19,5 @@ returns-in-Ok-program_map-clause-map c =
       placements = c.in-Ok.settled.placements.items;
       laid = c.in_ok-places.ensures.laid;
       derived = c.in-Ok.ensures.derived;
-      printed = c.in-Ok-program_map.ensures ∙ ap (program_map ms) c.deref.ensures.value;
+      printed = subst (λ (pls : List Places). IsProgramMap ms pls (string_bytes c.in-Ok-program_map.text)) c.deref.ensures.value c.in-Ok-program_map.ensures;
     }

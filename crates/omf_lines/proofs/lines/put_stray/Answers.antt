@@ -10,8 +10,8 @@ returns c =
     let labels = map string_bytes c.args.named.labels.now in
     let ms = typed_modules c.args.named.modules.now in
     let s = c.args.stray in
-    let n = c.near_at.result in
-    let line = near_line labels ms s.«module» s.place.number n.spot n.to n.into in
+    let n = c.aim_at.result in
+    let line = near_line labels ms s.«module» s.place.number n in
     let old = string_bytes c.args.text.now in
     let new = string_bytes c.put_near.new.text in
-    IfOk-weaker c.put_near.result (λ _. new ≡ old ++ line) (λ _. (l : List ℕ) × IsNearLine labels ms s l × (new ≡ old ++ l)) (λ u e. (line, (n.spot, n.to, n.into, refl), e)) c.put_near.ensures
+    IfOk-weaker c.put_near.result (λ _. new ≡ old ++ line) (λ _. (l : List ℕ) × IsNearLine labels ms s l × (new ≡ old ++ l)) (λ u e. (line, (n, refl), e)) c.put_near.ensures

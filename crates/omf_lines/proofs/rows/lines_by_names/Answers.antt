@@ -22,9 +22,17 @@ pub returns-clause-far : goal.returns-clause-far
 unfolding digits
 returns-clause-far c = refl
 
-pub returns-clause-start : goal.returns-clause-start
+pub returns-clause-local : goal.returns-clause-local
 unfolding digits
-returns-clause-start c = refl
+returns-clause-local c = refl
+
+pub returns-clause-grouped : goal.returns-clause-grouped
+unfolding digits
+returns-clause-grouped c = refl
+
+pub returns-clause-near : goal.returns-clause-near
+unfolding digits
+returns-clause-near c = refl
 
 pub returns-clause-starts : goal.returns-clause-starts
 unfolding digits

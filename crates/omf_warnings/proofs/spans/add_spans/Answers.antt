@@ -22,7 +22,7 @@ loop-before-preserved c =
     let a = c.in-Some-attribute.attribute in
     let next = next-numbered 1 (segments m) (attributes m) j s a (sym (entry-at (segments m) j) ∙ sym c.segment.ensures ∙ c.in-Some.is) (sym (entry-at (attributes m) j) ∙ sym c.attribute.ensures ∙ c.in-Some-attribute.is) in
     let number : j + 1 ≡ 1 + j = omega arith in
-    let same = c.span_of.ensures ∙ ap (λ i. f (i, (s, a))) number in
+    let same = c.span_of.ensures c.in_ok-raised.ensures ∙ ap (λ i. f (i, (s, a))) number in
     record {
       added = more-mapped seen f c.loop-before.spans.items c.push.new.self.items _ _ _ (1 + j, (s, a)) _ c.in_ok-push.ensures.items next same c.loop-before.invariant.added;
       end = c.loop-before.invariant.end;

@@ -1,7 +1,7 @@
 use Rattle.std.proofs.Common.{◌∙◌, ap, subst}
 use Rattle.std.specs.Prelude.{Some, Ok}
 use Rattle.omf_check.specs.Checking.{Decides}
-use Rattle.omf_exe.proofs.lowered.lowered_module.Goals as goal
+use Rattle.omf_exe.proofs.lowered.lowering_of.Goals as goal
 
 pub returns-in-Ok-check-clause-some : goal.returns-in-Ok-check-clause-some
 returns-in-Ok-check-clause-some c =
