@@ -52,10 +52,16 @@ def targets(folder):
     kept = str(folder / "kept")
     for name, programs in CHANGED.items():
         yield Target(name, programs, "", ["tests/fuzz/programs.py", "SECONDS", name, "--number", "SEED", "--keep", kept], r"^\w+: (\d+) inputs")
-    seeded = ["--first", "SEED", "--seconds", "SECONDS", "--keep", kept]
+    timed = ["--first", "SEED", "--seconds", "SECONDS"]
+    seeded = [*timed, "--keep", kept]
     yield Target("executed", "OMF_LINK OMF_LIB", "nasm python3-unicorn", ["tests/executed.py", *seeded, "--dosbox"], r"^(\d+) programs")
     yield Target("names", "OMF_DUMP", "", ["tests/names.py", *seeded], r"^(\d+) lists")
     yield Target("found", "OMF_FIND OMF_LINK", "nasm", ["tests/find.py", *seeded], r"^(\d+) runs")
+    yield Target("flat", "OMF_LINK", "gcc|clang objcopy qemu-system-i386", ["tests/flat.py", *seeded], r"^(\d+) programs")
+    yield Target("lowered", "OMF_LINK", "", ["tests/lowered.py", *timed], r"^(\d+) modules lowered")
+    yield Target("lowered repeats", "OMF_LINK", "", ["tests/lowered.py", *timed, "--repeats"], r"^(\d+) modules lowered")
+    yield Target("taken", "OMF_LINK", "", ["tests/taken.py", *timed], r"^(\d+) files linked")
+    yield Target("chosen", "OMF_LINK", "", ["tests/chosen.py", *timed], r"^(\d+) links")
     yield Target("modules", "OMF OMF_PLACE", "", ["tests/modules.py", "--made", "SEED", "SECONDS", kept, "--", "--real"], r"^(\d+) modules")
     for one in GUIDED:
         variables = {"WORK": str(folder / "guided"), "SEED": "SEED"}
@@ -157,9 +163,12 @@ class Slice:
         return max(int(ended[1]), self.seed) + 1 if ended else self.seed + 1
 
     def differences(self):
-        """A line of each difference, or of why the target failed."""
-        if self.status == 0:
-            return []
+        """A line of each difference, or of why the target failed, with its seed; where the target does not give one, the seed of the slice."""
+        found = [] if self.status == 0 else self.lines()
+        return [it if self.target.is_fixed or re.search(r"\bseed \d", it) else f"seed {self.seed}: {it}" for it in found]
+
+    def lines(self):
+        """The lines of the output that are of a difference, or one of why there are none."""
         if self.status is None:
             return [f"no end: {shlex.join(self.command)}"]
         found = DIFFERENCE.findall(self.output)
@@ -176,15 +185,15 @@ class Campaign:
 
     def fill(self, chosen):
         """The targets that can run, those after the last one first."""
-        for target in chosen:
+        names = [it.name for it in chosen]
+        begin = names.index(self.state.last) + 1 if self.state.last in names else 0
+        for target in [*chosen[begin:], *chosen[:begin]]:
             why = why_not(target)
             if why:
                 print(f"left out: {target.name}: {why}", flush=True)
             elif not target.is_fixed or self.state.fixed.get(target.name) != self.key(target):
                 self.queue.append(target)
-        names = [it.name for it in self.queue]
-        self.queue.rotate(-names.index(self.state.last) - 1 if self.state.last in names else 0)
-        self.slice = min(self.asked.slice, 3600 * self.asked.hours * self.asked.jobs / max(len(names), 1))
+        self.slice = min(self.asked.slice, 3600 * self.asked.hours * self.asked.jobs / max(len(self.queue), 1))
 
     def key(self, target):
         """What the programs of a target are, by their bytes."""

@@ -1,20 +1,19 @@
 #!/usr/bin/env python3
-"""Links generated modules with COMDATs of the same names, and compares with a link of modules without those that are left out: chosen.py [--first SEED] [--count N]
+"""Links generated modules with COMDATs of the same names, and compares with a link of modules without those that are left out: chosen.py [--first SEED] [--count N | --seconds S]
 
 Of the COMDATs of one name that is not local the first counts, and the others are left out with their continuations, NBKPATs and fixups (but not their THREADs), if the selections of both allow it.
 This script knows what it makes, so it leaves out the records itself. `omf-link exe` must give the same program of both, or the same lines, and fail where a name is
 still defined twice. Some modules are members of a library.
 OMF_LINK names the program (omf-link, if not set). The status is 1 where a program differs."""
-import argparse
 import pathlib
 import random
 import sys
 import tempfile
 
+import lowered
 import taken
 from lowered import COMDAT, COMDAT_EXTERNALS, CONTINUED, DATA, EXTERNALS, FIXUPS, LOCAL, LOCAL_NAMES, NAMED_BACKPATCH, NAMES, SEGMENT, little, named, record, shortest
 
-MOST_FAILED = 10
 COMDATS = [b"c%d" % it for it in range(6)]
 NEVER, ANY, SAME_SIZE, SAME_DATA = range(4)
 FAR_POINTER, BY_INDEX, BY_THREAD, EXTERNAL_THREAD = 0xCC00, 0x56, 0x5C, 0x08
@@ -154,20 +153,10 @@ def differs(folder, seed):
 
 
 def main():
-    parser = argparse.ArgumentParser(description=__doc__, formatter_class=argparse.RawDescriptionHelpFormatter)
-    parser.add_argument("--first", type=int, default=1)
-    parser.add_argument("--count", type=int, default=500)
-    asked = parser.parse_args()
-    failed = 0
+    asked = lowered.seeded_parser(__doc__, 500).parse_args()
     with tempfile.TemporaryDirectory() as folder:
-        for seed in range(asked.first, asked.first + asked.count):
-            answer = differs(pathlib.Path(folder), seed)
-            if answer:
-                failed += 1
-                print(f"seed {seed}: {answer}")
-            if failed >= MOST_FAILED:
-                break
-    print(f"{asked.count} links, {failed} otherwise")
+        tried, failed = lowered.run_seeds(asked, lambda seed: differs(pathlib.Path(folder), seed))
+    print(f"{tried} links, {failed} otherwise")
     return 1 if failed else 0
 
 

@@ -252,6 +252,24 @@ def absent_segments(folder):
         linked_again(("absent", length), folder, "x.bin", *words)
 
 
+def lowered_modules(folder):
+    """A module with a COMDAT is found by its lowering: in a file before another one, and as a member of a library."""
+    code, other = bytes(range(1, 25)), bytes(range(101, 125))
+    program = bytearray(b"\x90" * 1000)
+    program[0x100:0x100 + len(code)], program[0x200:0x200 + len(other)] = code, other
+    module = record(0x80, b"\x01c") + record(0x96, b"\x00\x04CODE\x01f") + record(0xC2, b"\x00\x11\x01\x00\x00\x00\x03" + code) + record(0x8A, b"\x00")
+    (folder / "x.bin").write_bytes(program)
+    (folder / "two.obj").write_bytes(module + bytes(3) + code_module(b"d", [(b"D", len(other), other)]))
+    (folder / "two.lib").unlink(missing_ok=True)
+    run(LIB, "make", "-o", "two.lib", "two.obj", folder=folder)
+    for file in ("two.obj", "two.lib"):
+        lines = lines_of(folder, "--base", "0", "--frame", "0", "x.bin", file)
+        found = {(it["member"], it["name"]): it["segment"] for it in lines if "segment" in it}
+        publics = [(it["name"], it["public"]) for it in lines if "public" in it]
+        if found != {(0, "f"): 0x100, (1, "D"): 0x200} or publics != [("f", 0x100)]:
+            fails("a module with a COMDAT", file, lines)
+
+
 def header(image=b"", last=None, pages=None, count=0, paragraphs=2, start=(0, 0), table=28):
     """An MZ file: 28 bytes of header, 4 of padding, and the image."""
     size = 16 * paragraphs + len(image)
@@ -525,6 +543,7 @@ def look_at_written():
         orders(folder)
         reasons(folder)
         absent_segments(folder)
+        lowered_modules(folder)
         linked(folder)
 
 

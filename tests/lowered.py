@@ -1,5 +1,5 @@
 #!/usr/bin/env python3
-"""Lowers generated modules, and compares with a reader of its own, by the standard's text: lowered.py [--first SEED] [--count N] [--repeats]
+"""Lowers generated modules, and compares with a reader of its own, by the standard's text: lowered.py [--first SEED] [--count N | --seconds S] [--repeats]
 
 Each module has LNAMES and LLNAMES, CEXTDEFs with names of these, LEDATAs of both widths, BAKPATs that add values to their data, VENDEXTs, and COMDATs
 with NBKPATs, local if an LLNAMES has their names; some files have several modules, with padding after them. What `omf-link lower` writes must be the bytes that this reader gives; where a record is at fault, it must name the file,
@@ -13,6 +13,7 @@ import struct
 import subprocess
 import sys
 import tempfile
+import time
 
 LINK = os.environ.get("OMF_LINK") or "omf-link"
 NAMES, LOCAL_NAMES, EXTERNALS, COMDAT_EXTERNALS, DATA, BACKPATCH = 0x96, 0xCA, 0x8C, 0xBC, 0xA0, 0xB2
@@ -541,24 +542,41 @@ def differs(folder, modules):
     return None if is_right else (done.returncode, done.stderr)
 
 
+def seeded_parser(text, count):
+    """The options of a run with seeds."""
+    parser = argparse.ArgumentParser(description=text, formatter_class=argparse.RawDescriptionHelpFormatter)
+    parser.add_argument("--first", type=int, default=1, help="the first seed")
+    parser.add_argument("--count", type=int, default=count, help="how many seeds")
+    parser.add_argument("--seconds", type=float, help="in place of a count, the time for all")
+    return parser
+
+
+def run_seeds(asked, answer_of):
+    """Tries one seed after another, with a line of each for which there is an answer. Returns how many were tried, and how many differ."""
+    begun, seed, failed = time.monotonic(), asked.first, 0
+    while failed < MOST_FAILED and (seed < asked.first + asked.count if asked.seconds is None else time.monotonic() - begun < asked.seconds):
+        answer = answer_of(seed)
+        if answer:
+            failed += 1
+            print(f"seed {seed}: {answer}", flush=True)
+        seed += 1
+    print(f"seeds {asked.first} to {seed - 1}")
+    return seed - asked.first, failed
+
+
 def main():
-    parser = argparse.ArgumentParser(description=__doc__, formatter_class=argparse.RawDescriptionHelpFormatter)
-    parser.add_argument("--first", type=int, default=1)
-    parser.add_argument("--count", type=int, default=2000)
+    parser = seeded_parser(__doc__, 2000)
     parser.add_argument("--repeats", action="store_true", help="modules whose LIDATAs have fixups, which are unrolled")
-    asked = parser.parse_args()
-    failed = count = 0
+    asked, counts = parser.parse_args(), []
     with tempfile.TemporaryDirectory() as folder:
-        for seed in range(asked.first, asked.first + asked.count):
+
+        def answer_of(seed):
             modules = made_repeats(seed) if asked.repeats else made(seed)
-            count += len(modules)
-            answer = differs(pathlib.Path(folder), modules)
-            if answer:
-                failed += 1
-                print(f"seed {seed}: {answer}")
-            if failed >= MOST_FAILED:
-                break
-    print(f"{count} modules lowered, {failed} files otherwise")
+            counts.append(len(modules))
+            return differs(pathlib.Path(folder), modules)
+
+        _, failed = run_seeds(asked, answer_of)
+    print(f"{sum(counts)} modules lowered, {failed} files otherwise")
     return 1 if failed else 0
 
 

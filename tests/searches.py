@@ -61,9 +61,32 @@ ROWS = [
     ({"d/m.obj": main()}, "", "d/m", ["d/m.obj"]),
     (PLAIN, "", "n", (3, ["read n: No such file or directory (os error 2)"])),
     (PLAIN, "", "m.lib", (3, ["read m.lib: No such file or directory (os error 2)"])),
+    # Files whose names are in another case.
+    ({"m.obj": main(b"f"), "clib.LIB": lib(b"f")}, "", "m CLIB.lib", ["m.obj", "clib.LIB"]),
+    ({"m.obj": main(b"f"), "CLIB.Lib": lib(b"f")}, "", "m clib", ["m.obj", "CLIB.Lib"]),
+    ({"m.obj": main(b"f"), "d/clib.LIB": lib(b"f")}, "", "-L d m CLIB.lib", ["m.obj", "d/clib.LIB"]),
+    ({"m.obj": main(b"f"), "cLib": lib(b"f"), "d/CLIB.lib": lib(b"f")}, "d", "m CLIB", ["m.obj", "d/CLIB.lib"]),
+    ({"m.obj": main(b"f"), "clib": lib(b"f"), "cLib": lib(b"f"), "clib.LIB": lib(b"f")}, "", "m CLIB", ["m.obj", "clib.LIB"]),
+    ({"m.obj": main(b"f"), "clib": lib(b"f"), "cLib": lib(b"f"), "d/ClIB": lib(b"f")}, "d", "m CLIB", ["m.obj", "d/ClIB"]),
+    ({"m.obj": main(b"f"), "clib": lib(b"f"), "cLib": lib(b"f")}, "", "m CLIB", (3, ["read CLIB: No such file or directory (os error 2)"])),
+    ({"m.obj": main(b"f"), "clib/x": b"", "cLib": lib(b"f")}, "", "m CLIB", ["m.obj", "cLib"]),
+    ({"m.obj": main(b"f", [b"Clib"]), "cLIB.LIB": lib(b"f")}, "", "m CLIB.lib", ["m.obj", "cLIB.LIB"]),
+    ({"M.OBJ": main()}, "", "m.obj", ["M.OBJ"]),
+    ({"M.Obj": main(), "M.Lib": lib(b"f")}, "", "m", ["M.Obj"]),
+    ({"d/M.OBJ": main()}, "", "d/m.obj", (3, ["read d/m.obj: No such file or directory (os error 2)"])),
+    ({"M.OBJ": main()}, "", "-o m.obj M", ["M.OBJ"]),
+    ({"M.OBJ": main()}, "", "-o M.OBJ m", (2, None)),
     # Folders for files: the current one, then -L, then LIB.
     ({"d/m.obj": main()}, "", "m", (3, ["read m: No such file or directory (os error 2)"])),
     ({"d/m.obj": main()}, "", "-L d m", ["d/m.obj"]),
+    ({"d/m.obj": main()}, "", "-Ld m", ["d/m.obj"]),
+    ({"d/m.obj": main(), "e/m.obj": main()}, "", "-Le -Ld m.obj", ["e/m.obj"]),
+    ({"a=b/m.obj": main()}, "", "-La=b m", ["a=b/m.obj"]),
+    ({"a=b/m.obj": main()}, "", "-L=a=b m", ["a=b/m.obj"]),
+    ({"Ld/m.obj": main()}, "", "-L Ld m", ["Ld/m.obj"]),
+    ({"-Ld/m.obj": main()}, "", "-L -Ld m", ["-Ld/m.obj"]),
+    ({"d/m.obj": main(), "-Ld.obj": main()}, "", "-- -Ld", ["./-Ld.obj"]),
+    ({"m.obj": main()}, "", "-op.exe m", ["m.obj"]),
     ({"d/m.obj": main()}, "", "--library-path d m.obj", ["d/m.obj"]),
     ({"d/m.obj": main(), "m.obj": main()}, "", "-L d m.obj", ["m.obj"]),
     ({"d/m.obj": main(), "e/m.obj": main()}, "", "-L e -L d m.obj", ["e/m.obj"]),
@@ -125,7 +148,7 @@ def fault(row):
         for name, content in files.items():
             (folder / name).parent.mkdir(parents=True, exist_ok=True)
             (folder / name).write_bytes(content)
-        front = [] if "-o " in words else ["-o", "p.exe"]
+        front = [] if re.search("(?:^| )-o", words) else ["-o", "p.exe"]
         command = [program("omf_link"), "exe", *front, "--map", "p.map", *words.split()]
         done = subprocess.run(command, cwd=folder, env={**os.environ, "LIB": variable}, capture_output=True, text=True, timeout=60, check=False)
         told = [it.removeprefix("omf-link: ") for it in done.stderr.splitlines()]

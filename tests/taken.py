@@ -1,10 +1,10 @@
 #!/usr/bin/env python3
-"""Links generated modules with CEXTDEFs and BAKPATs, and compares with their lowerings by the reader of lowered.py: taken.py [--first SEED] [--count N]
+"""Links generated modules with CEXTDEFs, BAKPATs and COMDATs, and compares with their lowerings by the reader of lowered.py: taken.py [--first SEED] [--count N | --seconds S]
 
 `omf-link exe` of a main module and such a file, or a library of its modules, must give what it gives of their lowerings: the same program and map, or the same
 lines. Where a record is at fault, it must name the file, the module and the record, and write nothing.
-OMF_LINK names the program (omf-link, if not set). The status is 1 where a file differs."""
-import argparse
+`omf-lib make` must make a library of the same modules, in which `omf-lib check` finds no fault, and which gives the same program; or refuse the module at fault.
+OMF_LINK and OMF_LIB name the programs (omf-link and omf-lib, if not set). The status is 1 where a file differs."""
 import os
 import pathlib
 import random
@@ -14,8 +14,7 @@ import tempfile
 
 import lowered
 
-LINK = os.environ.get("OMF_LINK") or "omf-link"
-MOST_FAILED = 10
+LINK, LIB = os.environ.get("OMF_LINK") or "omf-link", os.environ.get("OMF_LIB") or "omf-lib"
 PAGE = 16
 
 
@@ -46,6 +45,40 @@ def linked(folder, *files):
     return done.returncode, done.stderr, *((folder / it).read_bytes() if (folder / it).exists() else None for it in ("p.exe", "p.map"))
 
 
+def run(folder, *words):
+    """The status of a program, and the lines that it writes."""
+    done = subprocess.run(words, cwd=folder, stdin=subprocess.DEVNULL, capture_output=True, timeout=60, check=False)
+    return done.returncode, (done.stdout + done.stderr).splitlines()
+
+
+def publics_of(records):
+    """The names of a module's PUBDEFs, in order."""
+    for one in records:
+        contents = one[3:-1] if one[0] & 0xFE == 0x90 else b""
+        _, at = lowered.index_at(contents, 0) if contents else (0, 0)
+        segment, at = lowered.index_at(contents, at) if contents else (0, 0)
+        at += 2 if contents and not segment else 0
+        while at < len(contents):
+            yield contents[at + 1:at + 1 + contents[at]]
+            _, at = lowered.index_at(contents, at + 1 + contents[at] + (4 if one[0] & 1 else 2))
+
+
+def kept(folder, modules, publics):
+    """The library that `omf-lib make` makes of the file `x` with these modules, which define these publics; the lines of a refusal; or what is not as it must be."""
+    (folder / "y").unlink(missing_ok=True)
+    status, lines = run(folder, LIB, "make", "-o", "y", "x")
+    if status:
+        return lines
+    bytes_ = (folder / "y").read_bytes()
+    checked, text = run(folder, LIB, "check", "y")
+    _, listed = run(folder, LIB, "list", "y")
+    spans = [line.split()[3:5] for line in listed if line.startswith(b"M ")]
+    members = [bytes_[int(at, 16):int(at, 16) + int(length)] for at, length in spans]
+    names = [line.split(b'"')[1] for line in listed if line.startswith(b"P ")]
+    is_right = checked == 0 and text[0].startswith(b"OK ") and members == modules and names == publics
+    return bytes_ if is_right else (text, listed)
+
+
 def lowering(records):
     """The bytes of a module's lowering, or the number of the record at fault."""
     try:
@@ -71,27 +104,28 @@ def differs(folder, seed):
         number, at = faults[0]
         title = b'file "x" module %d%s refused ' % (number, b' "m"' if in_library else b"")
         is_right = answer[0] == 1 and answer[2] is None and title in answer[1] and b" record %d at " % at in answer[1]
-        return None if is_right else (faults, answer)
+        made = kept(folder, bytes_, [])
+        is_kept = isinstance(made, list) and any(b": refused " in it for it in made) and not (folder / "y").exists()
+        return None if is_right and is_kept else (faults, answer, made)
+    made = kept(folder, bytes_, [name for it in modules for name in publics_of(lowered.Lowered(it).records)])
     (folder / "x").write_bytes(joined(lower))
     wanted = linked(folder, "main.obj", "x")
+    if answer != wanted:
+        return wanted[:2], answer[:2]
+    (folder / "x").write_bytes(library(lower))
+    wanted = linked(folder, "main.obj", "x")
+    if not isinstance(made, bytes):
+        return None if wanted[0] and isinstance(made, list) else made
+    (folder / "x").write_bytes(made)
+    answer = linked(folder, "main.obj", "x")
     return None if answer == wanted else (wanted[:2], answer[:2])
 
 
 def main():
-    parser = argparse.ArgumentParser(description=__doc__, formatter_class=argparse.RawDescriptionHelpFormatter)
-    parser.add_argument("--first", type=int, default=1)
-    parser.add_argument("--count", type=int, default=500)
-    asked = parser.parse_args()
-    failed = 0
+    asked = lowered.seeded_parser(__doc__, 500).parse_args()
     with tempfile.TemporaryDirectory() as folder:
-        for seed in range(asked.first, asked.first + asked.count):
-            answer = differs(pathlib.Path(folder), seed)
-            if answer:
-                failed += 1
-                print(f"seed {seed}: {answer}")
-            if failed >= MOST_FAILED:
-                break
-    print(f"{asked.count} files linked, {failed} otherwise")
+        tried, failed = lowered.run_seeds(asked, lambda seed: differs(pathlib.Path(folder), seed))
+    print(f"{tried} files linked, {failed} otherwise")
     return 1 if failed else 0
 
 

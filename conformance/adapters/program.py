@@ -2,8 +2,8 @@
 """Has a linker answer a case of conformance/programs: program.py COMMAND WORD.., where a word {files} is the input's files and {exe} the program.
 
 The input is modules one after another, and a library or none after them: they are put into files a.obj, b.obj, .. and l.lib. What is printed is
-the program, or the file p.sym if the linker makes one; where the linker makes none, what the linker prints: its standard output; or, where that is empty, its standard error, without the
-linker's name before each line."""
+the program, or the file p.sym or p.map if the linker makes one; where the linker makes none, what the linker prints: its standard output; or, where that is empty, its standard
+error, without the linker's name before each line."""
 import pathlib
 import re
 import struct
@@ -36,7 +36,7 @@ def main():
         for word in sys.argv[1:]:
             words += names if word == "{files}" else [word.replace("{exe}", "p.exe")]
         done = subprocess.run(words, cwd=folder, capture_output=True)
-        made = [it for it in (pathlib.Path(folder) / "p.sym", pathlib.Path(folder) / "p.exe") if it.exists()]
+        made = [it for it in (pathlib.Path(folder) / name for name in ("p.sym", "p.map", "p.exe")) if it.exists()]
         if done.returncode == 0 and made:
             sys.stdout.buffer.write(made[0].read_bytes())
         else:

@@ -71,21 +71,22 @@ class Library:
         """The lines of check and list, and the members as read here. Returns the status that each has to have."""
         read = libraries.members(bytes_)
         members, has_end = read if read else ([], False)
-        rows = re.findall(rb"^M (\d+) (\d+) ([0-9A-F]{8}) (\d+) " + NAME + rb"( refused \d+ \w+ record \d+ at \d+ within \d+)?$", lines, re.M)
+        rows = re.findall(rb"^M (\d+) (\d+) ([0-9A-F]{8}) (\d+) " + NAME + rb"( refused \d+ \w+ record \d+ at \d+ within \d+| lowered)?$", lines, re.M)
         promised([(int(it[2], 16), int(it[3])) for it in rows] == members, f"members {[it[:4] for it in rows]}, here {members}")
         promised([int(it[0]) for it in rows] == list(range(len(members))), "the numbers of members")
         for row, (at, length) in zip(rows, members):
             size = bytes_[at + 3] if length > 3 else 0
             promised(plain(row[4]) == bytes_[at + 4:min(at + 4 + size, at + length)], f"the name of member {row[0]}")
         faults = re.findall(rb"^fault (\d+) \w+ at (\d+)", check, re.M)
-        notes = re.findall(rb"^note (1[789]|2[02]) \w+ at \d+", check, re.M)
+        notes = re.findall(rb"^note (1[789]|22) (\w+) at \d+", check, re.M)
         is_ok = re.match(rb"OK (\d+) members, (\d+) publics, (\d+) entries\n", check)
         promised(bool(is_ok) != bool(faults) and bool(is_ok) + len(faults) + len(notes) == check.count(b"\n"), f"check {check[:200]}")
         promised(all((1 <= int(it[0]) <= 16 or it[0] == b"21") and int(it[1]) <= 2 ** 32 + 2 ** 25 for it in faults), "a fault's number or offset")
         ends = [it for it in faults if int(it[0]) <= 6]
         promised(bool(ends) != has_end, f"the end of the members, here {has_end}")
-        refused = [it for it in rows if it[5]]
+        refused = [it for it in rows if it[5] not in (b"", b" lowered")]
         promised(len(refused) == len([it for it in faults if it[0] == b"7"]) or not read, "refused members")
+        promised(sum(it[5] == b" lowered" for it in rows) == sum(it[0] == b"22" for it in notes) or not read, "lowered members")
         if is_ok:
             self.accepted += 1
             self.look_up(bytes_, lines, is_ok)
@@ -93,7 +94,8 @@ class Library:
             self.compared += 1
             row, (at, length) = self.random.choice(list(zip(rows, members)))
             verdict, answer = run([self.omf, "check", *flag], bytes_[at:at + length])
-            promised((b" " + answer.strip() if verdict else b"") == row[5], f"omf check {answer}, member {row}")
+            is_mendable = bool(re.match(rb"refused (4|29) ", answer)) and row[5] != b""
+            promised((b" " + answer.strip() if verdict else b"") == row[5] or is_mendable or verdict and row[5] == b" lowered", f"omf check {answer}, member {row}")
         return int(not is_ok), int(bool(ends) or bool(refused) or any(it[0] == b"16" for it in faults))
 
     def look_up(self, bytes_, lines, counts):

@@ -195,15 +195,27 @@ def has_alias(module_):
     return any(kind == 0xC6 for kind, _ in records(module_))
 
 
+def defined_by(kind, body):
+    """The names that a record defines."""
+    if kind in (0x90, 0x91):
+        return public_names(kind, body)
+    if kind == 0xB0:
+        return communal_names(body)
+    return [body[5:5 + body[4]]] if kind == 0x88 and body[1:3] == b"\xA0\x01" and len(body) > 4 else []
+
+
 def defined(module_):
     """The names that a module defines: its publics, communals and imports."""
-    for kind, body in records(module_):
-        if kind in (0x90, 0x91):
-            yield from public_names(kind, body)
-        elif kind == 0xB0:
-            yield from communal_names(body)
-        elif kind == 0x88 and body[1:3] == b"\xA0\x01" and len(body) > 4:
-            yield body[5:5 + body[4]]
+    return (name for kind, body in records(module_) for name in defined_by(kind, body))
+
+
+def communals_alone(modules):
+    """The names of communals that no public and no import of these modules has; none if a module has a COMDAT, which may have one of them."""
+    parts = [it for one in modules for it in records(one)]
+    if any(kind in (0xC2, 0xC3) for kind, _ in parts):
+        return set()
+    communals = {name for kind, body in parts if kind == 0xB0 for name in communal_names(body)}
+    return communals - {name for kind, body in parts if kind != 0xB0 for name in defined_by(kind, body)}
 
 
 def are_entries_defined(bytes_, found):

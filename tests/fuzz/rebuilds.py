@@ -9,7 +9,7 @@ from promises import promised, run
 def is_whole(lib, file, folder):
     """`check` has no fault of a library that was written, and a second reader finds each of its entries."""
     status, text = run([lib, "check", file], folder=folder)
-    promised(status == 0 and text.startswith(b"OK ") and all(it[:7] in (b"note 17", b"note 20") for it in text.splitlines()[1:]), f"check of {file}: {text[:200]}")
+    promised(status == 0 and text.startswith(b"OK ") and all(it[:7] in (b"note 17", b"note 22") for it in text.splitlines()[1:]), f"check of {file}: {text[:200]}")
     bytes_ = (folder / file).read_bytes()
     promised(all(libraries.is_found(bytes_, it, keeps) for it, _ in libraries.entries(bytes_) for keeps in (False, True)), f"{file}: an entry is not found")
     return [bytes_[at:at + length] for at, length in libraries.members(bytes_)[0]]
@@ -25,6 +25,8 @@ def make_again(lib, members, folder):
     promised((folder / "made.lib").exists() == (status == 0), f"make: status {status}, and the file")
     if status == 0:
         promised(is_whole(lib, "made.lib", folder) == members, "make: other members")
+        entries = {name for name, _ in libraries.entries((folder / "made.lib").read_bytes())}
+        promised(not entries & libraries.communals_alone(members), "make: an entry of a communal")
     else:
         promised(re.match(rb"(twice|refused|m\d+\.obj: refused)\b", text), f"make: {text[:200]}")
     promised(not any(it.endswith(".tmp") for it in os.listdir(folder)), "a .tmp file is left")

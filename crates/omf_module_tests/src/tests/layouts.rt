@@ -25,7 +25,7 @@ struct Draft {
     text: &'static str,
 }
 
-static DRAFTS: [Draft; 2] = [
+static DRAFTS: [Draft; 3] = [
     // Segments aligned to 1, 2, 4, 16 and 256 bytes, an external and two communals.
     Draft {
         rows: &[
@@ -79,6 +79,23 @@ static DRAFTS: [Draft; 2] = [
                G real ; 1 \"T\"\n\
                G 0 0 ; 2 \"T\"\n\
                E 12360 12340 1234 ; 1 \"X\" to be filled in\n",
+    },
+    // A segment that a comment raises from 256 bytes to 4,096. The comment's index has two bytes.
+    Draft {
+        rows: &[
+            HEADER,
+            NAMES,
+            "98 07 00 28 03 00 02 01 01 00",
+            "98 07 00 88 02 00 02 01 01 00",
+            "88 05 00 00 DC 80 02 00",
+            END,
+        ],
+        options: Options {
+            base: 0x12345,
+            frames: Frames::Real,
+        },
+        text: "S 12345 real ; 1 \"T\" class \"\" align 1 length 3\n\
+               S 13000 real ; 2 \"T\" class \"\" align 4096 length 2\n",
     },
 ];
 

@@ -4,9 +4,10 @@ use super::verdicts::ANY;
 use omf_check::Checked;
 use omf_frame::Reason;
 use omf_library::{
-    Defined, Header, Kind, LibraryFault, MakeFault, Member, Part, Region, RegionKind, Spans,
-    account_of, make, members_in, modules_in, read_header, spans_in,
+    Header, LibraryFault, Member, Region, RegionKind, Spans, account_of, members_in, modules_in,
+    read_header, spans_in,
 };
+use omf_making::{Defined, Kind, MakeFault, Part, make};
 use std::alloc::{AllocError, Global};
 
 /// The header record, without a dictionary; a THEADR and a MODEND; five bytes of padding; the F1H.
@@ -185,13 +186,13 @@ fn a_library_is_made_of_names_of_one_hash(rt: HostRuntime) {
     assert!(rt; matches!(made_with(rt.alloc(), 100), Some(Ok(_))));
 }
 
-/// Names of each kind, of two modules. Both have the communal c; the second defines it.
-static FIRST: [(Kind, &str); 2] = [(Kind::Public, "a"), (Kind::Communal, "c")];
+/// Names of each kind, of two modules. The first has a COMDAT c; the second has c as a public.
+static FIRST: [(Kind, &str); 2] = [(Kind::Public, "a"), (Kind::Comdat, "c")];
 
 static SECOND: [(Kind, &str); 3] = [
     (Kind::Public, "c"),
     (Kind::Import, "i"),
-    (Kind::Communal, "d"),
+    (Kind::Comdat, "d"),
 ];
 
 /// The module with these names; `None` if memory runs out.

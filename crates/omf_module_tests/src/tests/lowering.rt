@@ -3,7 +3,8 @@
 use super::verdicts::ANY;
 use omf_check::{Checked, check};
 use omf_frame::{Bytes, Place, Reason};
-use omf_lowering::{FileFault, LoweringFault, lowered, lowered_file};
+use omf_lowered::{FileFault, lowered_file};
+use omf_lowering::{LoweringFault, lowered};
 use omf_samples::{DATA, END, FIXUP, HEADER, NAMES, SEGMENT, joined};
 use omf_trimming::chosen;
 use std::alloc::Global;

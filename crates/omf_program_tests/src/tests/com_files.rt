@@ -131,7 +131,7 @@ static CASES: [Case; 18] = [
     Case {
         files: &[("near.obj", NEAR)],
         program: "",
-        line: "near: file \"near.obj\" module 1 segment \"T\" offset 00000101: its target is in another frame\n",
+        line: "near: file \"near.obj\" module 1 segment \"T\" offset 00000101: segment \"S\" is in another frame\n",
     },
     // Without a group the communal is in T: at 106H, the first even offset after its 261 bytes. S is after it.
     Case {

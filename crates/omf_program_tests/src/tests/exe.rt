@@ -349,7 +349,9 @@ const MAP: &str = "module 1 file \"calls.obj\" module 1\n\
     segment 2 1 00000005 00000001 \"T\" \"\"\n\
     public 2 00000005 \"f\"\n\
     external 1 1 00000005 \"f\"\n\
-    at 0000:0005 \"f\"\n\
+    whole 00000000 00000005 00000006 \"T\" \"\"\n\
+    name 0000:0005 \"f\"\n\
+    value 0000:0005 \"f\"\n\
     start 0000:0000\n\
     stack 0000:0000\n";
 
@@ -403,8 +405,10 @@ const LINES_MAP: &str = "module 1 file \"calls.obj\" module 1\n\
     segment 2 1 00000005 00000001 \"T\" \"\"\n\
     public 2 00000005 \"f\"\n\
     external 1 1 00000005 \"f\"\n\
+    whole 00000000 00000005 00000006 \"T\" \"\"\n\
     group 1 1 0000 \"G\"\n\
-    at 0000:0005 \"f\"\n\
+    name 0000:0005 \"f\"\n\
+    value 0000:0005 \"f\"\n\
     line 0000:0003 1 7\n\
     line 0000:0005 2 8\n\
     start 0000:0000\n\

@@ -28,9 +28,13 @@ const MAP: &str = "module 1 \"order\"\n\
     segment 2 3 00000000 00000001 \"CODE\" \"CODE\"\n\
     public 1 00000003 \"_edata\"\n\
     external 2 1 00000003 \"_edata\"\n\
+    whole 00000000 00000000 00000001 \"CODE\" \"CODE\"\n\
+    whole 00000002 00000002 00000001 \"DATA\" \"DATA\"\n\
+    whole 00000004 00000005 00000002 \"BSS\" \"BSS\"\n\
     group 1 1 0000 \"DGROUP\"\n\
     group 2 1 0000 \"DGROUP\"\n\
-    at 0000:0003 \"_edata\"\n\
+    name 0000:0003 \"_edata\"\n\
+    value 0000:0003 \"_edata\"\n\
     start 0000:0000\n\
     stack 0000:0000\n";
 

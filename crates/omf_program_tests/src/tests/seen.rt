@@ -19,6 +19,9 @@ const EMPTY: &str = "80030001423A 96040000015411 98070028000002010100 8A02000074
 /// A module with one segment "T" of four bytes without data, aligned at 2.
 const WORDS: &str = "80030001423A 96040000015411 98070048040002010100 8A02000074";
 
+/// A module with one segment "T" of four bytes without data, which a comment raises from 256 bytes to 4,096.
+const RAISED: &str = "80030001423A 96040000015411 98070088040002010100 88040000DC0100 8A02000074";
+
 /// A module with one common segment "T" of four bytes without data.
 const COMMON: &str = "80030001423A 96040000015411 98070038040002010100 8A02000074";
 
@@ -86,7 +89,7 @@ struct Case {
     warnings: &'static str,
 }
 
-static CASES: [Case; 37] = [
+static CASES: [Case; 39] = [
     // A name that two modules define and none asks for.
     Case {
         modules: [PUBLIC, PUBLIC],
@@ -191,6 +194,20 @@ static CASES: [Case; 37] = [
         text: "M #1\nS #1 7C00 0 0\nM #2\nS #1 7C03 0 0",
         allowed: NOTHING,
         faults: "align: file \"b.obj\" module 1 segment \"T\" 00007C03, alignment 2\n",
+        warnings: "",
+    },
+    Case {
+        modules: [DATA, RAISED],
+        text: "M #1\nS #1 7C00 0 0\nM #2\nS #1 8000 0 0",
+        allowed: NOTHING,
+        faults: "",
+        warnings: "",
+    },
+    Case {
+        modules: [DATA, RAISED],
+        text: "M #1\nS #1 7C00 0 0\nM #2\nS #1 8100 0 0",
+        allowed: NOTHING,
+        faults: "align: file \"b.obj\" module 1 segment \"T\" 00008100, alignment 4096\n",
         warnings: "",
     },
     // Both kinds, one of them allowed.
