@@ -2,7 +2,7 @@
 """Lowers generated modules, and compares with a reader of its own, by the standard's text: lowered.py [--first SEED] [--count N | --seconds S] [--repeats]
 
 Each module has LNAMES and LLNAMES, CEXTDEFs with names of these, LEDATAs of both widths, BAKPATs that add values to their data, VENDEXTs, and COMDATs
-with NBKPATs, local if an LLNAMES has their names; some files have several modules, with padding after them. What `omf-link lower` writes must be the bytes that this reader gives; where a record is at fault, it must name the file,
+with NBKPATs and LINSYMs, local if an LLNAMES has their names; some files have several modules, with padding after them. What `omf-link lower` writes must be the bytes that this reader gives; where a record is at fault, it must name the file,
 the module and the record, and write nothing. With --repeats each module has LIDATAs with fixups instead of COMDATs.
 OMF_LINK names the program (omf-link, if not set). The status is 1 where a module differs."""
 import argparse
@@ -18,7 +18,7 @@ import time
 LINK = os.environ.get("OMF_LINK") or "omf-link"
 NAMES, LOCAL_NAMES, EXTERNALS, COMDAT_EXTERNALS, DATA, BACKPATCH = 0x96, 0xCA, 0x8C, 0xBC, 0xA0, 0xB2
 SEGMENT, GROUP, REPEATED, COMDAT, FIXUPS, NAMED_BACKPATCH, COMMENT = 0x98, 0x9A, 0xA2, 0xC2, 0x9C, 0xC8, 0x88
-LOCAL_EXTERNALS, VENDOR = 0xB4, 0xCE
+LOCAL_EXTERNALS, VENDOR, LINES, SYMBOL_LINES = 0xB4, 0xCE, 0x94, 0xC4
 CONTINUED, ITERATED, LOCAL = 1, 2, 4
 SIZES = {0: 1, 1: 2, 2: 4}
 LOCATIONS = {0: 1, 1: 2, 2: 2, 3: 4, 4: 1, 5: 2, 9: 4, 11: 6, 13: 4}
@@ -128,6 +128,16 @@ class Made:
             flags, most = flags & LOCAL | CONTINUED, offset if iterated else offset + len(data)
             if len(data) > 3 and not iterated and self.random.random() < 0.5:
                 self.add_named_patches(name, offset, len(data))
+            if self.random.random() < 0.3:
+                self.add_lines(name)
+
+    def add_lines(self, name):
+        """A LINSYM; now and then of another name, cut, or with half a line."""
+        wide = self.random.random() < 0.3
+        name = name if self.random.random() < 0.9 else self.random.randint(1, self.count + 1)
+        contents = self.random.choice([b"\0", b"\0", b"\x01"]) + self.index(name) + self.random.randbytes((6 if wide else 4) * self.random.randint(0, 3))
+        contents = contents if self.random.random() < 0.95 else contents[:self.random.randint(0, len(contents))]
+        self.records.append(record(SYMBOL_LINES + wide, contents))
 
     def add_named_patches(self, name, offset, size):
         wide = self.random.random() < 0.4
@@ -241,9 +251,20 @@ class Lowered:
             raise Fault(number)
         elif kind == VENDOR:
             return
+        elif kind & 0xFE == SYMBOL_LINES:
+            self.records.append(self.lines_of(one, contents))
         else:
             self.take(kind, contents)
             self.records.append(one)
+
+    def lines_of(self, one, contents):
+        """A LINNUM in place of a LINSYM with the name of a COMDAT before it."""
+        try:
+            name, at = index_at(contents, 1)
+        except IndexError:
+            return one
+        text = self.names[name - 1] if 1 <= name <= len(self.names) else None
+        return record(LINES + (one[0] & 1), b"\0" + shortest(self.comdats[text][0]) + contents[at:]) if text in self.comdats else one
 
     def take(self, kind, contents):
         if kind in (NAMES, LOCAL_NAMES):

@@ -30,6 +30,8 @@ use Rattle.omf_lowering.specs.Comdats.{given_by, made, new_of}
 use Rattle.omf_lowering.specs.Lowering.{Before, IsLowered, IsWideRecord, comdat_of, fault_of, faults_in, growths, growths_in, is_bakpat, is_cextdef, is_comdat, is_nbkpat, is_late, is_segdef, is_vendext, lowered_records, lowering_fault, named_fault, patches_in, pieces, replaced, replacement, so_far, start, thread_fault, up_to_next}
 use Rattle.omf_lowering.specs.Patches.{patched}
 use Rattle.omf_lowering.specs.Unrolled.{after_records}
+use Rattle.omf_lowering.specs.Symbols.{with_linnum}
+use Rattle.omf_lowering.proofs.SymbolLaws.{stays}
 use Rattle.omf_lowering.specs.Values.{Tables}
 use Rattle.omf_lowering.specs.Wide.{is_known, is_right}
 use Rattle.omf_lowering.proofs.StayLaws.{Same, accepted_rolled}
@@ -111,17 +113,23 @@ IsTaken r = IsTrue (is_taken r.kind)
 abbrev IsSpelled : Raw → Type 0
 IsSpelled r = IsTyped (typed r) r.body
 
-kept_one : (b : Before) (r : Raw) → IsTaken r → replacement b r ≡ r ∷ []
-kept_one b r taken =
+kept_one : (b : Before) (r : Raw) → b.instances ≡ [] → IsTaken r → replacement b r ≡ r ∷ []
+kept_one b r none taken =
     let p = plain r.kind taken in
-    fifth (is_cextdef r.kind) (is_bakpat r.kind) (is_nbkpat r.kind) (is_comdat r.kind) _ [] [] (given_by (made r.kind) (comdat_of b r)) (cond (is_vendext r.kind) [] (r ∷ [])) p.cextdef p.bakpat p.nbkpat p.comdat
-    ∙ second (is_vendext r.kind) [] (r ∷ []) p.vendext
+    let record_kept : List Raw = with_linnum b.tables b.instances r ∷ [] in
+    fifth (is_cextdef r.kind) (is_bakpat r.kind) (is_nbkpat r.kind) (is_comdat r.kind) _ [] [] (given_by (made r.kind) (comdat_of b r)) (cond (is_vendext r.kind) [] record_kept) p.cextdef p.bakpat p.nbkpat p.comdat
+    ∙ second (is_vendext r.kind) [] record_kept p.vendext
+    ∙ ap (λ i. with_linnum b.tables i r ∷ []) none ∙ ap (λ x. x ∷ []) (stays b.tables r)
 
-kept_all : (b : Before) (xs : List Raw) → All IsTaken xs → (fold up_to_next b xs).records ≡ b.records ++ xs
-kept_all b [] taken = sym (append-nil b.records)
-kept_all b (x ∷ xs) taken =
-    kept_all (up_to_next b x) xs (All-tail IsTaken x xs taken)
-    ∙ ap (λ l. (b.records ++ l) ++ xs) (kept_one b x (All-head IsTaken x xs taken)) ∙ append_assoc b.records (x ∷ []) xs
+no_instance : (b : Before) (x : Raw) → b.instances ≡ [] → IsTaken x → (up_to_next b x).instances ≡ []
+no_instance b x none taken = ap (λ l. b.instances ++ l) (second (is_comdat x.kind) (given_by new_of (comdat_of b x)) [] (plain x.kind taken).comdat) ∙ append-nil b.instances ∙ none
+
+kept_all : (b : Before) (xs : List Raw) → b.instances ≡ [] → All IsTaken xs → (fold up_to_next b xs).records ≡ b.records ++ xs
+kept_all b [] none taken = sym (append-nil b.records)
+kept_all b (x ∷ xs) none taken =
+    let first : IsTaken x = All-head IsTaken x xs taken in
+    kept_all (up_to_next b x) xs (no_instance b x none first) (All-tail IsTaken x xs taken)
+    ∙ ap (λ l. (b.records ++ l) ++ xs) (kept_one b x none first) ∙ append_assoc b.records (x ∷ []) xs
 
 no_instances : (b : Before) (xs : List Raw) → All IsTaken xs → (fold up_to_next b xs).instances ≡ b.instances
 no_instances b [] taken = refl
@@ -166,7 +174,7 @@ no_growths before (x ∷ xs) taken =
 same_records : (xs : List Raw) → All IsTaken xs → lowered_records xs ≡ xs
 same_records xs taken =
     ap (λ ps. patched (patched (replaced xs) ps) (growths xs)) (no_patches [] xs taken)
-    ∙ ap (λ gs. patched (replaced xs) gs) (no_growths [] xs taken) ∙ kept_all start xs taken
+    ∙ ap (λ gs. patched (replaced xs) gs) (no_growths [] xs taken) ∙ kept_all start xs refl taken
 
 right_one : (r : Raw) → IsRecord r → IsTrue (is_right r)
 right_one r (short, inl zero_sum) = or_left (r.checksum == 0) _ (eq-eqb r.checksum 0 zero_sum)

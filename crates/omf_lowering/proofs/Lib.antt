@@ -18,6 +18,7 @@ pub mod SpreadLaws
 pub mod StateLaws
 pub mod StayLaws
 pub mod Steps
+pub mod SymbolLaws
 pub mod SumLaws
 pub mod TurnLaws
 pub mod WideLaws

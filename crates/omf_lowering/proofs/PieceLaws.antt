@@ -15,10 +15,12 @@ use Rattle.omf_lowering.specs.Comdats.{defined_by, given_by, growth, made, named
 use Rattle.omf_lowering.specs.Externals.{external_record, externals_by}
 use Rattle.omf_lowering.specs.Inner.State.{AreAppended, State, added}
 use Rattle.omf_lowering.specs.Lowering.{comdat_of, growths_in, instances_in, is_bakpat, is_cextdef, is_comdat, is_nbkpat, is_vendext, patches_in, replacement}
-use Rattle.omf_lowering.specs.Patches.{piece_of, pieces_from, size_or_none}
+use Rattle.omf_lowering.specs.Patches.{piece_in, piece_of, pieces_from, size_or_none}
+use Rattle.omf_lowering.specs.Symbols.{with_linnum}
 use Rattle.omf_lowering.specs.Values.{Instance, Resolved, Tables}
 use Rattle.omf_lowering.specs.declared.values.Piece.{Piece}
 use Rattle.omf_lowering.specs.declared.values.Patch.{Patch}
+use Rattle.omf_lowering.proofs.SymbolLaws.{piece_same}
 use Rattle.omf_lowering.proofs.StateLaws.{externals_without, pieces-append}
 
 iterated : ℕ → ℕ → ℕ → ℕ → ℕ → List Piece
@@ -88,7 +90,7 @@ module _ (s : State) (r : Raw) (x : Resolved) (comdat : is_comdat r.kind ≡ tru
 
   -- what would replace a record of another type
   abbrev rest : List Raw
-  rest = cond (is_vendext r.kind) [] (r ∷ [])
+  rest = cond (is_vendext r.kind) [] (with_linnum s.before.tables s.before.instances r ∷ [])
 
   replaced_by : replacement s.before r ≡ made r.kind x
   replaced_by =
@@ -127,3 +129,36 @@ one_moved r rest rs new all ps qs q is more is_too more_too =
           ∙ append_assoc ps (pieces_from (length rs) (r ∷ [])) (pieces_from (length rs + 1) rest)
           ∙ ap (λ l. ps ++ l) (sym (pieces-append (length rs) (r ∷ []) rest)) ∙ is_too,
     )
+
+-- the state after a record that is kept
+module _ (s : State) (r : Raw) (cextdef : is_cextdef r.kind ≡ false) (bakpat : is_bakpat r.kind ≡ false) (nbkpat : is_nbkpat r.kind ≡ false) (comdat : is_comdat r.kind ≡ false)
+    (vendext : is_vendext r.kind ≡ false) where
+  abbrev kept : List Raw
+  kept = with_linnum s.before.tables s.before.instances r ∷ []
+
+  kept_by : replacement s.before r ≡ kept
+  kept_by =
+      second_of (is_cextdef r.kind) _ (cond (is_bakpat r.kind) [] (cond (is_nbkpat r.kind) [] (cond (is_comdat r.kind) (given_by (made r.kind) (comdat_of s.before r)) (cond (is_vendext r.kind) [] kept)))) cextdef
+      ∙ second_of (is_bakpat r.kind) [] (cond (is_nbkpat r.kind) [] (cond (is_comdat r.kind) (given_by (made r.kind) (comdat_of s.before r)) (cond (is_vendext r.kind) [] kept))) bakpat
+      ∙ second_of (is_nbkpat r.kind) [] (cond (is_comdat r.kind) (given_by (made r.kind) (comdat_of s.before r)) (cond (is_vendext r.kind) [] kept)) nbkpat
+      ∙ second_of (is_comdat r.kind) (given_by (made r.kind) (comdat_of s.before r)) (cond (is_vendext r.kind) [] kept) comdat
+      ∙ second_of (is_vendext r.kind) [] kept vendext
+
+  pub added_kept : (tables : Tables) (rs : List Raw) (ps : List Piece) → tables ≡ defined_by s.before.tables r → rs ≡ s.before.records ++ kept
+      → ps ≡ s.data_before ++ piece_in (length s.before.records) r
+      → record { before = record { tables = tables; instances = s.before.instances; records = rs }; data_before = ps; patches = s.patches; growths = s.growths } ≡ added s r
+  unfolding state
+  added_kept tables rs ps t1 r1 p1 =
+      let instances : s.before.instances ≡ s.before.instances ++ instances_in s.before r =
+      sym (ap (λ l. s.before.instances ++ l) (second_of (is_comdat r.kind) (given_by new_of (comdat_of s.before r)) [] comdat) ∙ append-nil s.before.instances) in
+      let records : rs ≡ s.before.records ++ replacement s.before r = r1 ∙ ap (λ l. s.before.records ++ l) (sym kept_by) in
+      let own : pieces_from (length s.before.records) kept ≡ piece_in (length s.before.records) r =
+      append-nil (piece_in (length s.before.records) (with_linnum s.before.tables s.before.instances r)) ∙ piece_same (length s.before.records) s.before.tables s.before.instances r in
+      let pieces : ps ≡ s.data_before ++ pieces_from (length s.before.records) (replacement s.before r) =
+      p1 ∙ ap (λ l. s.data_before ++ l) (sym (ap (pieces_from (length s.before.records)) kept_by ∙ own)) in
+      let patches : s.patches ≡ s.patches ++ patches_in s.before s.data_before r =
+      sym (ap (λ l. s.patches ++ l) (second_of (is_bakpat r.kind) _ (cond (is_nbkpat r.kind) (or_none (named_patches_by s.before.tables s.before.instances s.data_before r.kind r.body)) []) bakpat
+      ∙ second_of (is_nbkpat r.kind) _ [] nbkpat) ∙ append-nil s.patches) in
+      let growths : s.growths ≡ s.growths ++ growths_in s.before s.data_before r =
+      sym (ap (λ l. s.growths ++ l) (second_of (is_comdat r.kind) (given_by (growth s.data_before) (comdat_of s.before r)) [] comdat) ∙ append-nil s.growths) in
+      same_state t1 instances records pieces patches growths

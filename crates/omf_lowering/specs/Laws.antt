@@ -14,9 +14,9 @@ use Rattle.omf_records.specs.Layout.{Meets}
 use Rattle.omf_records.specs.Values.{DataItem, Plain}
 use Rattle.omf_check.specs.WellFormed.{IsAccepted}
 use Rattle.omf_check.specs.declared.profile.Profile.{Profile}
-use Rattle.omf_lowering.specs.Layouts.{cextdef, bakpat, comdat, linnum, nbkpat}
+use Rattle.omf_lowering.specs.Layouts.{cextdef, bakpat, comdat, linnum, linsym, nbkpat}
 -- computed: readings_meet_layouts of omf_lowering.
-use Rattle.omf_lowering.specs.Inner.Readers.{cextdef_whole, bakpat_whole, comdat_whole, linnum_whole, nbkpat_whole}
+use Rattle.omf_lowering.specs.Inner.Readers.{cextdef_whole, bakpat_whole, comdat_whole, linnum_whole, linsym_whole, nbkpat_whole}
 use Rattle.std.specs.Prelude.{Bool}
 use Rattle.omf_lowering.specs.Lowering.{IsLowered, IsRefused, patches, replaced}
 use Rattle.omf_lowering.specs.Patches.{with_value, size_of}
@@ -26,12 +26,13 @@ use Rattle.omf_lowering.specs.Unrolled.{copies_of}
 use Rattle.omf_lowering.specs.declared.location.Location.{Location}
 use Rattle.omf_lowering.specs.declared.values.Patch.{Patch}
 
--- Reading the contents of a CEXTDEF, a BAKPAT, a COMDAT, an NBKPAT or a LINNUM gives the one value that they encode, or else the least of their faults.
+-- Reading the contents of a CEXTDEF, a BAKPAT, a COMDAT, an NBKPAT, a LINSYM or a LINNUM gives the one value that they encode, or else the least of their faults.
 pub record ReadingsMeetLayouts : Type 0 where
   pub cextdef : (body : List ℕ) → AreBytes body → Meets cextdef 3 body (cextdef_whole.read 3 body)
   pub bakpat : (wide : Bool) (body : List ℕ) → AreBytes body → Meets (bakpat wide) 3 body ((bakpat_whole wide).read 3 body)
   pub comdat : (wide : Bool) (body : List ℕ) → AreBytes body → Meets (comdat wide) 3 body ((comdat_whole wide).read 3 body)
   pub nbkpat : (wide : Bool) (body : List ℕ) → AreBytes body → Meets (nbkpat wide) 3 body ((nbkpat_whole wide).read 3 body)
+  pub linsym : (body : List ℕ) → AreBytes body → Meets linsym 3 body (linsym_whole.read 3 body)
   pub linnum : (wide : Bool) (body : List ℕ) → AreBytes body → Meets (linnum wide) 3 body ((linnum_whole wide).read 3 body)
 
 -- An input has at most one lowering, with one rest after the module; it is refused for at most one reason, at one place; and it is not both lowered and refused.

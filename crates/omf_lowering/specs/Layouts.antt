@@ -89,6 +89,17 @@ comdat wide = do
   name ← with_place index
   called rest (λ bytes. record { flags = flags; attributes = attributes; align = align; offset = offset; type_index = type_index; base = base; name = name; bytes = bytes })
 
+-- LINSYM: flags; the index of the name of a COMDAT; its lines, as of a LINNUM, to the end.
+pub record NamedLines : Type 0 where
+  pub name : At ℕ
+  pub lines : List ℕ
+
+abbrev pub linsym : Layout NamedLines
+linsym = do
+  flags ← byte
+  name ← with_place index
+  called rest (λ lines. record { name = name; lines = lines })
+
 -- LINNUM: the number of a line of the source, and an offset.
 abbrev pub line_number : Bool → Layout LineNumber
 line_number wide = do

@@ -6,6 +6,7 @@ pub mod Patches
 pub mod Marks
 pub mod Comdats
 pub mod Lines
+pub mod Symbols
 pub mod Unrolled
 pub mod Segments
 pub mod Lowering

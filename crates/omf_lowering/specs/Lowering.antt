@@ -23,6 +23,7 @@ use Rattle.omf_lowering.specs.Inner.Readers.{bakpat_whole, comdat_whole}
 use Rattle.omf_lowering.specs.Layouts.{Backpatches}
 use Rattle.omf_lowering.specs.Patches.{pieces_from, patches_by, patched, placed}
 use Rattle.omf_lowering.specs.Segments.{names_thread_past, segment_fault, segments_named}
+use Rattle.omf_lowering.specs.Symbols.{with_linnum}
 use Rattle.omf_lowering.specs.Unrolled.{Before as Unrolled, after_record, after_records}
 use Rattle.omf_lowering.specs.Values.{Instance, Resolved, Tables}
 use Rattle.omf_lowering.specs.Wide.{framing_fault, is_known, is_right}
@@ -60,7 +61,8 @@ abbrev pub comdat_of : Before → Raw → Result Resolved Fault
 comdat_of b r = and_then ((comdat_whole (is_wide r.kind)).read 3 r.body) (resolved b.tables b.instances (length b.records) r.kind)
 
 -- What replaces a record: an EXTDEF or LEXTDEF for each external of a CEXTDEF, nothing for a BAKPAT or an NBKPAT, a segment of its own with a public name and data for a
--- COMDAT, or more data for one that is continued, nothing for a VENDEXT, whose meaning is a vendor's (TIS OMF 1.1, "VENDEXT"; this profile's rule); every other record itself.
+-- COMDAT, or more data for one that is continued, nothing for a VENDEXT, whose meaning is a vendor's (TIS OMF 1.1, "VENDEXT"; this profile's rule), a LINNUM for a LINSYM of a
+-- COMDAT; every other record itself.
 abbrev pub replacement : Before → Raw → List Raw
 replacement b r =
     if is_cextdef r.kind then map external_record (or_none (externals_by b.tables r.body))
@@ -68,7 +70,7 @@ replacement b r =
     else if is_nbkpat r.kind then []
     else if is_comdat r.kind then given_by (made r.kind) (comdat_of b r)
     else if is_vendext r.kind then []
-    else r ∷ []
+    else with_linnum b.tables b.instances r ∷ []
 
 -- The COMDATs that a record adds.
 abbrev pub instances_in : Before → Raw → List Instance

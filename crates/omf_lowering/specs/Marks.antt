@@ -1,6 +1,6 @@
 -- The mark of a COMDAT that `lowered` replaces: a COMENT with the type byte 80H, which is not to be removed, the class DCH, the letters COMDAT and the selection
 -- (TIS OMF 1.1, "COMENT": the classes C0H to FFH are for users; this profile's rule).
-use Rattle.std.specs.Prelude.{◌≡◌, ℕ, ◌<◌, List, [], ◌∷◌, ◌++◌, length, take, codes, bytes_eq, slice_index, Bool, ◌==◌, ◌&&◌, Option, Some, None, if◌then◌else◌}
+use Rattle.std.specs.Prelude.{ℕ, List, [], ◌∷◌, ◌++◌, length, take, codes, bytes_eq, slice_index, Bool, ◌==◌, ◌&&◌, Option, Some, None, if◌then◌else◌}
 use Rattle.omf_records.specs.Values.{Comment, Contents}
 
 -- The text of a mark, and the contents of its COMENT.

@@ -261,7 +261,7 @@ fn instance_of<'a>(instances: &[Instance<'a>], text: &Name<'a>) -> Option<Instan
     None
 }
 
-/// The segment of the COMDAT with a name, for its NBKPATs.
+/// The segment of the COMDAT with a name, for its NBKPATs and LINSYMs.
 pub(crate) fn segment_at(
     tables: &Tables<'_>,
     instances: &[Instance<'_>],

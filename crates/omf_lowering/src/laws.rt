@@ -2,7 +2,7 @@
 
 ghost use Rattle.omf_lowering.specs.Laws.{AcceptedStay, AnswersAreUnique, CopiesAreCopies, DataAreAdded, ReadingsMeetLayouts, ValuesFit};
 
-/// Reading the contents of a CEXTDEF, a BAKPAT, a COMDAT, an NBKPAT or a LINNUM gives the one value that they encode, or else the least of their faults.
+/// Reading the contents of a CEXTDEF, a BAKPAT, a COMDAT, an NBKPAT, a LINSYM or a LINNUM gives the one value that they encode, or else the least of their faults.
 pub fn readings_meet_layouts()
     ensures { ReadingsMeetLayouts }
 {}

@@ -13,6 +13,7 @@ mod instance;
 mod iterated;
 pub mod laws;
 mod linnum;
+mod linsym;
 mod location;
 mod lowering;
 mod made;

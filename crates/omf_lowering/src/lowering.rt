@@ -175,7 +175,7 @@ pub struct LoweredModule<'a> {
 /// The first module of `bytes`, lowered: as a module of this profile that means the same (TIS OMF 1.1). Each CEXTDEF becomes EXTDEFs with the names
 /// that it refers to, or LEXTDEFs with those of an LLNAMES, so that each external keeps its index. The values of each BAKPAT and NBKPAT are added to the data
 /// of the LEDATAs before it, and the record is left out, as is a VENDEXT. Each COMDAT becomes a segment of its own, a piece of its base, with a public name and the data; one that is continued becomes more data of
-/// that segment. Then each fixup after an LIDATA becomes, for each copy of its location, an LEDATA of the location's bytes and a FIXUPP. Every other record
+/// that segment, and its LINSYMs become LINNUMs. Then each fixup after an LIDATA becomes, for each copy of its location, an LEDATA of the location's bytes and a FIXUPP. Every other record
 /// is kept as it is, also one that `check` refuses: so the result is for `check` to judge. A module that `check` accepts is its own lowering (law
 /// `accepted_stay`). The bytes after the module are not read, but returned.
 ///

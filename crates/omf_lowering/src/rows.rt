@@ -97,6 +97,27 @@ pub fn comdats()
     ensures second { lowers (base ++ f ++ g ++ M) ≡ base ++ f_segment ++ f_public ++ f_mark ++ f_data ++ g_made ++ M }
 {}
 
+/// The LINSYM of a COMDAT, f at index 3 of the names, becomes a LINNUM of its segment, with the same lines.
+pub fn lines()
+    ensures own { lowers (base ++ f ++ hex (codes "C4 07 00 00 03 05 00 00 00 2D") ++ M) ≡ base ++ f_segment ++ f_public ++ f_mark ++ f_data ++ hex (codes "94 07 00 00 02 05 00 00 00 5E") ++ M }
+    ensures wide { lowers (base ++ f ++ hex (codes "C5 09 00 00 03 05 00 00 00 00 00 2A") ++ M)
+        ≡ base ++ f_segment ++ f_public ++ f_mark ++ f_data ++ hex (codes "95 09 00 00 02 05 00 00 00 00 00 5B") ++ M }
+    ensures continued { lowers (base ++ f ++ hex (codes "C4 07 00 01 03 06 00 02 00 29") ++ M)
+        ≡ base ++ f_segment ++ f_public ++ f_mark ++ f_data ++ hex (codes "94 07 00 00 02 06 00 02 00 5B") ++ M }
+    ensures second { lowers (base ++ f ++ g ++ hex (codes "C4 07 00 00 04 05 00 00 00 2C") ++ M)
+        ≡ base ++ f_segment ++ f_public ++ f_mark ++ f_data ++ g_made ++ hex (codes "94 07 00 00 03 05 00 00 00 5D") ++ M }
+{}
+
+/// A LINSYM stays if no COMDAT before it has its name, if it names nothing, or if its index is cut.
+pub fn other_lines()
+    ensures alone { lowers (base ++ hex (codes "C4 07 00 00 03 05 00 00 00 2D") ++ M) ≡ base ++ hex (codes "C4 07 00 00 03 05 00 00 00 2D") ++ M }
+    ensures other { lowers (base ++ f ++ hex (codes "C4 07 00 00 04 05 00 00 00 2C") ++ M)
+        ≡ base ++ f_segment ++ f_public ++ f_mark ++ f_data ++ hex (codes "C4 07 00 00 04 05 00 00 00 2C") ++ M }
+    ensures undefined { lowers (base ++ f ++ hex (codes "C4 07 00 00 05 05 00 00 00 2B") ++ M)
+        ≡ base ++ f_segment ++ f_public ++ f_mark ++ f_data ++ hex (codes "C4 07 00 00 05 05 00 00 00 2B") ++ M }
+    ensures cut { lowers (base ++ f ++ hex (codes "C4 02 00 00 3A") ++ M) ≡ base ++ f_segment ++ f_public ++ f_mark ++ f_data ++ hex (codes "C4 02 00 00 3A") ++ M }
+{}
+
 /// A COMDAT whose name is of an LLNAMES is local, with or without its flag, and its CEXTDEF is an LEXTDEF.
 pub fn local_comdats()
     ensures local { lowers (base ++ u ++ hex (codes "C2 0D 00 04 10 02 00 00 00 00 01 05 B8 00 00 5D") ++ M)

@@ -1,6 +1,6 @@
 //! The records so far, and what later records need of them.
 
-ghost use Rattle.std.specs.Prelude.{◌≡◌, ◌≤◌, ◌++◌, [], None, ◌∷◌, IfErr, IfOk, OnOk, false, true, length, IsTrue, map};
+ghost use Rattle.std.specs.Prelude.{◌≡◌, ◌≤◌, ◌++◌, [], None, ◌∷◌, IfErr, IfOk, OnOk, false, true, length, IsTrue, map, if◌then◌else◌};
 ghost use Rattle.omf_frame.specs.Framing.{is_taken};
 ghost use Rattle.omf_records.specs.Inner.Reading.{read_body};
 ghost use Rattle.omf_records.specs.Inner.Reads.{and_then, or_none};
@@ -17,6 +17,7 @@ use crate::cextdef::lower_externals;
 use crate::comdat::{comdat_in, is_continued};
 use crate::fault::Stop;
 use crate::instance::{Instance, Resolved, resolve};
+use crate::linsym::kept;
 use crate::made::made;
 use crate::pieces::{is_taken, past, piece_of, push_piece};
 use crate::record::{Front, Record};
@@ -80,6 +81,27 @@ fn read<'a>(
         pieces.push(piece)?;
     }
     Ok(tables.define(&rec)?)
+}
+
+/// Reads the contents of a record, if it is of this profile.
+fn read_taken<'a>(
+    tables: &mut Tables<'a>,
+    instances: &[Instance<'a>],
+    pieces: &mut Vec<Piece>,
+    number: usize,
+    front: &Front<'a>,
+) -> Result<(), Stop>
+    requires { length front.now.body.now ≤ 65534 }
+    ensures tables { OnOk result (tables.new ≡ defined_by tables.old (seen front.now)) }
+    ensures pieces { OnOk result (pieces.new.items ≡ pieces.old.items ++ piece_in number (seen front.now)) }
+    ensures sound { OnOk result ((if is_taken front.now.kind then named_fault tables.old instances.now (read_body front.now.kind front.now.body.now) else None) ≡ None) }
+    ensures err { IfErr result (λ stop. IsStop stop (if is_taken front.now.kind then named_fault tables.old instances.now (read_body front.now.kind front.now.body.now) else None)) }
+{
+    if is_taken(front.kind) {
+        read(tables, instances, pieces, number, front)
+    } else {
+        Ok(())
+    }
 }
 
 /// Appends a record and its data.
@@ -175,7 +197,7 @@ impl<'a> Work<'a> {
         }
     }
 
-    /// Takes a record that is kept as it is.
+    /// Takes a record that is kept, but for a LINSYM.
     fn keep(&mut self, alloc: Global, front: &Front<'a>) -> Result<(), Stop>
         requires cextdef { is_cextdef front.now.kind ≡ false }
         requires bakpat { is_bakpat front.now.kind ≡ false }
@@ -193,17 +215,15 @@ impl<'a> Work<'a> {
                 within: 0,
             }));
         }
-        if is_taken(front.kind) {
-            let number = self.records.len();
-            read(
-                &mut self.tables,
-                &self.instances,
-                &mut self.pieces,
-                number,
-                front,
-            )?;
-        }
-        let record = Record::copied(alloc, front.kind, front.body, front.checksum)?;
+        let record = kept(alloc, &self.tables, &self.instances, front)?;
+        let number = self.records.len();
+        read_taken(
+            &mut self.tables,
+            &self.instances,
+            &mut self.pieces,
+            number,
+            front,
+        )?;
         Ok(self.records.push(record)?)
     }
 

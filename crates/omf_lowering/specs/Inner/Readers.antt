@@ -9,7 +9,7 @@ use Rattle.omf_records.specs.Inner.FieldReaders.{index_reader, index_shrinks, by
 use Rattle.omf_records.specs.Inner.Readers.{◌>=>◌, ◌>=>|◌, then_shrinks, called_reader, checked_reader, placed_shrinks, index_at, number_at, give_reader, when_reader, called_whole, rest_whole}
 use Rattle.omf_records.specs.Inner.Many.{each_whole}
 use Rattle.omf_records.specs.Inner.EntryReaders.{one_reason}
-use Rattle.omf_lowering.specs.Layouts.{named_external, cextdef, wrong_type, part_of, backpatch, bakpat, nbkpat, wrong_attributes, wrong_align, base, comdat, line_number, linnum}
+use Rattle.omf_lowering.specs.Layouts.{named_external, cextdef, wrong_type, part_of, backpatch, bakpat, nbkpat, wrong_attributes, wrong_align, base, comdat, line_number, linnum, linsym}
 use Rattle.omf_lowering.specs.Values.{allocation, selection}
 
 abbrev pub external_reader : Reader named_external
@@ -62,6 +62,9 @@ comdat_whole wide =
     explicit_reader (allocation a == 0) >=>| λ b.
     index_at >=>| λ n.
     called_whole rest _ rest_whole
+
+abbrev pub linsym_whole : Whole linsym
+linsym_whole = byte_reader >=>| λ f. index_at >=>| λ n. called_whole rest _ rest_whole
 
 abbrev pub line_reader : (wide : Bool) → Reader (line_number wide)
 line_reader wide = number_reader false >=> λ n. number_reader wide >=> λ o. give_reader _
