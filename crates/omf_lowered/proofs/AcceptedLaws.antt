@@ -16,6 +16,7 @@ use Rattle.omf_check.proofs.WellLaws.{well-read}
 use Rattle.omf_explicit.specs.Explicit.{distinct, gets_segments, is_read, segment_count}
 use Rattle.omf_explicit.specs.Modules.{IsModule, IsOpen}
 use Rattle.omf_explicit.proofs.ReadLaws.{read_none}
+use Rattle.omf_virtual.proofs.ReadLaws.{read_none as no_comdats}
 use Rattle.omf_aligned.proofs.StayLaws.{read_stay}
 use Rattle.omf_lowering.proofs.AcceptedLaws.{accepted}
 use Rattle.omf_lowered.specs.Modules.{IsLoweredModule}
@@ -76,5 +77,8 @@ accepted_module profile limits input records a =
     let frames : gets_segments records ≡ false = ap (λ ns. not (length ns == 0) && nat_le (segment_count records + length (distinct ns)) 32767) (read_none records reads) in
     inl (
       inl (record { records = records; rest = a.rest; read = read; none = frames }),
-      inl (inl (record { records = records; rest = a.rest; read = read; none = read_stay records reads }), accepted profile limits input records a),
+      inl (
+        inl (record { records = records; rest = a.rest; read = read; none = no_comdats records reads }),
+        inl (inl (record { records = records; rest = a.rest; read = read; none = read_stay records reads }), accepted profile limits input records a),
+      ),
     )

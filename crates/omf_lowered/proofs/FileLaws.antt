@@ -1,6 +1,6 @@
 -- The modules of a file.
 use Rattle.std.proofs.Common.{◌≡◌, ◌⊎◌, inl, inr, ℕ, ◌+◌, ◌<◌, List, [], ◌∷◌, ◌++◌, length, length-append, append-nil, refl, sym, ap, subst, ◌∙◌, arith, true, false}
-use Rattle.std.specs.Prelude.{flat_map}
+use Rattle.std.specs.Prelude.{flat_map, ◌==◌}
 use Rattle.std.proofs.lemmas.Grind.{flat_map-append}
 use Rattle.omf_lowered.specs.Files.{HasMore, IsFileFault, IsFront, IsLoweredFile, begins_module, unpadded}
 use Rattle.omf_lowered.specs.Inner.FileState.{IsAppended, IsOpenFile, IsPart, in_module}
@@ -29,6 +29,10 @@ part_end input left out count p none = record { outs = p.outs; front = subst (Is
 
 pub part_more_left : (input left out : List ℕ) (count at : ℕ) → IsPart input left out (count + 1) → begins_module left ≡ false → 0 < length left → at + length left ≡ length input → HasMore input at
 part_more_left input left out count at p ended some counted = record { outs = p.outs; rest = left; front = p.front; some = omega (arith, p.counted); ended = ended; left = some; counted = counted }
+
+pub some_left : (xs : List ℕ) → (length xs == 0) ≡ false → 0 < length xs
+some_left [] e = absurd cc
+some_left (x ∷ xs) e = omega arith
 
 none_of : {A : Type 0} (xs : List A) → length xs ≡ 0 → xs ≡ []
 none_of [] e = refl

@@ -1,12 +1,11 @@
 -- The lowering of a module after the steps before it.
-use Rattle.std.proofs.Common.{ℕ, ◌+◌, ◌<◌, inl, inr, List, ◌++◌, ap, arith, length, length-append}
+use Rattle.std.proofs.Common.{ℕ, ◌<◌, inl, inr, List, ◌++◌, ap, arith, length, length-append}
 use Rattle.std.specs.Prelude.{flat_map, IfErr, IfOk, Result, Ok, Err}
 use Rattle.omf_frame.specs.Framing.{raw_bytes, Raw}
 use Rattle.omf_frame.specs.declared.fault.Place.{Place}
 use Rattle.omf_frame.specs.declared.fault.Reason.{Reason}
 use Rattle.omf_explicit.specs.Modules.{IsModule}
-use Rattle.omf_lowering.specs.Lowering.{IsLoweringFault}
-use Rattle.omf_lowered.specs.Modules.{IsFaultBy, IsLoweredAfter, IsLoweredModule, IsPagedFault, IsRefusedNext}
+use Rattle.omf_lowered.specs.Modules.{IsFaultBy, IsLoweredModule, IsRefusedNext}
 use Rattle.omf_lowering.specs.declared.fault.LoweringFault.{LoweringFault}
 use Rattle.omf_lowering.specs.declared.fault.LoweringFault.TheVariants as lowering
 use Rattle.omf_lowering.proofs.RunLaws.{rest_is_shorter}
@@ -18,7 +17,8 @@ module_is_shorter input rest rs m =
     omega (arith, size, length-append (flat_map raw_bytes m.before) (raw_bytes m.end ++ rest), length-append (raw_bytes m.end) rest)
 
 pub rest_is_left : (input out rest : List ℕ) → IsLoweredModule input out rest → length rest < length input
-rest_is_left input out rest (inl (s, inl (t, l))) = rest_is_shorter input out rest l
+rest_is_left input out rest (inl (s, inl (t, inl (u, l)))) = rest_is_shorter input out rest l
+rest_is_left input out rest (inl (s, inl (t, inr p))) = module_is_shorter input rest p.changed.records p.changed.read
 rest_is_left input out rest (inl (s, inr p)) = module_is_shorter input rest p.changed.records p.changed.read
 rest_is_left input out rest (inr p) = module_is_shorter input rest p.changed.records p.changed.read
 

@@ -1,4 +1,5 @@
 pub mod Modules
 pub mod Files
 pub mod Laws
+pub mod Mended
 pub mod Inner

@@ -1,8 +1,10 @@
--- The lowering of a module after the steps before it: each frame that it names by a number has a segment, and no segment has A = 6 or 7.
+-- The lowering of a module after the steps before it: each frame that it names by a number has a segment, COMDATs are in place of virtual segments, and no segment has A = 6
+-- or 7.
 use Rattle.std.specs.Prelude.{◌⊎◌, ⊤, ℕ, List}
 use Rattle.omf_frame.specs.declared.fault.Place.{Place}
 use Rattle.omf_frame.specs.declared.fault.Reason.{Reason}
 use Rattle.omf_explicit.specs.Modules.{IsWithSegments, Stays as FramesStay}
+use Rattle.omf_virtual.specs.Modules.{IsWithComdats, Stays as VirtualsStay}
 use Rattle.omf_aligned.specs.Changed.{IsWithPages, Stays as AlignmentsStay}
 use Rattle.omf_lowering.specs.Lowering.{IsLowered, IsRefused}
 use Rattle.omf_lowering.specs.declared.fault.LoweringFault.{LoweringFault}
@@ -44,12 +46,19 @@ IsLoweredPaged = IsLoweredAfter IsWithPages AlignmentsStay IsLowered
 abbrev pub IsPagedRefused : List ℕ → Reason → Place → Type 0
 IsPagedRefused = IsRefusedNext IsWithPages AlignmentsStay IsRefused
 
+-- COMDATs in place of virtual segments, and then that.
+abbrev pub IsLoweredComdats : List ℕ → List ℕ → List ℕ → Type 0
+IsLoweredComdats = IsLoweredAfter IsWithComdats VirtualsStay IsLoweredPaged
+
+abbrev pub IsComdatRefused : List ℕ → Reason → Place → Type 0
+IsComdatRefused = IsRefusedNext IsWithComdats VirtualsStay IsPagedRefused
+
 -- An input begins with a module that is lowered to these bytes, after all steps, and the rest follows: segments in place of frame numbers come first.
 abbrev pub IsLoweredModule : List ℕ → List ℕ → List ℕ → Type 0
-IsLoweredModule = IsLoweredAfter IsWithSegments FramesStay IsLoweredPaged
+IsLoweredModule = IsLoweredAfter IsWithSegments FramesStay IsLoweredComdats
 
 abbrev pub IsModuleRefused : List ℕ → Reason → Place → Type 0
-IsModuleRefused = IsRefusedNext IsWithSegments FramesStay IsPagedRefused
+IsModuleRefused = IsRefusedNext IsWithSegments FramesStay IsComdatRefused
 
 -- The cause of a fault. Memory may run out at any time.
 abbrev pub IsFaultBy : (List ℕ → Reason → Place → Type 0) → List ℕ → LoweringFault → Type 0
@@ -58,6 +67,9 @@ IsFaultBy refuses input (lowering.Refused why at) = refuses input why at
 
 abbrev pub IsPagedFault : List ℕ → LoweringFault → Type 0
 IsPagedFault = IsFaultBy IsPagedRefused
+
+abbrev pub IsComdatFault : List ℕ → LoweringFault → Type 0
+IsComdatFault = IsFaultBy IsComdatRefused
 
 abbrev pub IsModuleFault : List ℕ → LoweringFault → Type 0
 IsModuleFault = IsFaultBy IsModuleRefused

@@ -4,9 +4,11 @@
 mod fault;
 mod file;
 pub mod laws;
+mod mended;
 mod module;
 
 pub use fault::FileFault;
 pub use file::lowered_file;
+pub use mended::{is_mendable, shown};
 pub use module::lowered_module;
 pub use omf_lowering::{LoweredModule, LoweringFault};

@@ -1,0 +1,7 @@
+pub mod Values
+pub mod Layouts
+pub mod Virtual
+pub mod Modules
+pub mod Laws
+pub mod Rows
+pub mod Inner
