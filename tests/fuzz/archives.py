@@ -94,7 +94,7 @@ class Library:
             self.compared += 1
             row, (at, length) = self.random.choice(list(zip(rows, members)))
             verdict, answer = run([self.omf, "check", *flag], bytes_[at:at + length])
-            is_mendable = bool(re.match(rb"refused (4|29) ", answer)) and row[5] != b""
+            is_mendable = bool(re.match(rb"refused (4|10|13|15|16|29) ", answer)) and row[5] != b""
             promised((b" " + answer.strip() if verdict else b"") == row[5] or is_mendable or verdict and row[5] == b" lowered", f"omf check {answer}, member {row}")
         return int(not is_ok), int(bool(ends) or bool(refused) or any(it[0] == b"16" for it in faults))
 

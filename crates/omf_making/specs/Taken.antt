@@ -1,13 +1,12 @@
 -- Modules as a program takes them: one that the check refuses by its lowering (this profile's rule).
-use Rattle.std.specs.Prelude.{◌≡◌, ◌⊎◌, ℕ, ◌+◌, ◌==◌, ◌||◌, if◌then◌else◌, Bool, true, false, List, [], ◌∷◌, length, drop, slice_index, Ok}
-use Rattle.omf_frame.specs.Fault.{reason_number}
+use Rattle.std.specs.Prelude.{◌≡◌, ◌⊎◌, ℕ, ◌+◌, true, false, List, [], ◌∷◌, length, drop, slice_index, Ok}
 use Rattle.omf_frame.specs.declared.fault.Place.{Place}
 use Rattle.omf_frame.specs.declared.fault.Reason.{Reason}
-use Rattle.omf_frame.specs.declared.fault.Reason.TheVariants.{FixupOnIterated, UnsupportedType}
 use Rattle.omf_image.specs.Limits.{profile_limits}
 use Rattle.omf_check.specs.Checking.{Decides}
 use Rattle.omf_check.specs.Refusal.{IsRefused}
 use Rattle.omf_check.specs.declared.profile.Profile.{Profile}
+use Rattle.omf_lowered.specs.Mended.{shown}
 use Rattle.omf_lowered.specs.Modules.{IsLoweredModule, IsModuleRefused}
 use Rattle.omf_library.specs.Library.{HasHeader, library_end, next_page, page_size}
 use Rattle.omf_library.specs.declared.member.Member.{Member}
@@ -48,19 +47,11 @@ pub record IsLoweringRefused (profile : Profile) (bytes : List ℕ) : Type 0 whe
   pub at : Place
   pub refused : IsRefused profile profile_limits lowered why at
 
--- The reason is that a record's type is not supported, or that a fixup is of repeated data: what a lowering mends.
-abbrev pub is_mendable : Reason → Bool
-is_mendable why = (reason_number why == reason_number UnsupportedType) || (reason_number why == reason_number FixupOnIterated)
-
--- The refusal that is shown of a module with this one, if its lowering has that one.
-abbrev pub shown : Refusal → Refusal → Refusal
-shown own lowering = if is_mendable own.reason then lowering else own
-
 -- A program takes no module of bytes: the check refuses it and its lowering; or it has none, for a reason that is shown if
 -- the check's own is one that a lowering mends.
 abbrev pub IsUntaken : Profile → List ℕ → Refusal → Type 0
 IsUntaken profile bytes r = (own : Refusal) × IsRefusedBy profile bytes own
-    × ((IsLoweringRefused profile bytes × (r ≡ own)) ⊎ ((why : Reason) × (at : Place) × IsModuleRefused bytes why at × (r ≡ shown own (record { reason = why; place = at }))))
+    × ((IsLoweringRefused profile bytes × (r ≡ own)) ⊎ ((why : Reason) × (at : Place) × IsModuleRefused bytes why at × (r ≡ shown own.reason own (record { reason = why; place = at }))))
 
 -- What a program takes of bytes, or why it takes nothing.
 abbrev pub IsJudgement : Profile → List ℕ → Judgement → Type 0

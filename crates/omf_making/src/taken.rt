@@ -2,11 +2,11 @@
 
 ghost use Rattle.std.specs.Prelude.{◌≡◌, ◌-◌, length, IfErr, IfNone, IfOk, IfSome};
 ghost use Rattle.omf_lowered.specs.Modules.{IsModuleFault};
-ghost use Rattle.omf_making.specs.Taken.{is_mendable, shown, IsJudgement, IsLoweringOf, IsLoweringRefused, IsRefusedBy};
+ghost use Rattle.omf_making.specs.Taken.{IsJudgement, IsLoweringOf, IsLoweringRefused, IsRefusedBy};
 
 use omf_check::{CheckFault, Checked, Profile, check_with};
 use omf_frame::{Bytes, Framer, Place, Reason};
-use omf_lowered::{LoweringFault, lowered_module};
+use omf_lowered::{LoweringFault, lowered_module, shown};
 use std::alloc::{AllocError, Global};
 
 /// A module that a program takes.
@@ -33,25 +33,6 @@ pub struct Refusal {
 pub enum Judgement {
     Taken(Taken),
     Refused(Refusal),
-}
-
-/// Whether the reason is that a record's type is not supported, or that a fixup is of repeated data: what a lowering mends.
-fn is_mendable(reason: Reason) -> bool
-    ensures { result ≡ is_mendable reason }
-{
-    reason.number() == Reason::UnsupportedType.number()
-        || reason.number() == Reason::FixupOnIterated.number()
-}
-
-/// The refusal that is shown of a module with this one, if its lowering has that one.
-fn shown(own: Refusal, lowering: Refusal) -> Refusal
-    ensures { result ≡ shown own lowering }
-{
-    if is_mendable(own.reason) {
-        lowering
-    } else {
-        own
-    }
 }
 
 /// The number of bytes before the last of them.
@@ -113,7 +94,7 @@ fn judge_lowering(
         Ok(None) => Ok(Judgement::Refused(own)),
         Err(LoweringFault::Memory) => Err(AllocError),
         Err(LoweringFault::Refused { reason, place }) => {
-            Ok(Judgement::Refused(shown(own, Refusal { reason, place })))
+            Ok(Judgement::Refused(shown(own.reason, own, Refusal { reason, place })))
         }
     }
 }
