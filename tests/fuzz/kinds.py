@@ -7,14 +7,14 @@ import libraries
 from aliases import asking
 from changes import records_of
 from libraries import record
-from modules import ALIAS, EXTERNALS, LOCAL_EXTERNALS, WEAK, bodies, index_at, name_places, named_externals, publics_of, titles_of
+from modules import ALIAS, EXTERNALS, LOCAL_EXTERNALS, SEGMENTS, WEAK, bodies, index_at, name_at, name_places, named_externals, publics_of, quoted, titles_of
 from promises import ROOT
 
 sys.path.append(str(ROOT / "tests"))
 from lowered import CONTINUED, ITERATED, LOCAL, Fault, Lowered, index_at as next_index, little, named, shortest  # noqa: E402
 
 NAMES, LOCAL_NAMES, SEGMENT, COMDAT, COMDAT_EXTERNALS, FIXUPS, NAMED_BACKPATCH = 0x96, 0xCA, 0x98, 0xC2, 0xBC, 0x9C, 0xC8
-COMMENT, PUBLIC, DATA, LINES = 0x88, 0x90, (0xA0, 0xA1, 0xA2, 0xA3), (0x94, 0x95)
+COMMENT, PUBLIC, DATA, LINES, HEADERS = 0x88, 0x90, (0xA0, 0xA1, 0xA2, 0xA3), (0x94, 0x95), (0x80, 0x82)
 # Names that no made module defines by a PUBDEF, as long as those that they do.
 COMDATS = (b"x", b"y", b"z")
 NEVER, ANY, SAME_SIZE, SAME_DATA = range(4)
@@ -310,8 +310,18 @@ def has_lines(module):
     return any(True for _ in bodies(module, LINES))
 
 
+def lengths_of(module):
+    """The length of each segment."""
+    for kind, body in bodies(module, SEGMENTS):
+        at, size = 4 if body[0] >> 5 == 0 else 1, 4 if kind & 1 else 2
+        yield 1 << 8 * size if body[0] & 2 else int.from_bytes(body[at:at + size], "little")
+
+
 def map_lines(module, number, places):
-    """The lines of a map for the LINNUMs of the module with this number, at the places of its segments. One whose last item is cut has none."""
+    """The lines of a map for the LINNUMs of the module with this number, at the places of its segments, but for those at the end of their segment or after it. One whose last
+    item is cut has none."""
+    lengths = list(lengths_of(module))
+    source = next((name_at(body, 0)[0] for _, body in bodies(module, HEADERS)), b"")
     for kind, body in bodies(module, LINES):
         width = 4 if kind & 1 else 2
         _, at = index_at(body, 0)
@@ -319,4 +329,5 @@ def map_lines(module, number, places):
         begin, base, selector = places[0][segment - 1]
         for item in range(at, len(body), 2 + width) if (len(body) - at) % (2 + width) == 0 else ():
             line, offset = (int.from_bytes(body[it:it + size], "little") for it, size in ((item, 2), (item + 2, width)))
-            yield f"line {selector:04X}:{begin - base + offset:04X} {number} {line}"
+            if offset < lengths[segment - 1]:
+                yield f"line {selector:04X}:{begin - base + offset:04X} {number} {line} {quoted(source)}"

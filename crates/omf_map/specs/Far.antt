@@ -3,7 +3,8 @@
 use Rattle.std.specs.Prelude.{◌≡◌, ℕ, ◌+◌, ◌-◌, ◌^◌, min, List, [], ◌∷◌, ◌++◌, flat_map, codes, decimal, nat_lt, Option, Some, None, option_map, option_to_list, unwrap_or, if◌then◌else◌}
 use Rattle.std.specs.List.{enumerate_from}
 use Rattle.omf_check.specs.Module.{Module, typed_modules}
-use Rattle.omf_check.specs.Tables.{entry, groups, names}
+use Rattle.omf_check.specs.Tables.{entry, groups, names, segments}
+use Rattle.omf_linking.specs.Locator.Keys.{module_name}
 use Rattle.omf_listing.specs.Combined.{CombinedSegment, by_start, combined_segments}
 use Rattle.omf_listing.specs.Publics.{by_name, by_value}
 use Rattle.omf_listing.specs.Sorted.{AreSorted}
@@ -50,17 +51,26 @@ group_line number m g = line (codes "group" ∷ decimal number ∷ decimal g.0 �
 abbrev pub group_lines : ℕ × PlacedModule → List ℕ
 group_lines m = flat_map (group_line m.0 m.1) (enumerate_from 1 (groups m.1.0))
 
--- A line of the source: its place, the number of its module, and its own number.
-abbrev pub source_line : ℕ → Placed → At LineNumber → List ℕ
-source_line number base l = line (codes "line" ∷ far_place (record { address = base.address + l.item.offset; frame = base.frame }) ∷ decimal number ∷ decimal l.item.number ∷ [])
+-- A line of the source: its place, the number of its module, its own number, and the source, as the module's THEADR or LHEADR names it (TIS OMF 1.1, "THEADR").
+abbrev pub source_line : ℕ → List ℕ → Placed → At LineNumber → List ℕ
+source_line number source base l =
+    line (codes "line" ∷ far_place (record { address = base.address + l.item.offset; frame = base.frame }) ∷ decimal number ∷ decimal l.item.number ∷ quoted source ∷ [])
+
+-- A line of a segment of this length. One at its end or after it is of no byte: so is each line of a segment that the linker left out, which is empty.
+abbrev pub line_within : ℕ → List ℕ → Placed → ℕ → At LineNumber → List ℕ
+line_within number source base size l = if nat_lt l.item.offset size then source_line number source base l else []
+
+-- The length of a segment of a module; 0 if no segment has the index.
+abbrev pub size_of : PlacedModule → ℕ → ℕ
+size_of m index = unwrap_or (option_map (λ s. s.length) (entry (segments m.0) index)) 0
 
 -- The lines of a LINNUM. Its base is found as a PUBDEF's.
-abbrev pub lines_at : ℕ → Places → Option LineNumbers → List ℕ
-lines_at number pl None = []
-lines_at number pl (Some l) = flat_map (λ base. flat_map (source_line number base) l.items) (option_to_list (base_of pl l.group l.segment None))
+abbrev pub lines_at : ℕ → PlacedModule → Option LineNumbers → List ℕ
+lines_at number m None = []
+lines_at number m (Some l) = flat_map (λ base. flat_map (line_within number (module_name m.0) base (size_of m l.segment)) l.items) (option_to_list (base_of m.1 l.group l.segment None))
 
 abbrev pub source_lines : ℕ × PlacedModule → List ℕ
-source_lines m = flat_map (λ r. lines_at m.0 m.1.1 (lines_of r.kind r.contents)) m.1.0
+source_lines m = flat_map (λ r. lines_at m.0 m.1 (lines_of r.kind r.contents)) m.1.0
 
 -- The map of a program: that of its modules at their placements, and after it their combined segments by address, the selectors of their groups, the far addresses of
 -- their publics that are not local, first by name and then by value, and those of the lines of their sources. Modules are counted from 1, and so are the groups of each.

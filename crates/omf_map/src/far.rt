@@ -9,14 +9,15 @@ ghost use Rattle.omf_lowering.specs.Lines.{lines_of};
 ghost use Rattle.omf_placement.specs.Derive.{placed_modules};
 ghost use Rattle.omf_placement.specs.Quoted.{hex, quoted};
 ghost use Rattle.omf_records.specs.Values.{GroupItem};
-ghost use Rattle.omf_map.specs.Far.{IsProgramMap, eight, far, far_line, far_place, group_line, group_lines, lines_at, selector_or_dash, source_line, source_lines, whole_line};
+ghost use Rattle.omf_map.specs.Far.{IsProgramMap, eight, far, far_line, far_place, group_line, group_lines, line_within, lines_at, selector_or_dash, size_of, source_line, source_lines, whole_line};
 ghost use Rattle.omf_map.specs.MapText.{line};
 
 use crate::listing::map_text;
 use crate::printing::{print_name, print_number, print_quoted};
 use omf_check::{Checked, Undecoded};
 use omf_externals::print_digits;
-use omf_frame::Name;
+use omf_frame::{Index, Name};
+use omf_linking::locator::module_name;
 use omf_listing::{
     CombinedSegment, FarPublic, combined_segments, publics_by_name, publics_by_value,
 };
@@ -193,69 +194,108 @@ fn print_all_groups(
     Ok(())
 }
 
-/// Prints the line of a line of the source, by the base of its LINNUM.
-fn print_line(
-    text: &mut String,
+/// Where lines of the source are: the number of their module and its name, and the base and the length of their segment.
+#[derive(Clone, Copy)]
+struct LineBase<'a> {
     number: usize,
+    source: &'a [u8],
     base: Placed,
-    line: &At<LineNumber>,
-) -> Result<(), AllocError>
-    ensures { AddsText result (string_bytes text.old) (string_bytes text.new) (source_line number base line.now) }
+    size: u64,
+}
+
+/// Prints the line of a line of the source.
+fn print_line(text: &mut String, at: LineBase<'_>, line: &At<LineNumber>) -> Result<(), AllocError>
+    ensures { AddsText result (string_bytes text.old) (string_bytes text.new) (source_line at.entry.number at.entry.source.now at.entry.base line.now) }
 {
-    let address = u64::from(base.address) + u64::from(line.item.offset);
+    let address = u64::from(at.base.address) + u64::from(line.item.offset);
     text.push_str("line ")?;
-    print_place(text, address, base.frame)?;
-    print_number(text, number)?;
+    print_place(text, address, at.base.frame)?;
+    print_number(text, at.number)?;
     print_number(text, line.item.number as usize)?;
+    print_quoted(text, at.source)?;
     text.push_str("\n")
 }
 
-/// Prints lines of the source by the base of their LINNUM.
+/// Prints the line of a line of the source, unless it is at the end of its segment or after it.
+fn print_within(
+    text: &mut String,
+    at: LineBase<'_>,
+    line: &At<LineNumber>,
+) -> Result<(), AllocError>
+    ensures { AddsText result (string_bytes text.old) (string_bytes text.new) (line_within at.entry.number at.entry.source.now at.entry.base at.entry.size line.now) }
+{
+    if u64::from(line.item.offset) < at.size {
+        print_line(text, at, line)
+    } else {
+        Ok(())
+    }
+}
+
+/// Prints lines of the source.
 fn print_lines(
     text: &mut String,
-    number: usize,
-    base: Placed,
+    at: LineBase<'_>,
     lines: &[At<LineNumber>],
 ) -> Result<(), AllocError>
-    ensures { AddsText result (string_bytes text.old) (string_bytes text.new) (flat_map (source_line number base) lines.now) }
+    ensures { AddsText result (string_bytes text.old) (string_bytes text.new) (flat_map (line_within at.entry.number at.entry.source.now at.entry.base at.entry.size) lines.now) }
 {
     for line in lines {
-        print_line(text, number, base, line)?;
+        print_within(text, at, line)?;
     }
     Ok(())
+}
+
+/// A module at its placement, with its number.
+#[derive(Clone, Copy)]
+struct NumberedModule<'a> {
+    number: usize,
+    own: &'a Checked,
+    placement: &'a Placement,
+}
+
+/// The length of a segment of a module; 0 if no segment has the index.
+fn size_of(own: &Checked, placement: &Placement, segment: Index) -> u64
+    ensures { result ≡ size_of (recs_of own.now.bytes, placement.now) segment }
+{
+    match own.segment(segment.0) {
+        Some(found) => found.length,
+        None => 0,
+    }
 }
 
 /// Prints the lines of a record, if it is a LINNUM. No other record is decoded.
 fn print_linnum(
     alloc: Global,
     text: &mut String,
-    number: usize,
-    placement: &Placement,
+    of: NumberedModule<'_>,
     rec: &Undecoded<'_>,
 ) -> Result<(), AllocError>
-    ensures { AddsText result (string_bytes text.old) (string_bytes text.new) (lines_at number placement.now (lines_of rec.now.kind rec.now.contents)) }
+    ensures { AddsText result (string_bytes text.old) (string_bytes text.new) (lines_at of.entry.number (recs_of of.entry.own.now.bytes, of.entry.placement.now) (lines_of rec.now.kind rec.now.contents)) }
 {
     let Some(lines) = line_numbers(alloc, rec)? else {
         return Ok(());
     };
-    match base_of(placement, lines.group, lines.segment, None) {
-        Some(base) => print_lines(text, number, base, &lines.items),
+    let size = size_of(of.own, of.placement, lines.segment);
+    match base_of(of.placement, lines.group, lines.segment, None) {
+        Some(base) => {
+            let at = LineBase {
+                number: of.number,
+                source: module_name(of.own),
+                base,
+                size,
+            };
+            print_lines(text, at, &lines.items)
+        }
         None => Ok(()),
     }
 }
 
 /// Prints the lines of a module's source.
-fn print_source(
-    alloc: Global,
-    text: &mut String,
-    number: usize,
-    module: &Checked,
-    placement: &Placement,
-) -> Result<(), AllocError>
-    ensures { AddsText result (string_bytes text.old) (string_bytes text.new) (source_lines (number, (recs_of «module».now.bytes, placement.now))) }
+fn print_source(alloc: Global, text: &mut String, of: NumberedModule<'_>) -> Result<(), AllocError>
+    ensures { AddsText result (string_bytes text.old) (string_bytes text.new) (source_lines (of.entry.number, (recs_of of.entry.own.now.bytes, of.entry.placement.now))) }
 {
-    for (_, rec) in module.undecoded() {
-        print_linnum(alloc, text, number, placement, &rec)?;
+    for (_, rec) in of.own.undecoded() {
+        print_linnum(alloc, text, of, &rec)?;
     }
     Ok(())
 }
@@ -271,7 +311,12 @@ fn print_all_sources(
     ensures { AddsText result (string_bytes text.old) (string_bytes text.new) (flat_map source_lines (enumerate_from 1 (placed_modules modules.now placements.now))) }
 {
     for (j, module) in modules.iter().enumerate() {
-        print_source(alloc, text, j + 1, module, &placements[j])?;
+        let of = NumberedModule {
+            number: j + 1,
+            own: module,
+            placement: &placements[j],
+        };
+        print_source(alloc, text, of)?;
     }
     Ok(())
 }
@@ -285,7 +330,9 @@ fn print_all_sources(
 /// - `name SSSS:OOOO "NAME"` for each public that is not local, by name. Its place is the selector of its frame (of its PUBDEF's group, or else of its segment)
 /// and the offset from the frame's base, each in hexadecimal, or a dash where its address is below that base;
 /// - `value SSSS:OOOO "NAME"` for the same publics, by address;
-/// - `line SSSS:OOOO M N` for each line of a source that a LINNUM has, module by module: its place, found as a public's, the number of its module, and its own.
+/// - `line SSSS:OOOO M N "SOURCE"` for each line of a source that a LINNUM has, module by module: its place, found as a public's, the number of its module, its own, and the name
+/// in the module's THEADR or LHEADR.
+/// A line at the end of its segment or after it is left out.
 ///
 /// # Errors
 ///
