@@ -10,7 +10,7 @@ import libraries
 import wide
 from aliases import aliased
 from changes import changed_module
-from modules import TWICE, UNRESOLVED, as_library, ends_of, externals_of, has_defaults, is_main, is_open, is_simple, members_needed, pairs_of, provider
+from modules import KEPT, TWICE, UNRESOLVED, as_library, ends_of, externals_of, has_defaults, is_main, is_open, is_simple, members_needed, pairs_of, provider
 from modules import repeated_lines, unresolved_lines, with_names
 from promises import ALLOW_ALL, TIMEOUT, program, promised, run, told_of
 
@@ -81,6 +81,7 @@ class Exe:
         status, lines = self.exe("p.exe", names, folder)
         if any(map(wide.is_lowered, inputs)):
             return self.look_at_lowered(status, lines, inputs, names, folder)
+        lines = KEPT.sub(b"", lines)
         if all(map(is_open, inputs)) and b'twice "' not in lines and (status == 0 or UNRESOLVED.fullmatch(lines)):
             is_undefined = executables.has_undefined(inputs)
             promised(is_undefined == (b'undefined "' in lines), f"{lines}, an external without a place: {is_undefined}")
@@ -113,7 +114,7 @@ class Exe:
         for name, bytes_ in zip(names, rest):
             (folder / name).write_bytes(bytes_)
         other, alone = self.exe("q.exe", names, folder)
-        promised(status == other and (alone == lines or not UNRESOLVED.fullmatch(alone)), f"{lines}, without the COMDATs left out {alone}")
+        promised(status == other and (alone == lines or not UNRESOLVED.fullmatch(KEPT.sub(b"", alone))), f"{lines}, without the COMDATs left out {alone}")
         promised(status or (folder / "p.exe").read_bytes() == (folder / "q.exe").read_bytes(), "other files without the COMDATs left out")
         self.compared += 1
         return self.look(rest, folder)
@@ -121,7 +122,7 @@ class Exe:
     def is_allowed(self, lines, names, folder):
         """Whether --allow twice makes a program: the lines are then warnings. Where an external asks for one of the names it is refused as before."""
         done = subprocess.run([self.link, self.TASK, "-o", "p.exe", "--allow", "twice", *names], stdout=subprocess.PIPE, stderr=subprocess.PIPE, cwd=folder, timeout=TIMEOUT)
-        told = NOT_FOUND.sub(b"", told_of(done))
+        told = KEPT.sub(b"", NOT_FOUND.sub(b"", told_of(done)))
         is_made = done.returncode == 0 and told.startswith(lines) and told[len(lines):].count(b"\n") <= 1
         promised(done.stdout == b"" and (is_made or (done.returncode, told) == (1, lines)), f"--allow twice: status {done.returncode}, {done}")
         promised((folder / "p.exe").exists() == is_made, "--allow twice: the file")

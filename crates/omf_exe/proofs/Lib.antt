@@ -1,4 +1,5 @@
 pub mod AddingLaws
+pub mod ClashingLaws
 pub mod CommunalFinds
 pub mod ExeLaws
 pub mod InputLaws

@@ -1,4 +1,5 @@
 pub mod Adding
+pub mod Clashing
 pub mod Input
 pub mod Laws
 pub mod Libraries

@@ -1,13 +1,11 @@
 -- Modules with records outside this profile: a program takes them as they are lowered (this profile's rule).
-use Rattle.std.specs.Prelude.{◌≡◌, ◌⊎◌, ⊤, ℕ, ◌==◌, ◌||◌, List, Bool, true, false, drop, Ok, Err, if◌then◌else◌}
+use Rattle.std.specs.Prelude.{◌≡◌, ◌⊎◌, ⊤, ℕ, List, Bool, true, false, drop, Ok, Err, if◌then◌else◌}
 use Rattle.std.specs.List.{AllZip}
 use Rattle.omf_check.specs.Checking.{Decides}
 use Rattle.omf_check.specs.Module.{Module}
 use Rattle.omf_check.specs.Refusal.{IsRefused as IsModuleRefused}
 use Rattle.omf_frame.specs.declared.fault.Place.{Place}
-use Rattle.omf_frame.specs.Fault.{reason_number}
 use Rattle.omf_frame.specs.declared.fault.Reason.{Reason}
-use Rattle.omf_frame.specs.declared.fault.Reason.TheVariants.{Alignment, FixupOnIterated, FrameMethod, TargetMethod, UnsupportedType}
 use Rattle.omf_image.specs.Limits.{profile_limits}
 use Rattle.omf_library.specs.LibraryMembers.{IsLibraryOf}
 use Rattle.omf_library.specs.declared.judged.LibraryMember.{LibraryMember}
@@ -17,6 +15,7 @@ use Rattle.omf_linking.specs.Files.{IsFile}
 use Rattle.omf_linking.specs.declared.fault.LinkFault.{LinkFault}
 use Rattle.omf_linking.specs.declared.fault.LinkFault.TheVariants as link
 use Rattle.omf_lowered.specs.Files.{IsFileFault, IsLoweredFile}
+use Rattle.omf_lowered.specs.Mended.{is_mendable, shown}
 use Rattle.omf_lowered.specs.Modules.{IsLoweredModule as IsModuleLowered, IsModuleRefused as IsModuleUnlowered}
 use Rattle.omf_lowered.specs.declared.fault.FileFault.{FileFault}
 use Rattle.omf_lowered.specs.declared.fault.FileFault.TheVariants as lowering
@@ -28,12 +27,6 @@ use Rattle.omf_exe.specs.declared.lowered.Unlowered.TheVariants as unlowered
 abbrev pub is_link_memory : LinkFault → Bool
 is_link_memory link.Memory = true
 is_link_memory _ = false
-
--- What a lowering mends: a record type, a fixup of repeated data, an alignment of 6 or 7, a frame by number.
-abbrev pub is_mendable : Reason → Bool
-is_mendable why =
-    let is : Reason → Bool = λ r. reason_number why == reason_number r in
-    (((is UnsupportedType || is FixupOnIterated) || is Alignment) || is FrameMethod) || is TargetMethod
 
 -- ---- files
 
@@ -66,23 +59,23 @@ AreTaken bytes ms = IsFile any_profile bytes (Ok ms) ⊎ ((f : LinkFault) × IsF
 
 -- The fault that is shown of a file that is refused, and of which the lowering gives no modules: its own. But if that is one which a lowering mends, and the lowering
 -- refuses a record, it is the lowering's.
-abbrev pub is_mendable_fault : LinkFault → Bool
-is_mendable_fault (link.Refused k why at) = is_mendable why
-is_mendable_fault _ = false
+abbrev pub shown_fault : LinkFault → LinkFault → LinkFault
+shown_fault (link.Refused k why at) lowering = shown why (link.Refused k why at) lowering
+shown_fault own lowering = own
 
 abbrev pub with_lowering : LinkFault → FileFault → LinkFault
 with_lowering own lowering.Memory = link.Memory
-with_lowering own (lowering.Refused k why at) = if is_mendable_fault own then link.Refused k why at else own
+with_lowering own (lowering.Refused k why at) = shown_fault own (link.Refused k why at)
 with_lowering own (lowering.NoModule at) = own
 
-abbrev pub shown : LinkFault → Unlowered → LinkFault
-shown own unlowered.Memory = link.Memory
-shown own (unlowered.Fault f) = with_lowering own f
-shown own unlowered.Refused = own
+abbrev pub shown_of_file : LinkFault → Unlowered → LinkFault
+shown_of_file own unlowered.Memory = link.Memory
+shown_of_file own (unlowered.Fault f) = with_lowering own f
+shown_of_file own unlowered.Refused = own
 
 -- A program takes no modules of a file, and this fault is shown. Memory may run out at any time.
 abbrev pub IsUntaken : List ℕ → LinkFault → Type 0
-IsUntaken bytes f = is_link_memory f ≡ false → (own : LinkFault) × (why : Unlowered) × IsFileRefused bytes own × IsUnlowered bytes why × (f ≡ shown own why)
+IsUntaken bytes f = is_link_memory f ≡ false → (own : LinkFault) × (why : Unlowered) × IsFileRefused bytes own × IsUnlowered bytes why × (f ≡ shown_of_file own why)
 
 -- ---- members of libraries
 

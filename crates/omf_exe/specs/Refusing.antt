@@ -1,5 +1,5 @@
 -- Why there is no program: what a refusal is for (this profile's rule). Memory may run out at any time: then the refusal names this, and nothing of the modules.
-use Rattle.std.specs.Prelude.{◌≡◌, ◌⊎◌, ◌≤◌, ℕ, List, Bool, true, false, Option, Some, None, length, map}
+use Rattle.std.specs.Prelude.{◌≡◌, ◌⊎◌, ◌≤◌, ◌++◌, ℕ, List, Bool, true, false, Option, Some, None, length, map}
 use Rattle.std.specs.List.{AllZip}
 use Rattle.omf_check.specs.Module.{Module, typed_modules}
 use Rattle.omf_cmd.specs.Programs.{FaultReport}
@@ -25,6 +25,7 @@ use Rattle.omf_aliases.specs.Aliases.{IsAskerOf, IsFollowingFault}
 use Rattle.omf_aliases.specs.declared.fault.FollowingFault.{FollowingFault}
 use Rattle.omf_aliases.specs.declared.fault.FollowingFault.TheVariants as following
 use Rattle.omf_exe.specs.Adding.{IsStackOf, least_stack}
+use Rattle.omf_exe.specs.Clashing.{clash_lines}
 use Rattle.omf_exe.specs.Input.{AllGive, IsInputFault, IsMemberFolded}
 use Rattle.omf_exe.specs.Lowered.{is_link_memory}
 use Rattle.omf_exe.specs.Ordering.{IsClassOrderingFault, IsOrderingFault}
@@ -231,6 +232,6 @@ abbrev pub HaveNamesTwice : List Module → Bool → Type 0
 HaveNamesTwice ms true = (name : List ℕ) × (2 ≤ count_of ms name)
 HaveNamesTwice ms false = (name : List ℕ) → count_of ms name ≤ 1
 
--- The lines of these names, by what the modules are called.
+-- The lines of these names, by what the modules are called, and after them those of the COMDATs that are not left out.
 abbrev pub AreTwiceLines : List Module → List ℕ → Type 0
-AreTwiceLines ms text = (labels : List (List ℕ)) × IsRepeatedText labels (all_rows (typed_modules ms)) text
+AreTwiceLines ms text = (labels : List (List ℕ)) × (names : List ℕ) × IsRepeatedText labels (all_rows (typed_modules ms)) names × (text ≡ names ++ clash_lines labels ms)

@@ -4,6 +4,7 @@
 mod added;
 mod asked;
 mod candidates;
+mod clashing;
 mod defaults;
 mod fault;
 mod files;

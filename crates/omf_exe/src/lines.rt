@@ -6,6 +6,7 @@ ghost use Rattle.omf_check.specs.Module.{recs_of};
 ghost use Rattle.omf_exe.specs.Listing.{file_text, origin_at, title_text};
 ghost use Rattle.omf_exe.specs.Refusing.{AreTwiceLines, HaveNamesTwice};
 
+use crate::clashing::put_clashes;
 use crate::fault::{ComProgramFault, PlacingFault, ProgramFault};
 use crate::input::Origin;
 use crate::making::placements_of;
@@ -109,8 +110,8 @@ impl<'a> Origins<'a> {
         Ok(labels)
     }
 
-    /// The lines of the names that more than one public has, in ascending order; none if there are no such names. Out of memory if there are
-    /// 2^32 modules or more.
+    /// The lines of the names that more than one public has, in ascending order, and after them those of the COMDATs that are not left out; none if there are no such names.
+    /// Out of memory if there are 2^32 modules or more.
     pub(crate) fn repeated_lines(&self, alloc: Global) -> Result<Option<String>, AllocError>
         ensures found { IfOk result (λ lines. HaveNamesTwice self.now.modules.now (is_some lines)) }
         ensures lines { IfOk result (λ lines. IfSome lines (λ text. AreTwiceLines self.now.modules.now (string_bytes text))) }
@@ -123,7 +124,8 @@ impl<'a> Origins<'a> {
             return Ok(None);
         }
         let labels = self.labels(alloc)?;
-        let lines = repeated_text(alloc, &labels, self.modules)?;
+        let mut lines = repeated_text(alloc, &labels, self.modules)?;
+        put_clashes(alloc, &mut lines, &labels, self.modules)?;
         Ok(Some(lines))
     }
 
@@ -290,12 +292,14 @@ fn module_line(
     Ok(text)
 }
 
-/// The lines of the names that no module or more than one defines. Out of memory if there are 2^32 modules or more.
+/// The lines of the names that no module or more than one defines, and of the COMDATs that are not left out. Out of memory if there are 2^32 modules or more.
 fn unresolved(alloc: Global, named: Labeled<'_>) -> Result<String, AllocError> {
     if named.modules.len() > u32::MAX as usize {
         return Err(AllocError);
     }
-    unresolved_text(alloc, named.labels, named.modules, &[])
+    let mut lines = unresolved_text(alloc, named.labels, named.modules, &[])?;
+    put_clashes(alloc, &mut lines, named.labels, named.modules)?;
+    Ok(lines)
 }
 
 /// The lines of externals without a place: one for each name that no module or more than one defines; or that of an address too high.

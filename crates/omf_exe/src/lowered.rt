@@ -4,7 +4,7 @@ ghost use Rattle.std.specs.Prelude.{◌≡◌, IfErr, IfNone, IfOk, IfSome, drop
 ghost use Rattle.std.specs.List.{AllZip};
 ghost use Rattle.omf_library.specs.declared.judged.LibraryMember.TheVariants.{Refused};
 ghost use Rattle.omf_lowered.specs.Modules.{IsModuleFault};
-ghost use Rattle.omf_exe.specs.Lowered.{AreOfLowered, AreTaken, IsLoweredModule, IsLoweringRefused, IsTakenOf, IsUnlowered, IsUntaken, is_mendable, is_mendable_fault, shown, with_fault, with_lowering};
+ghost use Rattle.omf_exe.specs.Lowered.{AreOfLowered, AreTaken, IsLoweredModule, IsLoweringRefused, IsTakenOf, IsUnlowered, IsUntaken, shown_fault, shown_of_file, with_fault, with_lowering};
 
 use crate::memory::is_link_memory;
 use omf_aliases::any_profile;
@@ -12,7 +12,7 @@ use omf_check::{CheckFault, Checked, check};
 use omf_frame::{Bytes, Place, Reason};
 use omf_library::{LibraryMember, RefusedMember};
 use omf_linking::{LinkFault, file_modules};
-use omf_lowered::{FileFault, LoweringFault, lowered_file, lowered_module};
+use omf_lowered::{FileFault, LoweringFault, is_mendable, lowered_file, lowered_module, shown};
 use std::alloc::{AllocError, Global};
 
 /// Why the lowering of a file gives no modules.
@@ -26,32 +26,21 @@ pub(crate) enum Unlowered {
     Refused,
 }
 
-/// Whether a lowering may mend what a module is refused for: a record type, a fixup of repeated data, an alignment of 6 or 7, a frame by number.
-fn is_mendable(reason: Reason) -> bool
-    ensures { result ≡ is_mendable reason }
+/// What is shown of a file with this fault, if its lowering is refused with that one.
+fn shown_fault(own: LinkFault, lowering: LinkFault) -> LinkFault
+    ensures { result ≡ shown_fault own lowering }
 {
-    reason.number() == Reason::UnsupportedType.number()
-        || reason.number() == Reason::FixupOnIterated.number()
-        || reason.number() == Reason::Alignment.number()
-        || reason.number() == Reason::FrameMethod.number()
-        || reason.number() == Reason::TargetMethod.number()
-}
-
-/// Whether a fault is one that a lowering mends.
-fn is_mendable_fault(fault: LinkFault) -> bool
-    ensures { result ≡ is_mendable_fault fault }
-{
-    match fault {
-        LinkFault::Refused { reason, .. } => is_mendable(reason),
-        LinkFault::Memory => false,
-        LinkFault::Read => false,
-        LinkFault::NoText(_) => false,
-        LinkFault::NoModules => false,
-        LinkFault::Line { .. } => false,
-        LinkFault::External(_) => false,
-        LinkFault::Reach { .. } => false,
-        LinkFault::Starts { .. } => false,
-        LinkFault::Space(_) => false,
+    match own {
+        LinkFault::Refused { reason, .. } => shown(reason, own, lowering),
+        LinkFault::Memory => own,
+        LinkFault::Read => own,
+        LinkFault::NoText(_) => own,
+        LinkFault::NoModules => own,
+        LinkFault::Line { .. } => own,
+        LinkFault::External(_) => own,
+        LinkFault::Reach { .. } => own,
+        LinkFault::Starts { .. } => own,
+        LinkFault::Space(_) => own,
     }
 }
 
@@ -65,24 +54,21 @@ fn with_lowering(own: LinkFault, fault: FileFault) -> LinkFault
             module,
             reason,
             place,
-        } => {
-            if is_mendable_fault(own) {
-                LinkFault::Refused {
-                    module,
-                    reason,
-                    place,
-                }
-            } else {
-                own
-            }
-        }
+        } => shown_fault(
+            own,
+            LinkFault::Refused {
+                module,
+                reason,
+                place,
+            },
+        ),
         FileFault::NoModule(_) => own,
     }
 }
 
 /// The fault that is shown of a file with this fault, if its lowering gives no modules.
-fn shown(own: LinkFault, unlowered: Unlowered) -> LinkFault
-    ensures { result ≡ shown own unlowered }
+fn shown_of_file(own: LinkFault, unlowered: Unlowered) -> LinkFault
+    ensures { result ≡ shown_of_file own unlowered }
 {
     match unlowered {
         Unlowered::Memory => LinkFault::Memory,
@@ -116,7 +102,7 @@ fn lowered_modules(alloc: Global, bytes: &[u8]) -> Result<Vec<Checked>, Unlowere
 ///
 /// # Errors
 ///
-/// The file's own fault, if its lowering gives no modules; that of its lowering, if the own one is UnsupportedType or FixupOnIterated. `Memory` if memory runs out.
+/// The file's own fault, if its lowering gives no modules; that of its lowering, if a lowering may mend the own one. `Memory` if memory runs out.
 pub(crate) fn taken_modules(alloc: Global, bytes: &[u8]) -> Result<Vec<Checked>, LinkFault>
     ensures modules { IfOk result (λ v. AreTaken bytes.now v.items) }
     ensures fault { IfErr result (IsUntaken bytes.now) }
@@ -130,7 +116,7 @@ pub(crate) fn taken_modules(alloc: Global, bytes: &[u8]) -> Result<Vec<Checked>,
     }
     match lowered_modules(alloc, bytes) {
         Ok(modules) => Ok(modules),
-        Err(unlowered) => Err(shown(own, unlowered)),
+        Err(unlowered) => Err(shown_of_file(own, unlowered)),
     }
 }
 

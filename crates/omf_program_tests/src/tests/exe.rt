@@ -381,12 +381,12 @@ fn a_map_begins_with_the_modules(rt: HostRuntime) {
     }
 }
 
-/// CALLS with T in the group G, and line 7 of its source at 3. In T of another module, line 8 at 0; and what is no contents of a LINNUM.
+/// CALLS with T in the group G, line 7 of its source at 3, and line 9 at its end. In T of another module, line 8 at 0; and what is no contents of a LINNUM.
 static LINES: Case = Case {
     files: &[
         (
             "calls.obj",
-            "80030001413B 9606000001540147 00 98070028050002010100 9A040003FF0100 8C040001660000 A009000100009A0000000000 9C0500CC01560100 94070001010700030000 8A0700C1000101000000",
+            "80030001413B 9606000001540147 00 98070028050002010100 9A040003FF0100 8C040001660000 A009000100009A0000000000 9C0500CC01560100 940B00010107000300 0900050000 8A0700C1000101000000",
         ),
         (
             "f.obj",
@@ -409,8 +409,8 @@ const LINES_MAP: &str = "module 1 file \"calls.obj\" module 1\n\
     group 1 1 0000 \"G\"\n\
     name 0000:0005 \"f\"\n\
     value 0000:0005 \"f\"\n\
-    line 0000:0003 1 7\n\
-    line 0000:0005 2 8\n\
+    line 0000:0003 1 7 \"A\"\n\
+    line 0000:0005 2 8 \"B\"\n\
     start 0000:0000\n\
     stack 0000:0000\n";
 
