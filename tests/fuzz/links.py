@@ -66,7 +66,7 @@ class Exe:
         (folder / file).unlink(missing_ok=True)
         done = subprocess.run([self.link, self.TASK, "-o", file, *names], stdout=subprocess.PIPE, stderr=subprocess.PIPE, cwd=folder, timeout=TIMEOUT)
         told = NOT_FOUND.sub(b"", told_of(done))
-        is_said = told.count(b"\n") <= 1 or UNRESOLVED.fullmatch(told)
+        is_said = told.count(b"\n") <= 1 or UNRESOLVED.fullmatch(KEPT.sub(b"", told))
         promised(done.returncode in (0, 1) and done.stdout == b"" and is_said, f"{self.TASK}: status {done.returncode}, {done}")
         promised(all(it == 10 or 32 <= it < 127 for it in done.stderr), f"{self.TASK}: control characters")
         promised((folder / file).exists() == (done.returncode == 0), f"{self.TASK}: status {done.returncode}, and the file")

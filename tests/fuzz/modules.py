@@ -22,8 +22,8 @@ MOST_ALIASES = 64
 ENDS = (0x8A, 0x8B)
 MOST_MEMBER = 4096
 TWICE = re.compile(rb'(?:twice "[^"]*": .*\n)+')
-# The line of a COMDAT that is not left out. It follows the lines of the names.
-KEPT = re.compile(rb'(?m)^comdat "[^"]*": .* is not left out: (?:no match|same size|exact match)\n')
+# Lines that follow the lines of the names: of a COMDAT that is not left out, and of a circle of aliases.
+KEPT = re.compile(rb'(?m)^(?:comdat "[^"]*": .* is not left out: (?:no match|same size|exact match)|aliases in a circle: .*)\n')
 UNRESOLVED = re.compile(rb'(?:(?:undefined|twice) "[^"]*": .*\n)+')
 
 
