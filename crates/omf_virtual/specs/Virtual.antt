@@ -209,7 +209,7 @@ abbrev pub is_virtual : List (Option VirtualItem) → Option Datum → Bool
 is_virtual xs (Some (datums.Index i)) = is_some (virtual_at xs i)
 is_virtual xs _ = false
 
--- A frame F0, a target T0 or T4, and a THREAD of one of these methods, with a virtual segment.
+-- A frame or a target of method 0 (a target with or without a displacement), and a THREAD of method 0, with a virtual segment.
 abbrev pub has_virtual_frame : List (Option VirtualItem) → Reference → Bool
 has_virtual_frame xs r = (frame_bits r.fix == 0) && is_virtual xs r.frame
 

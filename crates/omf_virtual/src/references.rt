@@ -46,7 +46,7 @@ fn has_virtual_frame(externals: &[Option<Virtual<'_>>], reference: &Reference) -
     reference.fix / 16 % 8 == 0 && is_virtual(externals, reference.frame)
 }
 
-/// Whether a reference has the target T0 or T4 of a virtual segment.
+/// Whether the target of a reference is a virtual segment, with or without a displacement.
 fn has_virtual_target(externals: &[Option<Virtual<'_>>], reference: &Reference) -> bool
     ensures { result ≡ has_virtual_target externals.now reference.now }
 {

@@ -88,7 +88,7 @@ pub struct ComdatModule<'a> {
 
 /// The module at the front of the bytes, with COMDATs in place of its virtual segments, as Borland's compilers write them (TIS OMF 1.1, "COMDEF": data types 01H to 5FH; "LEDATA",
 /// "LIDATA", "FIXUPP", "COMDAT"). The entry of the COMDEF becomes an EXTDEF, so that no external has another index; the LNAMES of the names are after the module's last
-/// LNAMES or LLNAMES; data become COMDATs with selection "pick any" in the segment of the data type; frames F0 and targets T0 and T4 become F2, T2 and T6. A virtual segment
+/// LNAMES or LLNAMES; data become COMDATs with selection "pick any" in the segment of the data type; frames and targets of method 0 get method 2. A virtual segment
 /// without data becomes a near communal. None if the module has no virtual segment, if its names would be over 32,767, if data of a virtual segment come before a name, or if it has
 /// a CEXTDEF: it stays as it is. So does a record which cannot be read, or has a wrong checksum byte, and bytes that have no MODEND.
 ///
