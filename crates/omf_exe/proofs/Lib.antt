@@ -13,3 +13,4 @@ pub mod RefusingLaws
 pub mod StartLaws
 pub mod TakenLaws
 pub mod TwiceLaws
+pub mod ViewLaws

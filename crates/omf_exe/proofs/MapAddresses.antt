@@ -30,15 +30,16 @@ laid-once ms pls qls a b =
     let t : laid pls a.free ≡ laid qls b.free = cc in
     ap (λ (l : Laid (List Places)). l.what) t
 
-shown-of : (ms : List Module) (text : List ℕ) (members : List Member) → IsMapOf ms text → AreMade ms members → ShowsAddressesOf ms members text
-shown-of ms text members m a =
+shown-of : (ms shown : List Module) (text : List ℕ) (members : List Member) → IsMapOf ms shown text → AreMade ms members → ShowsAddressesOf shown members text
+shown-of ms shown text members m a =
+    let p = m.placed in
     let here : derived (placed_modules ms a.places) (weak_of ms a.places) ≡ Ok m.placements
-    = subst (λ (pls : List Places). derived (placed_modules ms pls) (weak_of ms pls) ≡ Ok m.placements) (laid-once ms m.places a.places m.laid a.laid) m.derived in
+    = subst (λ (pls : List Places). derived (placed_modules ms pls) (weak_of ms pls) ≡ Ok m.placements) (laid-once ms p.places a.places p.laid a.laid) p.derived in
     let s : Ok m.placements ≡ Ok a.placements = sym here ∙ a.derived in
     let same : m.placements ≡ a.placements = cc in
     let placed = placements-many ms a.places a.placements (weak_of ms a.places) (laid-many ms a.places a.laid) a.derived in
     let moved = movers-many ms (placed_modules ms a.places) a.movers a.moving in
-    subst (λ (pls : List Places). IsProgramMap ms pls text) (same ∙ sym (places-kept 0 ms a.placements a.movers placed moved) ∙ ap (λ (xs : List Member). map (λ (x : Member). x.places) xs) (sym a.numbered)) m.printed
+    subst (λ (pls : List Places). IsProgramMap shown pls text) (same ∙ sym (places-kept 0 ms a.placements a.movers placed moved) ∙ ap (λ (xs : List Member). map (λ (x : Member). x.places) xs) (sym a.numbered)) m.printed
 
 pub maps-show-programs : MapsShowPrograms
-maps-show-programs ms text m = record { of_exe = λ most bytes has_stack p. shown-of ms text p.members m p.made; of_com = λ bytes p. shown-of ms text p.members m p.made }
+maps-show-programs ms shown text m = record { of_exe = λ most bytes has_stack p. shown-of ms shown text p.members m p.made; of_com = λ bytes p. shown-of ms shown text p.members m p.made }

@@ -60,13 +60,13 @@ AddedDefineNewNames = (ms : List (List Rec)) (name : List ℕ) → has_claim (al
 abbrev pub ShowsAddressesOf : List Module → List Member → List ℕ → Type 0
 ShowsAddressesOf ms members text = IsProgramMap ms (map (λ m. m.places) members) text
 
--- So does a map of modules for each program of them, an .EXE or a .COM file.
-pub record ShowsAddresses (ms : List Module) (text : List ℕ) : Type 0 where
-  pub of_exe : (most : ℕ) (bytes : List ℕ) (has_stack : Bool) (p : IsProgramOf most ms bytes has_stack) → ShowsAddressesOf ms p.members text
-  pub of_com : (bytes : List ℕ) (p : IsComOf ms bytes) → ShowsAddressesOf ms p.members text
+-- So does a map of modules for each program of them, an .EXE or a .COM file, of the modules that it shows.
+pub record ShowsAddresses (ms shown : List Module) (text : List ℕ) : Type 0 where
+  pub of_exe : (most : ℕ) (bytes : List ℕ) (has_stack : Bool) (p : IsProgramOf most ms bytes has_stack) → ShowsAddressesOf shown p.members text
+  pub of_com : (bytes : List ℕ) (p : IsComOf ms bytes) → ShowsAddressesOf shown p.members text
 
 abbrev pub MapsShowPrograms : Type 0
-MapsShowPrograms = (ms : List Module) (text : List ℕ) → IsMapOf ms text → ShowsAddresses ms text
+MapsShowPrograms = (ms shown : List Module) (text : List ℕ) → IsMapOf ms shown text → ShowsAddresses ms shown text
 
 -- The placements of members of a program, moved by k paragraphs.
 abbrev pub placements_at : ℕ → List Member → List Places

@@ -14,8 +14,11 @@ use Rattle.omf_exe.specs.Refusing.{AreNoComProgram, AreNoProgram, AreNotAdded, A
 use Rattle.omf_exe.specs.Stack.{other_stack, stack_line}
 use Rattle.omf_trimming.specs.Choice.{AreChosen}
 use Rattle.omf_trimming.specs.Trimmed.{AreTrimmed}
+use Rattle.omf_trimming.specs.declared.optional.LeftOut.{LeftOut}
+use Rattle.omf_trimming.specs.declared.without.LeftPublics.TheVariants.{AtStart, Gone}
 use Rattle.omf_map.specs.Far.{far}
 use Rattle.omf_symbols.specs.Tools.{usual_load}
+use Rattle.omf_host.specs.declared.tool.Tool.{Tool}
 use Rattle.omf_symbols.specs.declared.tool.Kind.{Kind}
 use Rattle.omf_symbols.specs.declared.tool.Kind.TheVariants as file_kinds
 use Rattle.omf_exe.specs.declared.input.Origin.{Origin}
@@ -64,11 +67,13 @@ IsAlone Com ms = ⊤
 abbrev pub IsAllowed : Bool → Bool → Type 0
 IsAllowed is_allowed is_found = is_allowed ≡ false → is_found ≡ false
 
--- The map of modules of files: the list of the modules, and after it the map of the program.
-pub record IsListedMap (files : List InputFile) (p : ProgramModules) (map : List ℕ) : Type 0 where
+-- The map of modules of files: the list of the modules, and after it the map of the program. It shows the modules without the names of the segments that are left out.
+pub record IsListedMap (o : LeftOut) (files : List InputFile) (p : ProgramModules) (map : List ℕ) : Type 0 where
+  pub shown : List Module
+  pub named : AreTrimmed Gone o p.modules shown
   pub text : List ℕ
-  pub listed : map ≡ list_text files p.from (typed_modules p.modules) ++ text
-  pub mapped : IsMapOf p.modules text
+  pub listed : map ≡ list_text files p.from (typed_modules shown) ++ text
+  pub mapped : IsMapOf p.modules shown text
 
 -- Where a program starts and its stack is, by the header of an .EXE file (its offsets: Loading of omf_output).
 abbrev pub header_lines : List ℕ → List ℕ
@@ -78,27 +83,31 @@ abbrev pub start_lines : ProgramKind → List ℕ → List ℕ
 start_lines Exe bytes = header_lines bytes
 start_lines Com bytes = []
 
--- The map of a program with these bytes, if it is asked for: that map, and after it where an .EXE file starts.
-abbrev pub IsMapIf : ProgramKind → Bool → List InputFile → ProgramModules → List ℕ → Option (Vec ℕ) → Type 0
-IsMapIf kind false files p bytes map = map ≡ None
-IsMapIf kind true files p bytes None = ⊥
-IsMapIf kind true files p bytes (Some map) = (listed : List ℕ) × IsListedMap files p listed × (map.items ≡ listed ++ start_lines kind bytes)
+-- The map of a program with these bytes, if it is asked for: a map, and after it where an .EXE file starts.
+abbrev pub IsMapIf : (List ℕ → Type 0) → ProgramKind → Bool → List ℕ → Option (Vec ℕ) → Type 0
+IsMapIf IsMap kind false bytes map = map ≡ None
+IsMapIf IsMap kind true bytes None = ⊥
+IsMapIf IsMap kind true bytes (Some map) = (listed : List ℕ) × IsMap listed × (map.items ≡ listed ++ start_lines kind bytes)
 
 -- The symbols of a program, if they are asked for: where the tool usually loads it.
 abbrev pub file_kind : ProgramKind → Kind
 file_kind Exe = file_kinds.Mz
 file_kind Com = file_kinds.Com
 
-abbrev pub AreSymbolsIf : ProgramKind → Option SymbolsFile → List Module → Option (Vec ℕ) → Type 0
-AreSymbolsIf kind None ms text = text ≡ None
-AreSymbolsIf kind (Some asked) ms None = ⊥
-AreSymbolsIf kind (Some asked) ms (Some text) = AreSymbolsOf asked.tool (usual_load asked.tool (file_kind kind)) ms text.items
+abbrev pub AreSymbolsIf : (Tool → ℕ → List ℕ → Type 0) → ProgramKind → Option SymbolsFile → Option (Vec ℕ) → Type 0
+AreSymbolsIf AreSymbols kind None text = text ≡ None
+AreSymbolsIf AreSymbols kind (Some asked) None = ⊥
+AreSymbolsIf AreSymbols kind (Some asked) (Some text) = AreSymbols asked.tool (usual_load asked.tool (file_kind kind)) text.items
 
--- What is written of modules of files.
-pub record IsMadeOf (options : ExeOptions) (files : List InputFile) (p : ProgramModules) (made : MadeProgram) : Type 0 where
+-- They are those of the modules without the names of the segments that are left out.
+pub record AreNamedSymbols (o : LeftOut) (ms : List Module) (tool : Tool) (load : ℕ) (text : List ℕ) : Type 0 where
+  pub shown : List Module
+  pub named : AreTrimmed Gone o ms shown
+  pub symbols : AreSymbolsOf tool load ms shown text
+
+-- What is written of modules, and told of them: the bytes, and what a look finds.
+pub record IsMadeOf (options : ExeOptions) (p : ProgramModules) (made : MadeProgram) : Type 0 where
   pub program : AreBytesOf options.kind (maximum options) p.modules made.bytes.items made.lacks_stack
-  pub map : IsMapIf options.kind (is_some options.map) files p made.bytes.items made.map
-  pub symbols : AreSymbolsIf options.kind options.symbols p.modules made.symbols
   pub alone : IsAlone options.kind p.modules
   pub long : Finds (IsLongOf p.modules) (is_some made.long) × IsAllowed options.allows_long (is_some made.long)
   pub mixed : Finds (IsMixedOf p.modules) (is_some made.mixed) × IsAllowed options.allows_mixed (is_some made.mixed)
@@ -118,8 +127,10 @@ pub record IsMade (options : ExeOptions) (p : ProgramFiles) (made : MadeProgram)
   pub whole : List Module
   pub followed : AreFollowed all.modules whole
   pub linked : List Module
-  pub trimmed : AreTrimmed options.unreached whole linked
-  pub made_of : IsMadeOf options p.files (record { modules = linked; from = all.from }) made
+  pub trimmed : AreTrimmed AtStart options.unreached whole linked
+  pub made_of : IsMadeOf options (record { modules = linked; from = all.from }) made
+  pub map : IsMapIf (IsListedMap options.unreached p.files (record { modules = linked; from = all.from })) options.kind (is_some options.map) made.bytes.items made.map
+  pub symbols : AreSymbolsIf (AreNamedSymbols options.unreached linked) options.kind options.symbols made.symbols
 
 -- Why nothing is written of modules: there is no program of them; they have no places; or a look finds what is not allowed.
 abbrev pub IsLookFault : ExeOptions → List Module → Type 0
@@ -134,7 +145,7 @@ pub record IsNotMadeWith (options : ExeOptions) (all : List Module) : Type 0 whe
   pub whole : List Module
   pub followed : AreFollowed all whole
   pub linked : List Module
-  pub trimmed : AreTrimmed options.unreached whole linked
+  pub trimmed : AreTrimmed AtStart options.unreached whole linked
   pub why : IsNotMadeOf options linked
 
 abbrev pub IsNotLinkedOf : ExeOptions → List Module → Type 0

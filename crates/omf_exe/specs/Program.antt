@@ -111,21 +111,23 @@ pub record IsNearOf (ms : List Module) (found : Option Stray) : Type 0 where
   pub derived : derived (placed_modules ms places) (weak_of ms places) ≡ Ok placements
   pub first : found ≡ first_near ms placements
 
--- The map of a program, by its modules at their placements.
-pub record IsMapOf (ms : List Module) (text : List ℕ) : Type 0 where
+-- The placements of the modules of a program.
+pub record ArePlaced (ms : List Module) (placements : List Places) : Type 0 where
   pub places : List Places
-  pub placements : List Places
   pub laid : AreLaid ms places
   pub derived : derived (placed_modules ms places) (weak_of ms places) ≡ Ok placements
-  pub printed : IsProgramMap ms placements text
 
--- The symbols of a program for a tool that loads it at an address, by its modules at their placements.
-pub record AreSymbolsOf (tool : Tool) (load : ℕ) (ms : List Module) (text : List ℕ) : Type 0 where
-  pub places : List Places
+-- The map of a program: of the modules that it shows, at the placements of the program's.
+pub record IsMapOf (ms shown : List Module) (text : List ℕ) : Type 0 where
   pub placements : List Places
-  pub laid : AreLaid ms places
-  pub derived : derived (placed_modules ms places) (weak_of ms places) ≡ Ok placements
-  pub printed : text ≡ symbols_text tool (placed_symbols load (placed_modules ms placements))
+  pub placed : ArePlaced ms placements
+  pub printed : IsProgramMap shown placements text
+
+-- The symbols of a program for a tool that loads it at an address, of the same modules.
+pub record AreSymbolsOf (tool : Tool) (load : ℕ) (ms shown : List Module) (text : List ℕ) : Type 0 where
+  pub placements : List Places
+  pub placed : ArePlaced ms placements
+  pub printed : text ≡ symbols_text tool (placed_symbols load (placed_modules shown placements))
 
 -- Why modules are no program: a segment does not end below 2^20; an external has no place; or the modules so placed have a fault. Memory may run out at any time.
 pub record IsExternalFault (ms : List Module) (f : DeriveFault) : Type 0 where

@@ -27,7 +27,9 @@ mod program_files;
 mod refusal;
 mod refused;
 mod sharing;
+mod views;
 mod with_communals;
+mod written;
 
 pub use asked::{Call, call_of};
 pub use candidates::library_files;
@@ -36,11 +38,11 @@ pub use fault::{ComProgramFault, PlacingFault, ProgramFault};
 pub use joining::{Joined, JoiningFault, join_needed};
 pub use made::MadeProgram;
 pub use making::{
-    between_of, com_linked, long_of, map_linked, near_linked, program_linked, program_of,
-    symbols_linked,
+    between_of, com_linked, long_of, near_linked, placements_linked, program_linked, program_of,
 };
 pub use options::{ExeOptions, Order, ProgramKind, SymbolsFile};
 pub use ordering::{OrderingFault, order_of};
-pub use program_files::{Leftovers, ProgramFiles};
+pub use program_files::ProgramFiles;
 pub use refusal::Refusal;
 pub use sharing::{SharingFault, shared_module};
+pub use written::Leftovers;

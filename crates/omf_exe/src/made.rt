@@ -1,20 +1,18 @@
 //! What is written of a DOS program: its bytes, its map, its symbols, and lines of what is found in it.
 
-ghost use Rattle.std.specs.Prelude.{◌≡◌, ◌≤◌, IfErr, IfOk, false, is_some, length, option_map, string_bytes, true};
-ghost use Rattle.omf_exe.specs.Making.{AreBytesOf, AreSymbolsIf, HaveNoBytes, IsAllowed, IsAlone, IsLookFault, IsMadeOf, IsMapIf, IsNotMadeOf, file_kind};
+ghost use Rattle.std.specs.Prelude.{◌≡◌, ◌≤◌, IfErr, IfOk, None, false, is_some, length, option_map, string_bytes, true};
+ghost use Rattle.omf_exe.specs.Making.{AreBytesOf, HaveNoBytes, IsAllowed, IsAlone, IsLookFault, IsMadeOf, IsNotMadeOf};
 ghost use Rattle.omf_exe.specs.declared.options.ProgramKind.TheVariants.{Exe};
 ghost use Rattle.omf_exe.specs.Program.{IsBetweenOf, IsLongOf, IsMixedOf, IsNearOf};
-ghost use Rattle.omf_exe.specs.Refusing.{AreUnplaced, Finds, IsNotAllowed, IsRefusalFor, is_out_of_memory};
+ghost use Rattle.omf_exe.specs.Refusing.{Finds, IsNotAllowed, IsRefusalFor, is_out_of_memory};
 ghost use Rattle.omf_exe.specs.Stack.{other_stack, stack_line};
 
 use crate::files::memory;
 use crate::length::stack_line;
-use crate::listing::put_start;
-use crate::options::{ExeOptions, ProgramKind, SymbolsFile};
+use crate::options::{ExeOptions, ProgramKind};
 use crate::program::LinkedModules;
 use crate::refusal::Refusal;
 use omf_linking::InputFile;
-use omf_symbols::{Kind, usual_load};
 use std::alloc::{AllocError, Global};
 
 /// A program, its map, its symbols, and lines of what is found in it.
@@ -120,56 +118,6 @@ fn looks_of(
     Ok(Looks { long, near, mixed })
 }
 
-/// The map of a program with these bytes, if it is asked for.
-fn map_of(
-    alloc: Global,
-    modules: &LinkedModules<'_>,
-    files: &[InputFile],
-    options: &ExeOptions<'_>,
-    bytes: &[u8],
-) -> Result<Option<Vec<u8>>, Refusal>
-    requires { options.now.kind ≡ Exe → 28 ≤ length bytes.now }
-    ensures map { IfOk result (IsMapIf options.now.kind (is_some options.now.map) files.now modules.now bytes.now) }
-    ensures refused { IfErr result (IsRefusalFor (AreUnplaced modules.now.modules)) }
-{
-    if options.map.is_none() {
-        return Ok(None);
-    }
-    let mut map = modules.map(alloc, files)?;
-    match put_start(alloc, &mut map, options.kind, bytes) {
-        Ok(()) => Ok(Some(map)),
-        Err(AllocError) => Err(memory()),
-    }
-}
-
-/// What a program's file is for a tool.
-fn file_kind(kind: ProgramKind) -> Kind
-    ensures { result ≡ file_kind kind }
-{
-    match kind {
-        ProgramKind::Exe => Kind::Mz,
-        ProgramKind::Com => Kind::Com,
-    }
-}
-
-/// The symbols of a program, if they are asked for, where the tool usually loads it.
-fn symbols_of(
-    alloc: Global,
-    modules: &LinkedModules<'_>,
-    files: &[InputFile],
-    options: &ExeOptions<'_>,
-) -> Result<Option<Vec<u8>>, Refusal>
-    ensures symbols { IfOk result (AreSymbolsIf options.now.kind options.now.symbols modules.now.modules) }
-    ensures refused { IfErr result (IsRefusalFor (AreUnplaced modules.now.modules)) }
-{
-    let Some(SymbolsFile { tool, .. }) = options.symbols else {
-        return Ok(None);
-    };
-    let load = usual_load(tool, file_kind(options.kind));
-    let text = modules.symbols(alloc, files, tool, load)?;
-    Ok(Some(text))
-}
-
 /// The line of the length of the stack of a program with these bytes, if it is another than the options ask for.
 fn stack_note(
     alloc: Global,
@@ -186,20 +134,22 @@ fn stack_note(
     }
 }
 
-/// The program of modules, with its map, its symbols and what is found in it. A look refuses before there is a fault of the program, but for a name that is
+/// The program of modules, with what is found in it, and without a map or symbols. A look refuses before there is a fault of the program, but for a name that is
 /// not defined.
 ///
 /// # Errors
 ///
-/// The names that are not defined; otherwise the line of a look, if it finds what is not allowed; otherwise the fault of the program, its
-/// map or its symbols; otherwise the names that more than one public has, if they are not allowed. Out of memory.
+/// The names that are not defined; otherwise the line of a look, if it finds what is not allowed; otherwise the fault of the program; otherwise the names that more
+/// than one public has, if they are not allowed. Out of memory.
 pub(crate) fn made_of(
     alloc: Global,
     modules: &LinkedModules<'_>,
     files: &[InputFile],
     options: &ExeOptions<'_>,
 ) -> Result<MadeProgram, Refusal>
-    ensures made { IfOk result (IsMadeOf options.now files.now modules.now) }
+    ensures made { IfOk result (IsMadeOf options.now modules.now) }
+    ensures map { IfOk result (λ made. made.map ≡ None) }
+    ensures symbols { IfOk result (λ made. made.symbols ≡ None) }
     ensures refused { IfErr result (IsRefusalFor (IsNotMadeOf options.now modules.now.modules)) }
 {
     let most = options.maximum();
@@ -218,15 +168,13 @@ pub(crate) fn made_of(
         }
     };
     let Looks { long, near, mixed } = looks_of(alloc, modules, files, options)?;
-    let map = map_of(alloc, modules, files, options, &bytes)?;
-    let symbols = symbols_of(alloc, modules, files, options)?;
     let stack = stack_note(alloc, options, &bytes)?;
     let repeated = modules.repeated(alloc, files, options.allows_twice)?;
     Ok(MadeProgram {
         bytes,
         lacks_stack,
-        map,
-        symbols,
+        map: None,
+        symbols: None,
         long,
         near,
         mixed,

@@ -1,6 +1,6 @@
 //! The programs of modules: their layout, their externals, what moves of them, and the file.
 
-ghost use Rattle.std.specs.Prelude.{◌≡◌, ◌<◌, ◌^◌, [], IfErr, IfOk, Ok, length, string_bytes};
+ghost use Rattle.std.specs.Prelude.{◌≡◌, ◌<◌, ◌^◌, [], IfErr, IfOk, Ok, length};
 ghost use Rattle.omf_check.specs.Module.{typed_modules};
 ghost use Rattle.omf_output.specs.Exe.Derived.{AreMovers};
 ghost use Rattle.omf_placement.specs.Derive.{placed_modules};
@@ -8,13 +8,12 @@ ghost use Rattle.omf_placement.specs.Inner.Derived.{derived};
 ghost use Rattle.omf_placement.specs.Inner.Linkage.{IsLinkage};
 ghost use Rattle.omf_symbols.specs.Placed.{placed_symbols};
 ghost use Rattle.omf_symbols.specs.Text.{symbols_text};
-ghost use Rattle.omf_exe.specs.Program.{AreLaid, AreMade, AreSymbolsOf, IsBetweenOf, IsComOf, IsComProgramFault, IsExternalFault, IsLongOf, IsMapOf, IsNearOf, IsPlacingFault, IsProgramFault, IsProgramOf, members_from, weak_of};
+ghost use Rattle.omf_exe.specs.Program.{AreLaid, AreMade, ArePlaced, IsBetweenOf, IsComOf, IsComProgramFault, IsExternalFault, IsLongOf, IsNearOf, IsPlacingFault, IsProgramFault, IsProgramOf, members_from, weak_of};
 
 use crate::fault::{ComProgramFault, PlacingFault, ProgramFault};
 use omf_check::Checked;
 use omf_layout::several::place_segments;
 use omf_layout::{Frames, LayoutFault, Options};
-use omf_map::program_map;
 use omf_output::exe::{ExeFault, ExeFile, Member, Movers, link_com, link_exe, movers_of};
 use omf_output::near::{Stray, first_near};
 use omf_output::stacks::{Interval, first_between};
@@ -285,35 +284,32 @@ pub fn near_linked(
     }
 }
 
-/// The map of modules at the places of their program, as `program_map` prints it.
+/// The placements of modules at the places of their program.
 ///
 /// # Errors
 ///
 /// `NoRoom` if a segment does not end below 2^20; otherwise `External` for the first external without a place. `Memory` if memory runs out.
-pub fn map_linked(
+pub fn placements_linked(
     alloc: Global,
     linkage: &Linkage,
     modules: &[Checked],
-) -> Result<String, PlacingFault>
+) -> Result<Vec<Placement>, PlacingFault>
     requires few { length modules.now < 2 ^ 32 }
     requires linked { IsLinkage (typed_modules modules.now) linkage.now }
-    ensures map { IfOk result (λ text. IsMapOf modules.now (string_bytes text)) }
+    ensures placed { IfOk result (λ v. ArePlaced modules.now v.items) }
+    ensures one_each { IfOk result (λ v. length v.items ≡ length modules.now) }
     ensures fault { IfErr result (IsPlacingFault modules.now) }
 {
     let places = places_of(alloc, modules)?;
-    let settled = match settle(alloc, linkage, modules, places) {
-        Ok(settled) => settled,
-        Err(DeriveFault::Memory) => return Err(PlacingFault::Memory),
-        Err(fault) => return Err(PlacingFault::External(fault)),
-    };
-    match program_map(alloc, modules, &settled.placements) {
-        Ok(text) => Ok(text),
-        Err(AllocError) => Err(PlacingFault::Memory),
+    match settle(alloc, linkage, modules, places) {
+        Ok(settled) => Ok(settled.placements),
+        Err(DeriveFault::Memory) => Err(PlacingFault::Memory),
+        Err(fault) => Err(PlacingFault::External(fault)),
     }
 }
 
 /// The symbols of modules at their placements, for a tool that loads the program at an address.
-fn text_of(
+pub(crate) fn symbols_at(
     alloc: Global,
     modules: &[Checked],
     placements: &[Placement],
@@ -325,33 +321,4 @@ fn text_of(
 {
     let symbols = placed_symbols(alloc, modules, placements, load)?;
     symbols_text(alloc, tool, &symbols)
-}
-
-/// The symbols of modules at the places of their program, for a tool that loads it at an address, as `symbols_text` of omf_symbols writes them.
-///
-/// # Errors
-///
-/// `NoRoom` if a segment does not end below 2^20; otherwise `External` for the first external without a place. `Memory` if memory runs out.
-pub fn symbols_linked(
-    alloc: Global,
-    linkage: &Linkage,
-    modules: &[Checked],
-    tool: Tool,
-    load: u32,
-) -> Result<Vec<u8>, PlacingFault>
-    requires few { length modules.now < 2 ^ 32 }
-    requires linked { IsLinkage (typed_modules modules.now) linkage.now }
-    ensures symbols { IfOk result (λ text. AreSymbolsOf tool load modules.now text.items) }
-    ensures fault { IfErr result (IsPlacingFault modules.now) }
-{
-    let places = places_of(alloc, modules)?;
-    let settled = match settle(alloc, linkage, modules, places) {
-        Ok(settled) => settled,
-        Err(DeriveFault::Memory) => return Err(PlacingFault::Memory),
-        Err(fault) => return Err(PlacingFault::External(fault)),
-    };
-    match text_of(alloc, modules, &settled.placements, tool, load) {
-        Ok(text) => Ok(text),
-        Err(AllocError) => Err(PlacingFault::Memory),
-    }
 }

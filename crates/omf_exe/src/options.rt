@@ -1,6 +1,6 @@
 //! The options of `omf-link exe` and `omf-link com`.
 
-ghost use Rattle.std.specs.Prelude.{◌≡◌};
+ghost use Rattle.std.specs.Prelude.{◌≡◌, ◌||◌, is_some};
 ghost use Rattle.omf_exe.specs.Making.{maximum};
 
 use omf_host::{amount, is_named};
@@ -162,6 +162,13 @@ impl<'a> ExeOptions<'a> {
                 debug: true,
             },
         }
+    }
+
+    /// Whether names of the modules are written: in a map, or as symbols.
+    pub fn shows_names(&self) -> bool
+        ensures { result ≡ (is_some self.now.map || is_some self.now.symbols) }
+    {
+        self.map.is_some() || self.symbols.is_some()
     }
 
     /// Allows what a value names. Returns false if that is none of what a program may do, or if it is allowed already.

@@ -1,21 +1,23 @@
 //! The modules of a program, and what is made of them: its file and its map.
 
-ghost use Rattle.std.specs.Prelude.{◌≡◌, ◌∷◌, ◌++◌, IfErr, IfOk, IfSome, List, None, OnOk, Some, false, is_some, map, string_bytes, true};
+ghost use Rattle.std.specs.Prelude.{◌≡◌, ◌∷◌, ◌++◌, ◌<◌, ◌^◌, IfErr, IfOk, IfSome, List, None, OnOk, Some, false, is_some, length, map, string_bytes, true};
 ghost use Rattle.omf_linking.specs.File.{InputFile as FileModel};
 ghost use Rattle.std.specs.List.{AllZip};
 ghost use Rattle.std.specs.List.Sorted.{IsStrictlyIncreasing};
-ghost use Rattle.omf_check.specs.Module.{Module, typed_modules};
+ghost use Rattle.omf_check.specs.Module.{Module};
 ghost use Rattle.omf_linking.specs.Folded.{IsFolded};
+ghost use Rattle.omf_placement.specs.Derive.{placed_modules};
+ghost use Rattle.omf_symbols.specs.Placed.{placed_symbols};
+ghost use Rattle.omf_symbols.specs.Text.{symbols_text};
 ghost use Rattle.omf_library.specs.declared.judged.LibraryMember.{LibraryMember};
 ghost use Rattle.omf_aliases.specs.Aliases.{AreFollowed};
 ghost use Rattle.omf_exe.specs.Adding.{AreOrderedBy, has_order};
 ghost use Rattle.omf_exe.specs.Input.{AllGive, AreOfFiles, AreOfFolded, IsMemberFolded};
 ghost use Rattle.omf_exe.specs.Libraries.{sought};
-ghost use Rattle.omf_exe.specs.Listing.{list_text};
-ghost use Rattle.omf_exe.specs.Making.{IsListedMap};
+ghost use Rattle.omf_exe.specs.Inner.Views.{IsListedAt};
 ghost use Rattle.omf_exe.specs.Ordering.{AreInClassOrder, AreOrdered};
 ghost use Rattle.omf_exe.specs.Origins.{AllFrom, AreAllWith, AreOfFilesFrom, AreOfFoldedFrom, origins_with};
-ghost use Rattle.omf_exe.specs.Program.{AreSymbolsOf, IsBetweenOf, IsComOf, IsLongOf, IsMixedOf, IsNearOf, IsProgramOf};
+ghost use Rattle.omf_exe.specs.Program.{ArePlaced, IsBetweenOf, IsComOf, IsLongOf, IsMixedOf, IsNearOf, IsProgramOf};
 ghost use Rattle.omf_exe.specs.Refusing.{AreNoComProgram, AreNoProgram, AreNotAdded, AreNotFollowed, AreNotInClassOrder, AreNotOrdered, AreNotOrderedBy, AreNotShared, AreTwiceLines, AreUnplaced, Finds, GiveNoFolded, GiveNoModules, HaveNamesTwice, IsNotAllowed, IsRefusalFor, NeedRefused, is_com_memory, is_memory, is_out_of_memory, is_placing_memory};
 ghost use Rattle.omf_exe.specs.Sharing.{AreShared};
 ghost use Rattle.omf_exe.specs.Taken.{values_at};
@@ -31,7 +33,7 @@ use crate::joining::{Joined, join_needed, take_into};
 use crate::lines::Origins;
 use crate::listing::modules_text;
 use crate::making::{
-    between_of, com_linked, long_of, map_linked, near_linked, program_linked, symbols_linked,
+    between_of, com_linked, long_of, near_linked, placements_linked, program_linked, symbols_at,
 };
 use crate::memory::{is_com_memory, is_memory, is_placing_memory};
 use crate::options::{ExeOptions, Order, ProgramKind};
@@ -44,10 +46,11 @@ use omf_check::Checked;
 use omf_combining::first_mixed;
 use omf_layout::own::ask_dos_order;
 use omf_linking::InputFile;
+use omf_map::program_map;
 use omf_output::exe::{ComFault, ExeFile};
-use omf_placement::{DeriveFault, Linkage};
+use omf_placement::{DeriveFault, Linkage, Placement};
 use omf_symbols::Tool;
-use omf_trimming::{LeftOut, chosen, trimmed};
+use omf_trimming::{LeftOut, LeftPublics, chosen, trimmed};
 use std::alloc::{AllocError, Global};
 use std::marker::Model;
 
@@ -390,19 +393,87 @@ impl ProgramModules {
         }
     }
 
-    /// The modules without the segments of these kinds that nothing reaches.
+    /// The modules without the segments of these kinds that nothing reaches, and with these publics of them.
     ///
     /// # Errors
     ///
     /// Out of memory.
-    pub fn trimmed(self, alloc: Global, left_out: LeftOut) -> Result<ProgramModules, Refusal>
-        ensures trimmed { IfOk result (λ p. AreTrimmed left_out self.modules p.modules) }
+    pub fn trimmed(
+        self,
+        alloc: Global,
+        left_out: LeftOut,
+        publics: LeftPublics,
+    ) -> Result<ProgramModules, Refusal>
+        ensures trimmed { IfOk result (λ p. AreTrimmed publics left_out self.modules p.modules) }
         ensures from { IfOk result (λ p. p.from ≡ self.from) }
         ensures refused { IfErr result (λ r. is_out_of_memory r ≡ true) }
     {
         let ProgramModules { modules, from } = self;
-        match trimmed(alloc, left_out, modules) {
+        match trimmed(alloc, left_out, publics, modules) {
             Ok(modules) => Ok(ProgramModules { modules, from }),
+            Err(AllocError) => Err(memory()),
+        }
+    }
+
+    /// The map of the modules at these placements: a line for each module, and their map.
+    fn listed(
+        &self,
+        alloc: Global,
+        files: &[InputFile],
+        placements: &[Placement],
+    ) -> Result<String, AllocError>
+        requires few { length self.now.modules < 2 ^ 32 }
+        requires placed { length placements.now ≡ length self.now.modules }
+        ensures { IfOk result (λ text. IsListedAt files.now self.now placements.now (string_bytes text)) }
+    {
+        let map = program_map(alloc, &self.modules, placements)?;
+        let mut text = modules_text(alloc, self.origins(files))?;
+        text.push_str(map.as_str())?;
+        Ok(text)
+    }
+
+    /// The map of the modules at these placements, as `listed` has it.
+    ///
+    /// # Errors
+    ///
+    /// Out of memory.
+    pub fn map(
+        &self,
+        alloc: Global,
+        files: &[InputFile],
+        placements: &[Placement],
+    ) -> Result<Vec<u8>, Refusal>
+        requires { length placements.now ≡ length self.now.modules }
+        ensures map { IfOk result (λ v. IsListedAt files.now self.now placements.now v.items) }
+        ensures refused { IfErr result (λ r. is_out_of_memory r ≡ true) }
+    {
+        if self.modules.len() > u32::MAX as usize {
+            return Err(memory());
+        }
+        match self.listed(alloc, files, placements) {
+            Ok(text) => Ok(text.into_bytes()),
+            Err(AllocError) => Err(memory()),
+        }
+    }
+
+    /// The symbols of the modules at these placements, for a tool that loads the program at an address.
+    ///
+    /// # Errors
+    ///
+    /// Out of memory.
+    pub fn symbols(
+        &self,
+        alloc: Global,
+        placements: &[Placement],
+        tool: Tool,
+        load: u32,
+    ) -> Result<Vec<u8>, Refusal>
+        requires { length placements.now ≡ length self.now.modules }
+        ensures symbols { IfOk result (λ v. v.items ≡ symbols_text tool (placed_symbols load (placed_modules self.now.modules placements.now))) }
+        ensures refused { IfErr result (λ r. is_out_of_memory r ≡ true) }
+    {
+        match symbols_at(alloc, &self.modules, placements, tool, load) {
+            Ok(text) => Ok(text),
             Err(AllocError) => Err(memory()),
         }
     }
@@ -705,60 +776,23 @@ impl<'a> LinkedModules<'a> {
         }
     }
 
-    /// The map of the program: a line for each module, and the map of the modules at the places of the program.
+    /// The placements of the modules at the places of the program.
     ///
     /// # Errors
     ///
-    /// The fault of `map_linked`, as lines.
-    pub fn map(&self, alloc: Global, files: &[InputFile]) -> Result<Vec<u8>, Refusal>
-        ensures map { IfOk result (λ v. IsListedMap files.now self.now v.items) }
+    /// The fault of `placements_linked`, as lines.
+    pub fn placements(&self, alloc: Global, files: &[InputFile]) -> Result<Vec<Placement>, Refusal>
+        ensures placed { IfOk result (λ v. ArePlaced self.now.modules v.items) }
+        ensures one_each { IfOk result (λ v. length v.items ≡ length self.now.modules) }
         ensures refused { IfErr result (IsRefusalFor (AreUnplaced self.now.modules)) }
     {
         let program = self.program;
         if program.modules.len() > u32::MAX as usize {
             return Err(memory());
         }
-        let map = match map_linked(alloc, &self.linkage, &program.modules) {
-            Ok(map) => map,
-            Err(fault) => return Err(program.unplaced(alloc, files, fault)),
-        };
-        match self.listed(alloc, files, map.as_str()) {
-            Ok(text) => Ok(text.into_bytes()),
-            Err(AllocError) => Err(memory()),
-        }
-    }
-
-    /// The symbols of the program, for a tool that loads it at an address.
-    ///
-    /// # Errors
-    ///
-    /// The fault of `symbols_linked`, as lines.
-    pub fn symbols(
-        &self,
-        alloc: Global,
-        files: &[InputFile],
-        tool: Tool,
-        load: u32,
-    ) -> Result<Vec<u8>, Refusal>
-        ensures symbols { IfOk result (λ v. AreSymbolsOf tool load self.now.modules v.items) }
-        ensures refused { IfErr result (IsRefusalFor (AreUnplaced self.now.modules)) }
-    {
-        let program = self.program;
-        if program.modules.len() > u32::MAX as usize {
-            return Err(memory());
-        }
-        match symbols_linked(alloc, &self.linkage, &program.modules, tool, load) {
-            Ok(text) => Ok(text),
+        match placements_linked(alloc, &self.linkage, &program.modules) {
+            Ok(placements) => Ok(placements),
             Err(fault) => Err(program.unplaced(alloc, files, fault)),
         }
-    }
-
-    /// The lines of the modules, and a map after them.
-    fn listed(&self, alloc: Global, files: &[InputFile], map: &str) -> Result<String, AllocError>
-        ensures { IfOk result (λ text. string_bytes text ≡ list_text files.now self.now.from (typed_modules self.now.modules) ++ map.now) }
-    {
-        let mut text = modules_text(alloc, self.program.origins(files))?;
-        text.push_str(map)?;
-        Ok(text)
     }
 }

@@ -7,15 +7,16 @@ ghost use Rattle.omf_exe.specs.Origins.{AreFrom};
 ghost use Rattle.omf_exe.specs.Refusing.{IsRefusalFor};
 
 use crate::files::memory;
-use crate::made::{MadeProgram, made_of};
+use crate::made::MadeProgram;
 use crate::options::ExeOptions;
 use crate::program::ProgramModules;
 use crate::refusal::Refusal;
+use crate::written::{Leftovers, written_of};
 use omf_externals::move_all;
 use omf_linking::InputFile;
+use omf_trimming::LeftPublics;
 use std::alloc::{AllocError, Global};
 use std::marker::Model;
-use std::mem::forget;
 
 /// The files of a program, and the modules that they give.
 #[derive(Drop)]
@@ -51,15 +52,6 @@ fn modules_of(
     } else {
         ProgramModules::of(alloc, files)
     }
-}
-
-/// What becomes of the memory of the modules once their program is made.
-#[derive(Clone, Copy, Debug, PartialEq, Eq)]
-pub enum Leftovers {
-    /// It is freed: for a caller that goes on.
-    Freed,
-    /// It stays, since freeing it takes long: for a process that ends soon.
-    Left,
 }
 
 impl ProgramFiles {
@@ -126,8 +118,7 @@ impl ProgramFiles {
     /// # Errors
     ///
     /// The fault of the modules that are added; otherwise that of `followed`; otherwise the names that are not defined; otherwise the line of a look, if it finds what the
-    /// options do not allow; otherwise the fault of the program or its map; otherwise the names that more than one public has, if they are not
-    /// allowed. Out of memory.
+    /// options do not allow; otherwise the fault of the program; otherwise the names that more than one public has, if they are not allowed. Out of memory.
     pub fn make(
         self,
         alloc: Global,
@@ -141,16 +132,8 @@ impl ProgramFiles {
         let chosen = modules.chosen(alloc)?;
         let added = chosen.with_added(alloc, options)?;
         let all = added.following_aliases(alloc)?;
-        let trimmed = all.trimmed(alloc, options.unreached)?;
-        let linked = trimmed.linked(alloc)?;
-        let made = made_of(alloc, &linked, &files, options)?;
-        match leftovers {
-            Leftovers::Freed => {}
-            Leftovers::Left => {
-                forget(linked);
-                forget(trimmed);
-            }
-        }
+        let trimmed = all.trimmed(alloc, options.unreached, LeftPublics::AtStart)?;
+        let made = written_of(alloc, trimmed, &files, options, leftovers)?;
         Ok(made)
     }
 }

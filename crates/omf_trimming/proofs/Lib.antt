@@ -19,3 +19,4 @@ pub mod TripleLaws
 pub mod KeptLaws
 pub mod OnceLaws
 pub mod ClashLaws
+pub mod TrimmedLaws

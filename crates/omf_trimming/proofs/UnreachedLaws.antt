@@ -11,15 +11,15 @@ use Rattle.omf_check.specs.Tables.{segments}
 use Rattle.omf_trimming.specs.Reaching.{AreReached, AreWithoutUnreached, IsNode, IsWithoutUnreached, Node, is_among, unreached}
 use Rattle.omf_trimming.specs.Inner.Reaching.{HasMark, IsWalk, IsWalked, Marks, AreUnreached, is_marked, is_set, set_of, size_of, unmarked_from}
 use Rattle.omf_trimming.specs.Without.{IsWithout}
-use Rattle.omf_trimming.specs.declared.without.LeftPublics.TheVariants.{AtStart}
+use Rattle.omf_trimming.specs.declared.without.LeftPublics.{LeftPublics}
 use Rattle.omf_trimming.proofs.ChoiceAllLaws.{paired}
 use Rattle.omf_trimming.proofs.MarkLaws.{same-node}
 use Rattle.omf_trimming.proofs.ReachLaws.{are-reached}
 use Rattle.omf_trimming.specs.declared.optional.LeftOut.{LeftOut}
 
 -- A module without these segments.
-abbrev pub IsLeftOut : Module × List ℕ → Module → Type 0
-IsLeftOut p o = IsWithout AtStart p.1 p.0 o
+abbrev pub IsLeftOut : LeftPublics → Module × List ℕ → Module → Type 0
+IsLeftOut publics p o = IsWithout publics p.1 p.0 o
 
 -- A segment is among others.
 among-here : (k n : Node) (ks : List Node) → k ≡ n → is_among (k ∷ ks) n ≡ true
@@ -113,41 +113,41 @@ if-ok (Ok v) f e g = f v (e ∙ g)
 if-ok (Err x) f e g = e
 
 -- The modules so far are without these, and the others are left.
-pub record AreLeftSoFar (o : LeftOut) (ms left : List Module) (gone : List (List ℕ)) (all : List Module) : Type 0 where
+pub record AreLeftSoFar (publics : LeftPublics) (o : LeftOut) (ms left : List Module) (gone : List (List ℕ)) (all : List Module) : Type 0 where
   pub found : List Node
   pub reached : AreReached o (typed_modules ms) found
-  pub held : (later : List Module) → AllZip IsLeftOut (paired left gone) later → AllZip (IsWithoutUnreached found) (enumerate_from 0 ms) (all ++ later)
+  pub held : (later : List Module) → AllZip (IsLeftOut publics) (paired left gone) later → AllZip (IsWithoutUnreached publics found) (enumerate_from 0 ms) (all ++ later)
 
-numbered : (set : List Node) (j : ℕ) (ms out : List Module) → AllZip IsLeftOut (paired ms (map (λ m. unreached set m.0 m.1) (enumerate_from j (typed_modules ms)))) out → AllZip (IsWithoutUnreached set) (enumerate_from j ms) out
-numbered set j [] out h = h
-numbered set j (m ∷ ms) [] h = h
-numbered set j (m ∷ ms) (o ∷ out) h = (h.0, numbered set (j + 1) ms out h.1)
+numbered : (publics : LeftPublics) (set : List Node) (j : ℕ) (ms out : List Module) → AllZip (IsLeftOut publics) (paired ms (map (λ m. unreached set m.0 m.1) (enumerate_from j (typed_modules ms)))) out → AllZip (IsWithoutUnreached publics set) (enumerate_from j ms) out
+numbered publics set j [] out h = h
+numbered publics set j (m ∷ ms) [] h = h
+numbered publics set j (m ∷ ms) (o ∷ out) h = (h.0, numbered publics set (j + 1) ms out h.1)
 
-pub left-starts : (o : LeftOut) (ms left : List Module) (gone : List (List ℕ)) (all : List Module) → left ≡ ms → AreUnreached o (typed_modules ms) gone → all ≡ [] → AreLeftSoFar o ms left gone all
-left-starts o ms left gone all e u f = record {
+pub left-starts : (publics : LeftPublics) (o : LeftOut) (ms left : List Module) (gone : List (List ℕ)) (all : List Module) → left ≡ ms → AreUnreached o (typed_modules ms) gone → all ≡ [] → AreLeftSoFar publics o ms left gone all
+left-starts publics o ms left gone all e u f = record {
   found = u.found;
   reached = u.reached;
   held = λ later h.
-      subst (λ (xs : List Module). AllZip (IsWithoutUnreached u.found) (enumerate_from 0 ms) (xs ++ later)) (sym f)
-      (numbered u.found 0 ms later (subst (λ (ps : List (Module × List ℕ)). AllZip IsLeftOut ps later) (ap₂ paired e u.lists) h));
+      subst (λ (xs : List Module). AllZip (IsWithoutUnreached publics u.found) (enumerate_from 0 ms) (xs ++ later)) (sym f)
+      (numbered publics u.found 0 ms later (subst (λ (ps : List (Module × List ℕ)). AllZip (IsLeftOut publics) ps later) (ap₂ paired e u.lists) h));
 }
 
-pub left-more : (o : LeftOut) (ms left rest : List Module) (gone more : List (List ℕ)) (all new : List Module) (m r : Module) (g : List ℕ) → left ≡ m ∷ rest → gone ≡ g ∷ more → new ≡ all ++ r ∷ [] → IsWithout AtStart g m r
-    → AreLeftSoFar o ms left gone all → AreLeftSoFar o ms rest more new
-left-more o ms left rest gone more all new m r g e f added is a = record {
+pub left-more : (publics : LeftPublics) (o : LeftOut) (ms left rest : List Module) (gone more : List (List ℕ)) (all new : List Module) (m r : Module) (g : List ℕ) → left ≡ m ∷ rest → gone ≡ g ∷ more → new ≡ all ++ r ∷ [] → IsWithout publics g m r
+    → AreLeftSoFar publics o ms left gone all → AreLeftSoFar publics o ms rest more new
+left-more publics o ms left rest gone more all new m r g e f added is a = record {
   found = a.found;
   reached = a.reached;
   held = λ later h.
       let pairs : paired left gone ≡ (m, g) ∷ paired rest more = ap₂ paired e f in
-      subst (λ (xs : List Module). AllZip (IsWithoutUnreached a.found) (enumerate_from 0 ms) xs) (sym (ap (λ (xs : List Module). xs ++ later) added ∙ append_assoc all (r ∷ []) later))
-      (a.held (r ∷ later) (subst (λ (ps : List (Module × List ℕ)). AllZip IsLeftOut ps (r ∷ later)) (sym pairs) (is, h)));
+      subst (λ (xs : List Module). AllZip (IsWithoutUnreached publics a.found) (enumerate_from 0 ms) xs) (sym (ap (λ (xs : List Module). xs ++ later) added ∙ append_assoc all (r ∷ []) later))
+      (a.held (r ∷ later) (subst (λ (ps : List (Module × List ℕ)). AllZip (IsLeftOut publics) ps (r ∷ later)) (sym pairs) (is, h)));
 }
 
-pub left-ends : (o : LeftOut) (ms left : List Module) (gone : List (List ℕ)) (all : List Module) → AreLeftSoFar o ms left gone all → left ≡ [] → AreWithoutUnreached o ms all
-left-ends o ms left gone all a e = record {
+pub left-ends : (publics : LeftPublics) (o : LeftOut) (ms left : List Module) (gone : List (List ℕ)) (all : List Module) → AreLeftSoFar publics o ms left gone all → left ≡ [] → AreWithoutUnreached publics o ms all
+left-ends publics o ms left gone all a e = record {
   set = a.found;
   reached = a.reached;
   each =
       let none : paired left gone ≡ [] = ap (λ (ks : List Module). paired ks gone) e in
-      subst (λ (xs : List Module). AllZip (IsWithoutUnreached a.found) (enumerate_from 0 ms) xs) (append-nil all) (a.held [] (subst (λ (ps : List (Module × List ℕ)). AllZip IsLeftOut ps []) (sym none) tt));
+      subst (λ (xs : List Module). AllZip (IsWithoutUnreached publics a.found) (enumerate_from 0 ms) xs) (append-nil all) (a.held [] (subst (λ (ps : List (Module × List ℕ)). AllZip (IsLeftOut publics) ps []) (sym none) tt));
 }

@@ -23,7 +23,7 @@ use Rattle.omf_placement.specs.declared.several.sources.Definer.TheVariants.{Onl
 use Rattle.omf_reloc.specs.Plain.{End, Fixed, Kept, Piece, piece_of}
 use Rattle.omf_trimming.specs.Without.{IsWithout}
 use Rattle.omf_trimming.specs.declared.optional.LeftOut.{LeftOut}
-use Rattle.omf_trimming.specs.declared.without.LeftPublics.TheVariants.{AtStart}
+use Rattle.omf_trimming.specs.declared.without.LeftPublics.{LeftPublics}
 
 -- A segment of a program: the number of its module, from 0, and its index there, from 1. The index 0 is the module's start.
 abbrev pub Node : Type 0
@@ -154,10 +154,10 @@ abbrev pub unreached : List Node → ℕ → List Rec → List ℕ
 unreached set j m = filter (λ i. not (is_among set (j, i))) (map (λ s. s.0) (enumerate_from 1 (segments m)))
 
 -- Each module without its segments that are not reached.
-abbrev pub IsWithoutUnreached : List Node → ℕ × Module → Module → Type 0
-IsWithoutUnreached set m out = IsWithout AtStart (unreached set m.0 (recs_of m.1.bytes)) m.1 out
+abbrev pub IsWithoutUnreached : LeftPublics → List Node → ℕ × Module → Module → Type 0
+IsWithoutUnreached publics set m out = IsWithout publics (unreached set m.0 (recs_of m.1.bytes)) m.1 out
 
-pub record AreWithoutUnreached (o : LeftOut) (ms out : List Module) : Type 0 where
+pub record AreWithoutUnreached (publics : LeftPublics) (o : LeftOut) (ms out : List Module) : Type 0 where
   pub set : List Node
   pub reached : AreReached o (typed_modules ms) set
-  pub each : AllZip (IsWithoutUnreached set) (enumerate_from 0 ms) out
+  pub each : AllZip (IsWithoutUnreached publics set) (enumerate_from 0 ms) out

@@ -4,7 +4,7 @@
 //! // The modules of a link, in its order, as `lowered_file` of omf_lowered gives them.
 //! let modules = chosen(alloc, modules)?;
 //! // With all that a linker adds to them.
-//! let modules = trimmed(alloc, LeftOut { code: false, debug: true }, modules)?;
+//! let modules = trimmed(alloc, LeftOut { code: false, debug: true }, LeftPublics::AtStart, modules)?;
 //! // The same modules; a segment that is left out has a length of 0, and no data or fixups.
 //! ```
 #![tactic(auto)]

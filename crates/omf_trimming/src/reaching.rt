@@ -45,7 +45,7 @@ fn all_unreached(
 }
 
 /// The modules of a program without the segments of code, of debug information, or of both, that nothing reaches. Such a segment has a length of 0, its data and fixups are left
-/// out, and its publics are at its start, so that the externals that name them, which nothing uses, are defined.
+/// out, and so are its publics; or they are at its start, so that the externals that name them, which nothing uses, are defined.
 ///
 /// All other segments stay, and absolute ones, with the segments that the starts of modules refer to (the frame and the target of MODEND), and with what the fixups in the data
 /// of a segment that stays refer to: a segment, each member of a group, the segment of the only public of an external, or if an external has no public that of its default's
@@ -57,9 +57,10 @@ fn all_unreached(
 pub fn without_unreached(
     alloc: Global,
     left_out: LeftOut,
+    publics: LeftPublics,
     modules: Vec<Checked>,
 ) -> Result<Vec<Checked>, AllocError>
-    ensures { IfOk result (λ v. AreWithoutUnreached left_out modules.items v.items) }
+    ensures { IfOk result (λ v. AreWithoutUnreached publics left_out modules.items v.items) }
 {
     let unreached = all_unreached(alloc, left_out, &modules)?;
     let mut left = unreached.into_iter();
@@ -68,7 +69,7 @@ pub fn without_unreached(
         let Some(gone) = left.next() else {
             return Err(AllocError);
         };
-        all.push(without(alloc, module, LeftPublics::AtStart, &gone)?)?;
+        all.push(without(alloc, module, publics, &gone)?)?;
     }
     Ok(all)
 }

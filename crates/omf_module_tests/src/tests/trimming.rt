@@ -4,7 +4,7 @@ use super::lowering::have_bytes;
 use super::module_of;
 use omf_check::Checked;
 use omf_samples::{END, HEADER};
-use omf_trimming::{LeftOut, without_unreached};
+use omf_trimming::{LeftOut, LeftPublics, without_unreached};
 use std::alloc::Global;
 
 /// Code that nothing reaches is left out.
@@ -257,7 +257,7 @@ fn leaves(alloc: Global, rows: &[Rows], wanted: &[Rows], may_fail: bool) -> bool
     let Some(modules) = modules_of(alloc, rows) else {
         return may_fail;
     };
-    match without_unreached(alloc, CODE, modules) {
+    match without_unreached(alloc, CODE, LeftPublics::AtStart, modules) {
         Ok(modules) => may_fail || have_bytes(alloc, &modules, wanted),
         Err(_) => may_fail,
     }

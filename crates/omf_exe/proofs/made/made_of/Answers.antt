@@ -5,17 +5,11 @@ use Rattle.omf_exe.specs.Refusing.{IsRefusalFor}
 use Rattle.omf_exe.proofs.StartLaws.{program-long}
 use Rattle.omf_exe.proofs.made.made_of.Goals as goal
 
-pub map_of-requires : goal.map_of-requires
-map_of-requires c = λ e.
-    let p = c.in-Ok.program in
-    let made = subst (λ kind. AreBytesOf kind c.maximum-most.result c.args.modules.now.modules p.bytes.items p.lacks_stack) e c.in-Ok.ensures.bytes in
-    subst (λ (xs : List ℕ). 28 ≤ length xs) (sym c.deref.ensures.value) (program-long _ _ p.bytes.items p.lacks_stack made)
-
 pub stack_note-requires : goal.stack_note-requires
 stack_note-requires c = λ e.
     let p = c.in-Ok.program in
     let made = subst (λ kind. AreBytesOf kind c.maximum-most.result c.args.modules.now.modules p.bytes.items p.lacks_stack) e c.in-Ok.ensures.bytes in
-    subst (λ (xs : List ℕ). 28 ≤ length xs) (sym c.deref-2.ensures.value) (program-long _ _ p.bytes.items p.lacks_stack made)
+    subst (λ (xs : List ℕ). 28 ≤ length xs) (sym c.deref.ensures.value) (program-long _ _ p.bytes.items p.lacks_stack made)
 
 pub returns-in_err-long-clause-refused : goal.returns-in_err-long-clause-refused
 returns-in_err-long-clause-refused c =

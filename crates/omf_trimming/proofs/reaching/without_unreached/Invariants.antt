@@ -8,5 +8,5 @@ use Rattle.omf_trimming.proofs.reaching.without_unreached.Given as goal
 abbrev pub invariant-loop-module : goal.invariant-loop-module
 invariant-loop-module l = record {
   size : into_iter_len l.module-iterator ≡ length (into_iter_items l.module-iterator);
-  so_far : AreLeftSoFar l.fn.left_out l.fn.modules.items (into_iter_items l.module-iterator) (map (λ gone. gone.items) (into_iter_items l.left)) l.all.items;
+  so_far : AreLeftSoFar l.fn.publics l.fn.left_out l.fn.modules.items (into_iter_items l.module-iterator) (map (λ gone. gone.items) (into_iter_items l.left)) l.all.items;
 }

@@ -1,7 +1,6 @@
-use Rattle.std.proofs.Common.{◌≡◌, ap, inl, inr, rules, subst, sym}
+use Rattle.std.proofs.Common.{◌≡◌, inl, inr, rules, subst, sym}
 use Rattle.std.specs.Prelude.{Err, IfErr}
-use Rattle.omf_exe.specs.Making.{IsNotMade, IsNotMadeOf}
-use Rattle.omf_exe.specs.Program.{ProgramModules}
+use Rattle.omf_exe.specs.Making.{IsNotMade}
 use Rattle.omf_exe.specs.Refusing.{IsRefusalFor}
 use Rattle.omf_exe.proofs.MakingLaws.{not_made}
 use Rattle.omf_exe.proofs.program_files.ProgramFiles.make.Goals as goal
@@ -11,11 +10,10 @@ returns-in_err-made-clause-refused c =
     let options = c.args.options.now in
     let f = c.in_err-made.field-0.0 in
     let same : c.from_residual-in_err-made.result ≡ Err f = search rules in
-    let linked = ap (λ (p : ProgramModules). p.modules) c.in_ok-linked.ensures.same in
     let own = c.self.inside in
     subst (λ r. IfErr r (IsRefusalFor (IsNotMade options c.args.self))) (sym same)
     (λ e. not_made options c.args.self own.files.items own.ignores_case own.modules.modules own.modules.from c.in_ok-chosen.chosen.modules c.in_ok-added.added.modules c.self.view_is c.self.invariant.0 c.in_ok-chosen.ensures.chosen c.in_ok-added.ensures.added.added
-    (inr (record { whole = c.in_ok-all.all.modules; followed = c.in_ok-all.ensures.followed; linked = c.in_ok-trimmed.trimmed.modules; trimmed = c.in_ok-trimmed.ensures.trimmed; why = subst (IsNotMadeOf options) linked (c.in_err-made.ensures.refused e) })))
+    (inr (record { whole = c.in_ok-all.all.modules; followed = c.in_ok-all.ensures.followed; linked = c.in_ok-trimmed.trimmed.modules; trimmed = c.in_ok-trimmed.ensures.trimmed; why = c.in_err-made.ensures.refused e })))
 
 pub returns-in_err-all-clause-refused : goal.returns-in_err-all-clause-refused
 returns-in_err-all-clause-refused c =

@@ -1,6 +1,6 @@
 use Rattle.std.proofs.Common.{◌≡◌, rules, subst}
 use Rattle.omf_exe.specs.Program.{IsPlacingFault}
-use Rattle.omf_exe.proofs.program.LinkedModules.symbols.Goals as goal
+use Rattle.omf_exe.proofs.program.LinkedModules.placements.Goals as goal
 
 pub returns-in-Err-clause-refused : goal.returns-in-Err-clause-refused
 returns-in-Err-clause-refused c =
