@@ -105,7 +105,7 @@ pub record AreNamedSymbols (o : LeftOut) (ms : List Module) (tool : Tool) (load 
   pub named : AreTrimmed Gone o ms shown
   pub symbols : AreSymbolsOf tool load ms shown text
 
--- What is written of modules, and told of them: the bytes, and what a look finds.
+-- What is written of modules, and shown of them: the bytes, and what a look finds.
 pub record IsMadeOf (options : ExeOptions) (p : ProgramModules) (made : MadeProgram) : Type 0 where
   pub program : AreBytesOf options.kind (maximum options) p.modules made.bytes.items made.lacks_stack
   pub alone : IsAlone options.kind p.modules
