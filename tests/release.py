@@ -65,7 +65,7 @@ def conformance():
     run = ["conformance/run.py", "--seconds", "60"]
     yield Stage("conformance", [*run, f"omf={call['OMF']}", f"omf-link={call['OMF_LINK']}", f"omf-place={call['OMF_PLACE']}"], "OMF OMF_LINK OMF_PLACE", "", 1800, right)
     yield Stage("conformance libraries", [*run, "--cases", "conformance/libraries", f"omf-lib={call['OMF_LIB']}"], "OMF_LIB", "", 600, right)
-    program = f"omf-link exe=conformance/adapters/program.py {call['OMF_LINK']} exe -o {{exe}} {{files}}"
+    program = f"omf-link=conformance/adapters/program.py {call['OMF_LINK']} {{args}} -o {{exe}} {{files}}"
     yield Stage("conformance programs", [*run, "--cases", "conformance/programs", program], "OMF_LINK", "", 600, right)
 
 

@@ -1,6 +1,6 @@
-"""Does what `omf-link exe` does, by the package: as_linker.py exe -o OUTPUT FILE.. [--allow KIND].. [--stack N] [--order dos|input] [--ignore-case]
+"""Does what `omf-link exe` and `com` do, by the package: as_linker.py exe|com -o OUTPUT FILE.. [--allow KIND].. [--stack N] [--order dos|input] [--ignore-case]
 
-tests/c/run.sh runs the cases of conformance/programs on it.
+tests/c/run.sh runs the cases of conformance/programs on it. A call that the package does not have, as with --map, ends with status 77.
 """
 import argparse
 import os
@@ -10,7 +10,9 @@ import warnings
 sys.path.insert(0, os.path.join(os.path.dirname(__file__), ".."))
 import omf  # noqa: E402
 
+CANNOT = 77
 parser = argparse.ArgumentParser()
+parser.error = lambda _: sys.exit(CANNOT)
 parser.add_argument("kind", choices=["exe", "com"])
 parser.add_argument("-o", dest="output", required=True)
 parser.add_argument("--allow", action="append", default=[])
@@ -29,6 +31,8 @@ with warnings.catch_warnings(record=True) as caught:
         program = omf.link_exe(files, asked.stack, asked.order, asked.kind == "com", asked.ignore_case, asked.allow)
     except omf.NotLinked as fault:
         sys.exit("\n".join(f"omf-link: {line}" for line in str(fault).splitlines()))
+    except ValueError:
+        sys.exit(CANNOT)
 for warning in caught:
     print(f"omf-link: {warning.message}", file=sys.stderr)
 with open(asked.output, "wb") as file:

@@ -115,7 +115,7 @@ else
         gcc -std=c11 -Wall -Wextra -Werror -I"$here/../../include" "$here/../../examples/c/link.c" "$library" -o "$work/link" || fail "link.c is not built"
         "$here/linked.py" "$work/link" "${OMF_LINK:-omf-link}" || fail "the linkers differ from omf-link"
         conformance=$here/../../conformance
-        "$conformance/run.py" --cases "$conformance/programs" "omf-link exe=$conformance/adapters/program.py python3 $here/../../python/tests/as_linker.py exe -o {exe} {files}" \
+        "$conformance/run.py" --cases "$conformance/programs" "omf-link=$conformance/adapters/program.py python3 $here/../../python/tests/as_linker.py {args} -o {exe} {files}" \
             || fail "omf_exe differs from the cases of conformance/programs"
     else
         echo "there is no omf-link: the linkers are passed over"
