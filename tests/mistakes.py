@@ -29,6 +29,9 @@ TEXTS = {
 SAY = (ROOT / "examples/link/say.obj").read_bytes()
 TEXTS |= {"twice.obj": SAY + bytes(3) + SAY, "second.obj": SAY + (ROOT / "examples/reasons/06-Checksum.omf").read_bytes(), "tail.obj": SAY + b"\x1A\x1Aend"}
 
+# A .COM file by itself: int 20H at 100H, which is its start.
+TEXTS["tiny.obj"] = bytes.fromhex("80030001413B 96040000015400 98070028020102010100 A00600010001CD2000 8A0700C1000101000100")
+
 # The text of examples/link, with one part of "shared" in another frame.
 TEXTS["frames.link"] = 'S "shared" 7C9E 7C80 7C8'.join((ROOT / "examples/link/program.link").read_text(encoding="utf-8").rsplit('S "shared" 7C9E 7C90 7C9', 1))
 
@@ -97,6 +100,8 @@ SAME = [
     ["omf-link bin --base 7C00 --size 200 -t program.link start.obj say.obj mark.obj", "omf-link bin --base 0x7C00 --size 0x200 -t program.link start.obj say.obj mark.obj",
      "omf-link bin --base 7c00h --size 200H --fill FFH -t program.link start.obj say.obj mark.obj", "omf-link @bin.rsp", "omf-link @front.rsp",
      "omf-link bin --base=07C00H --size=0x200 --fill=0FFH -t=program.link start.obj say.obj mark.obj"],
+    ["omf-link exe -o - --stack 8 --allow twice --library-path b main.obj show.obj report.obj", "omf-link exe --allow twice main.obj --stack 8 show.obj -o - report.obj --library-path b"],
+    ["omf-link com -o - --stack 8 --allow twice --library-path b tiny.obj", "omf-link com --allow twice tiny.obj --stack 8 -o - --library-path b"],
     ["omf-link bin --base 0 --size 10000 -t program.link start.obj say.obj mark.obj", "omf-link bin --base 0 --size 64K -t program.link start.obj say.obj mark.obj"],
     ["omf-link exe --stack 4096 -o - main.obj show.obj report.obj", "omf-link exe --stack 4K -o - main.obj show.obj report.obj", "omf-link exe --stack 0x1000 -o - main.obj show.obj report.obj", "omf-link exe --stack=4096 -o - main.obj show.obj report.obj"],
     ["omf-link image -t program.link start.obj say.obj mark.obj", "omf-link image -t program.link start say mark", "omf-link image -t program.link ./start say.obj mark"],

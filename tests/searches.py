@@ -49,6 +49,9 @@ MISSING = 'library "Clib" is not found'
 MANY = [b"lib%d" % it for it in range(20000)]
 SPELLINGS = [bytes(it) for it in itertools.product(*zip(b"abcdefghijklm", b"ABCDEFGHIJKLM"))]
 
+# The files that a library of this name may be, the first one first.
+CLIB = ["Clib", "Clib.lib", "clib", "clib.lib", "CLIB", "CLIB.LIB"]
+
 # Files, LIB, words; the files of the map's modules, or a status and lines.
 ROWS = [
     # Endings that are left out.
@@ -90,6 +93,8 @@ ROWS = [
     ({"d/m.obj": main()}, "", "--library-path d m.obj", ["d/m.obj"]),
     ({"d/m.obj": main(), "m.obj": main()}, "", "-L d m.obj", ["m.obj"]),
     ({"d/m.obj": main(), "e/m.obj": main()}, "", "-L e -L d m.obj", ["e/m.obj"]),
+    ({"d/m.obj": main(), "e/m.obj": main()}, "", "-L e --library-path d m.obj", ["e/m.obj"]),
+    ({"d/m.obj": main(), "e/m.obj": main()}, "", "--library-path e --library-path d m.obj", ["e/m.obj"]),
     ({"d/m.obj": main(), "e/m.obj": main()}, "d", "-L e m.obj", ["e/m.obj"]),
     ({"d/m.obj": main(), "e/m.obj": main()}, "e;d", "m.obj", ["e/m.obj"]),
     ({"d/m.obj": main()}, "e;d", "m.obj", ["d/m.obj"]),
@@ -97,6 +102,8 @@ ROWS = [
     ({"d/m.obj": main()}, ";d;", "m.obj", ["d/m.obj"]),
     ({"d/e/m.obj": main()}, "d", "e/m.obj", (3, ["read e/m.obj: No such file or directory (os error 2)"])),
     # Libraries that modules ask for.
+    *(({**ASKS, **{it: lib(b"f") for it in CLIB[at:]}}, "", "m", ["m.obj", CLIB[at]]) for at in range(len(CLIB))),
+    ({"m.obj": main(b"f", [b"a", b"b", b"a"])}, "", "m", (1, [UNDEFINED, 'library "a" is not found', 'library "b" is not found'])),
     ({**ASKS, "Clib": lib(b"f")}, "", "m", ["m.obj", "Clib"]),
     ({**ASKS, "clib.lib": lib(b"f")}, "", "m", ["m.obj", "clib.lib"]),
     ({**ASKS, "CLIB.LIB": lib(b"f")}, "", "m", ["m.obj", "CLIB.LIB"]),
@@ -130,6 +137,7 @@ ROWS = [
     ({"m.obj": main(b"f", SPELLINGS), "abcdefghijklm": bytes(1 << 22)}, "", "m", (1, [UNDEFINED, *(f'library "{it.decode()}" is not found: file "abcdefghijklm" is no library' for it in SPELLINGS)])),
     # Libraries that are left out: they are not missing either.
     ({**ASKS, "Clib": lib(b"f")}, "", "m --no-default-libraries", (1, [UNDEFINED])),
+    ({**ASKS, "d/Clib": lib(b"f"), "e/Clib": lib(b"f")}, "", "m --library-path e --library-path d --no-default-libraries", (1, [UNDEFINED])),
     ({**ASKS, "Clib": lib(b"f")}, "", "m --no-default-library clib", (1, [UNDEFINED])),
     ({**ASKS, "Clib": lib(b"f")}, "", "m --no-default-library CLIB.LIB", (1, [UNDEFINED])),
     ({**ASKS, "Clib": lib(b"f")}, "", "m --no-default-library Dlib", ["m.obj", "Clib"]),
