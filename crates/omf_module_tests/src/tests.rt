@@ -26,7 +26,6 @@ mod libraries;
 mod limits;
 mod linking;
 mod lowering;
-mod needed;
 mod order;
 mod own;
 mod readers;

@@ -497,7 +497,7 @@ fn modules_of(alloc: Global, rows: &[Rows]) -> Option<Vec<Checked>> {
 }
 
 /// Whether modules have the bytes of these records.
-pub(super) fn have_bytes(alloc: Global, modules: &[Checked], wanted: &[Rows]) -> bool {
+fn have_bytes(alloc: Global, modules: &[Checked], wanted: &[Rows]) -> bool {
     for (module, rows) in modules.iter().zip(wanted.iter()) {
         let Ok(bytes) = joined(alloc, *rows) else {
             return false;
