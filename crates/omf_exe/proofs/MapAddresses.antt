@@ -1,5 +1,5 @@
 -- The addresses in the map of a program are those with which it is linked.
-use Rattle.std.proofs.Common.{◌≡◌, ℕ, ◌+◌, ◌∙◌, List, [], ◌∷◌, Bool, length, map, refl, sym, ap, subst, arith}
+use Rattle.std.proofs.Common.{◌≡◌, ℕ, ◌+◌, ◌∙◌, List, [], ◌∷◌, length, map, refl, sym, ap, subst, arith}
 use Rattle.std.specs.Prelude.{Some, Ok}
 use Rattle.omf_check.specs.Module.{Module}
 use Rattle.omf_layout.specs.Layout.{Laid}

@@ -1,5 +1,5 @@
 -- The map and the symbols of a program, by its modules without the names of the segments that are left out.
-use Rattle.std.proofs.Common.{◌≡◌, ◌∙◌, ℕ, Bool, true, false, List, [], ◌++◌, refl, sym, ap, subst}
+use Rattle.std.proofs.Common.{◌≡◌, ◌∙◌, ℕ, Bool, true, false, List, ◌++◌, refl, ap}
 use Rattle.std.specs.Global.{Vec}
 use Rattle.std.specs.Prelude.{Option, Some, None, is_some, ◌||◌}
 use Rattle.omf_check.specs.Module.{Module, typed_modules}

@@ -1,4 +1,4 @@
-use Rattle.std.proofs.Common.{◌≡◌, ap, rules, subst, sym}
+use Rattle.std.proofs.Common.{subst}
 use Rattle.std.specs.Prelude.{IfErr, IfOk}
 use Rattle.omf_exe.specs.Adding.{IsStackOf, least_stack}
 use Rattle.omf_exe.specs.Origins.{AreAllWith}

@@ -1,8 +1,9 @@
 use Rattle.std.proofs.Common.{◌≡◌, inl, inr, rules, subst, sym}
-use Rattle.std.specs.Prelude.{Err, IfErr}
-use Rattle.omf_exe.specs.Making.{IsNotMade}
+use Rattle.std.specs.Prelude.{Err, IfErr, List, is_some}
+use Rattle.omf_linking.specs.File.{InputFile}
+use Rattle.omf_exe.specs.Making.{IsListedMap, IsMapIf, IsNotMade}
 use Rattle.omf_exe.specs.Refusing.{IsRefusalFor}
-use Rattle.omf_exe.proofs.MakingLaws.{not_made}
+use Rattle.omf_exe.proofs.MakingLaws.{made-of-files, not_made}
 use Rattle.omf_exe.proofs.program_files.ProgramFiles.make.Goals as goal
 
 pub returns-in_err-made-clause-refused : goal.returns-in_err-made-clause-refused
@@ -24,3 +25,14 @@ returns-in_err-all-clause-refused c =
     subst (λ r. IfErr r (IsRefusalFor (IsNotMade options c.args.self))) (sym same)
     (λ e. not_made options c.args.self own.files.items own.ignores_case own.modules.modules own.modules.from c.in_ok-chosen.chosen.modules c.in_ok-added.added.modules c.self.view_is c.self.invariant.0 c.in_ok-chosen.ensures.chosen c.in_ok-added.ensures.added.added
     (inl (c.in_err-all.ensures.refused e)))
+
+pub returns-clause-made : goal.returns-clause-made
+returns-clause-made c =
+    let options = c.args.options.now in
+    let own = c.self.inside in
+    let linked = c.in_ok-trimmed.trimmed in
+    let made = c.in_ok-made.made in
+    let map_of = subst (λ (fs : List InputFile). IsMapIf (IsListedMap options.unreached fs linked) options.kind (is_some options.map) made.bytes.items made.map) c.deref.ensures.value c.in_ok-made.ensures.map in
+    made-of-files options c.args.self own.files.items own.ignores_case own.modules.modules own.modules.from c.in_ok-chosen.chosen c.in_ok-added.added c.in_ok-all.all linked made c.self.view_is c.self.invariant.0
+    c.self.invariant.1 c.in_ok-chosen.ensures.chosen c.in_ok-chosen.ensures.from c.in_ok-added.ensures.added c.in_ok-all.ensures.followed c.in_ok-all.ensures.from c.in_ok-trimmed.ensures.trimmed c.in_ok-trimmed.ensures.from
+    c.in_ok-made.ensures.made map_of c.in_ok-made.ensures.symbols
