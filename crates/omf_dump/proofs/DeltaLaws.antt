@@ -15,7 +15,7 @@ line_written r old new f (x ∷ []) n l e h = absurd (omega (arith, l))
 line_written r old new f (x ∷ y ∷ bs) n l e h =
     subst (AddsText r old new) (ap (λ k. value_text f (codes "line-delta") (Signed k)) e ∙ sym (append-nil (value_text f (codes "line-delta") (Signed (x + 256 * y))))) h
 
-both_written : {A E : Type 0} (r : Result A E) (old mid new a b : List ℕ) → mid ≡ old ++ a → AddsText r mid new b → AddsText r old new (a ++ b)
+pub both_written : {A E : Type 0} (r : Result A E) (old mid new a b : List ℕ) → mid ≡ old ++ a → AddsText r mid new b → AddsText r old new (a ++ b)
 both_written (Ok x) old mid new a b first second = second ∙ ap (λ (t : List ℕ). t ++ b) first ∙ append_assoc old a b
 both_written (Err e) old mid new a b first second = second
 

@@ -5,7 +5,8 @@ use Rattle.std.proofs.lemmas.Bool.{leb-true}
 use Rattle.omf_frame.specs.Framing.{after_front, is_end, is_whole, record_len, stated_length}
 use Rattle.omf_frame.specs.Types.{type_of}
 use Rattle.omf_dump.specs.Inner.Later.{following}
-use Rattle.omf_dump.specs.Later.{front_kind, goes_on, is_listed, kept_record, later_from, later_text, lost_by, lost_with, unjudged_text}
+use Rattle.omf_dump.specs.Later.{front_kind, goes_on, is_listed, kept_record, later_from, later_text, lost_by, unjudged_text}
+use Rattle.omf_dump.specs.Known.{tables}
 use Rattle.omf_dump.specs.Library.{after_member}
 use Rattle.omf_dump.specs.declared.format.Style.{Style}
 use Rattle.omf_dump.specs.declared.known.Known.{Known}
@@ -91,15 +92,15 @@ ended f before lost number start false more rest e = e
 -- a record, and those that follow it
 pub next_later : (f : Style) (before : List Rec) (lost : Lost) (number start : ℕ) (bytes : List ℕ) → is_listed bytes ≡ true
     → later_from f before lost number start 0 bytes
-    ≡ unjudged_text f before lost number start bytes ++ later_from f (before ++ kept_record lost bytes ∷ []) (lost_by lost bytes) (number + 1) (start + (3 + stated_length bytes)) 0 (following bytes)
+    ≡ unjudged_text f before lost number start bytes ++ later_from f (before ++ kept_record (tables before) lost bytes ∷ []) (lost_by (tables before) lost bytes) (number + 1) (start + (3 + stated_length bytes)) 0 (following bytes)
 next_later f before lost number start [] e = absurd cc
 next_later f before lost number start (t ∷ []) e = let w = both (is_some (type_of t)) false e in absurd cc
 next_later f before lost number start (t ∷ lo ∷ []) e = let w = both (is_some (type_of t)) false e in absurd cc
 next_later f before lost number start (t ∷ lo ∷ hi ∷ rest) e =
     let k : ℕ = lo + 256 * hi in
     let all : List ℕ = t ∷ lo ∷ hi ∷ rest in
-    let kept : List Rec = before ++ kept_record lost all ∷ [] in
-    let gone : Lost = lost_by lost all in
+    let kept : List Rec = before ++ kept_record (tables before) lost all ∷ [] in
+    let gone : Lost = lost_by (tables before) lost all in
     let size : 3 + k - 1 ≡ suc (suc k) = omega arith in
     let at : start + 1 + 1 + 1 + k ≡ start + (3 + k) = omega arith in
     let more : later_from f kept gone (number + 1) (start + 1) (3 + k - 1) (lo ∷ hi ∷ rest) ≡ later_from f kept gone (number + 1) (start + (3 + k)) 0 (drop k rest) =
@@ -149,16 +150,16 @@ both_left false b e = absurd cc
 pub goes_whole : (number : ℕ) (bytes : List ℕ) → goes_on number bytes ≡ true → 3 + stated_length bytes ≤ length bytes
 goes_whole number bytes e = whole_fits bytes (both_left (is_whole bytes) _ e)
 
-pub later_is : (f : Style) (before : List Rec) (number start : ℕ) (bytes : List ℕ) → goes_on number bytes ≡ true
-    → later_text f before number start bytes
-    ≡ later_from f before (lost_with bytes) (number + 1) (start + (3 + stated_length bytes)) 0 (drop (3 + stated_length bytes) bytes)
-later_is f before number start bytes e =
+pub later_is : (f : Style) (before : List Rec) (lost : Lost) (number start : ℕ) (bytes : List ℕ) → goes_on number bytes ≡ true
+    → later_text f before lost number start bytes
+    ≡ later_from f before lost (number + 1) (start + (3 + stated_length bytes)) 0 (drop (3 + stated_length bytes) bytes)
+later_is f before lost number start bytes e =
     let fits = goes_whole number bytes e in
     by_true (goes_on number bytes) _ [] e
-    ∙ ap₂ (λ (n : ℕ) (bs : List ℕ). later_from f before (lost_with bytes) (number + 1) (start + n) 0 bs) (record_len_is bytes fits) (sym (after_is bytes fits))
+    ∙ ap₂ (λ (n : ℕ) (bs : List ℕ). later_from f before lost (number + 1) (start + n) 0 bs) (record_len_is bytes fits) (sym (after_is bytes fits))
 
-pub none_follows : (f : Style) (before : List Rec) (number start : ℕ) (bytes : List ℕ) → goes_on number bytes ≡ false → later_text f before number start bytes ≡ []
-none_follows f before number start bytes e = by_false (goes_on number bytes) _ [] e
+pub none_follows : (f : Style) (before : List Rec) (lost : Lost) (number start : ℕ) (bytes : List ℕ) → goes_on number bytes ≡ false → later_text f before lost number start bytes ≡ []
+none_follows f before lost number start bytes e = by_false (goes_on number bytes) _ [] e
 
 -- nothing more, and nothing was sent
 pub nothing_sent : (old : Option (List ℕ)) (text more : List ℕ) → more ≡ [] → IsSent old old (text ++ more) text

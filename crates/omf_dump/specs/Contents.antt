@@ -3,7 +3,7 @@ use Rattle.omf_records.specs.Methods.{frame_code, kind_of}
 use Rattle.std.specs.Prelude.{ℕ, ◌+◌, ◌-◌, ◌*◌, ◌^◌, List, [], ◌∷◌, ◌++◌, length, map, take, drop, not, Option, Some, None, option_map, unwrap_or, Result, Ok, Err, nat_le, codes, if◌then◌else◌}
 use Rattle.omf_frame.specs.Bytes.{has_bit, bits}
 use Rattle.omf_records.specs.Location.{row_of}
-use Rattle.omf_records.specs.Values.{At, SegmentItem, ExternalItem, PublicItem, CommunalSize, Near, Far, CommunalItem, Reference, Subrecord, Thread, Fixup, Contents, Header, Comment, Names, Segment, Group, Externs, Publics, Communals, Plain, Iterated, Fixups, ModEnd, Carried, alignment, combination, is_big, is_use32, thread_is_frame, thread_method, is_segment_relative, location_type, location_offset, frame_by_thread, target_by_thread, target_bits}
+use Rattle.omf_records.specs.Values.{At, SegmentItem, ExternalItem, PublicItem, CommunalSize, Near, Far, CommunalItem, Reference, Subrecord, Thread, Fixup, Contents, Header, Comment, Names, Segment, Group, Externs, Publics, Communals, Plain, Iterated, Fixups, ModEnd, Carried, is_big, thread_is_frame, thread_method, is_segment_relative, location_type, location_offset, frame_by_thread, target_by_thread, target_bits}
 use Rattle.omf_frame.specs.Types.{width_bytes, width_of}
 use Rattle.omf_frame.specs.declared.kinds.Width.{Width}
 use Rattle.omf_image.specs.Limits.{profile_limits}
@@ -19,9 +19,9 @@ use Rattle.omf_dump.specs.Blocks.{blocks_from}
 use Rattle.omf_dump.specs.Comments.{class_fields, class_items}
 use Rattle.omf_dump.specs.Fields.{Entry, Value, Number, Hex, Word, Characters, Marked, Named, Method, Flag, Field, field, Item, item, Shown, only_fields, with_items, with_block}
 use Rattle.omf_dump.specs.Known.{Data, Tables, name_entry, segment_entry, group_entry, external_entry}
-use Rattle.omf_dump.specs.Raw.{raw_shown}
+use Rattle.omf_dump.specs.Raw.{attribute_fields, raw_shown}
 use Rattle.omf_dump.specs.Render.{digits}
-use Rattle.omf_dump.specs.Words.{alignment_word, combination_word, location_word, class_word}
+use Rattle.omf_dump.specs.Words.{location_word, class_word}
 
 -- THEADR, LHEADR.
 abbrev pub header_fields : List ℕ → List Field
@@ -43,10 +43,6 @@ absolute_fields at = field (codes "frame") (Hex 4 at.0) ∷ field (codes "offset
 abbrev pub absolute_if : Option (ℕ × ℕ) → List Field
 absolute_if None = []
 absolute_if (Some at) = absolute_fields at
-
-abbrev pub attribute_fields : ℕ → List Field
-attribute_fields byte = field (codes "align") (Word (alignment_word (alignment byte))) ∷ field (codes "combine") (Word (combination_word (combination byte)))
-    ∷ field (codes "use") (Number (if is_use32 byte then 32 else 16)) ∷ field (codes "big") (Flag (is_big byte)) ∷ []
 
 abbrev pub length_field : Width → ℕ → List Field
 length_field width n = field (codes "length") (Hex (digits width) n) ∷ []

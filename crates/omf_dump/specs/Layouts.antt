@@ -86,13 +86,16 @@ row step.NearLength = called (codes "length") kind.Count when.Near
 row step.FarCount = called (codes "count") kind.Count when.Far
 row step.FarSize = called (codes "size") kind.Count when.Far
 row step.Component = called (codes "component") kind.Small when.Always
+row step.MemberSegment = called (codes "segment") kind.Segment (when.Component 0xFF)
+row step.MemberExternal = called (codes "external") kind.External (when.Component 0xFE)
+row step.MemberRest = called (codes "left") kind.Bytes when.OtherComponent
 row step.ComdatFlags = called (codes "flags") kind.ComdatFlags when.Always
 row step.Selection = called (codes "selection") kind.Selection when.Always
 row step.ComdatAlign = called (codes "align") kind.ComdatAlign when.Always
 row step.LineFlags = called (codes "flags") kind.LineFlags when.Always
 row step.CommentFlags = called (codes "flags") kind.CommentFlags when.Always
 row step.CommentClass = called (codes "class") kind.CommentClass when.Always
-row step.Attributes = called (codes "attributes") kind.Small when.Always
+row step.Attributes = called (codes "attributes") kind.Attributes when.Always
 row step.EndFlags = called (codes "flags") kind.EndFlags when.Always
 row step.Patch = called (codes "location") kind.Patch when.Always
 row step.Thread = called (codes "thread") kind.Thread when.Always
@@ -149,7 +152,8 @@ start_item = step.Fix ∷ step.FrameSegment ∷ step.FrameGroup ∷ step.FrameEx
 abbrev pub fixup_item : List Step
 fixup_item = step.Location ∷ step.Fix ∷ step.FrameSegment ∷ step.FrameGroup ∷ step.FrameExternal ∷ step.FrameNumber ∷ step.TargetSegment ∷ step.TargetGroup ∷ step.TargetExternal ∷ step.TargetNumber ∷ step.Displacement ∷ []
 
--- The fields that it then repeats, by the first byte of them: a FIXUPP has THREADs (bit 7 is 0) and fixups.
+-- The fields that it then repeats, by the first byte of them: a FIXUPP has THREADs (bit 7 is 0) and fixups. A component of a group is a segment (FFH), or that
+-- of an external (FEH); what follows another component byte is left.
 abbrev pub item_steps : RecordType → ℕ → List Step
 item_steps Modend byte = start_item
 item_steps Extdef byte = step.External ∷ step.TypeIndex ∷ []
@@ -158,7 +162,7 @@ item_steps Pubdef byte = step.Public ∷ step.Offset ∷ step.TypeIndex ∷ []
 item_steps Lpubdef byte = step.Public ∷ step.Offset ∷ step.TypeIndex ∷ []
 item_steps Lnames byte = step.Name ∷ []
 item_steps Llnames byte = step.Name ∷ []
-item_steps Grpdef byte = step.Component ∷ step.Segment ∷ []
+item_steps Grpdef byte = step.Component ∷ step.MemberSegment ∷ step.MemberExternal ∷ step.MemberRest ∷ []
 item_steps Fixupp byte = if nat_lt byte 128 then thread_item else fixup_item
 item_steps Comdef byte = step.External ∷ step.TypeIndex ∷ step.Communal ∷ step.NearLength ∷ step.FarCount ∷ step.FarSize ∷ []
 item_steps Lcomdef byte = step.External ∷ step.TypeIndex ∷ step.Communal ∷ step.NearLength ∷ step.FarCount ∷ step.FarSize ∷ []

@@ -9,6 +9,7 @@ pub mod Layouts
 pub mod Raw
 pub mod Contents
 pub mod Dump
+pub mod Gives
 pub mod Later
 pub mod Refused
 pub mod Library

@@ -6,11 +6,12 @@ use Rattle.omf_frame.specs.declared.kinds.RecordType.{RecordType}
 use Rattle.omf_frame.specs.declared.kinds.RecordType.TheVariants.{Coment, Ledata, Lidata, Comdat, Vendext}
 use Rattle.omf_frame.specs.declared.kinds.Width.{Width}
 use Rattle.omf_dump.specs.Blocks.{blocks_from}
+use Rattle.omf_records.specs.Values.{alignment, combination, is_big, is_use32}
 use Rattle.omf_dump.specs.Fields.{Number, Hex, Word, Characters, Bytes, Named, Method, Flag, Field, field, Item, item, Block, Shown, with_block}
 use Rattle.omf_dump.specs.Known.{Tables, name_entry, segment_entry, group_entry, external_entry}
 use Rattle.omf_dump.specs.Layouts.{head_steps, item_steps, row}
 use Rattle.omf_dump.specs.Render.{digits}
-use Rattle.omf_dump.specs.Words.{class_word, library_end, location_word, word_in}
+use Rattle.omf_dump.specs.Words.{alignment_word, class_word, combination_word, library_end, location_word, word_in}
 use Rattle.omf_dump.specs.declared.step.Kind.{Kind}
 use Rattle.omf_dump.specs.declared.step.Kind.TheVariants as kind
 use Rattle.omf_dump.specs.declared.step.Step.{Step}
@@ -55,6 +56,7 @@ size_of w kind.Type bytes = index_size bytes
 size_of w kind.Name bytes = index_size bytes
 size_of w kind.Segment bytes = index_size bytes
 size_of w kind.Group bytes = index_size bytes
+size_of w kind.External bytes = index_size bytes
 size_of w kind.OfSegment bytes = index_size bytes
 size_of w kind.OfGroup bytes = index_size bytes
 size_of w kind.OfExternal bytes = index_size bytes
@@ -62,6 +64,7 @@ size_of w kind.Small bytes = if_there 1 bytes
 size_of w kind.ComdatFlags bytes = if_there 1 bytes
 size_of w kind.Selection bytes = if_there 1 bytes
 size_of w kind.ComdatAlign bytes = if_there 1 bytes
+size_of w kind.Attributes bytes = if_there 1 bytes
 size_of w kind.LineFlags bytes = if_there 1 bytes
 size_of w kind.CommentFlags bytes = if_there 1 bytes
 size_of w kind.CommentClass bytes = if_there 1 bytes
@@ -114,6 +117,7 @@ left_by step.ExplicitSegment bytes last = index_of bytes
 left_by step.Selection bytes last = first_of bytes
 left_by step.Attributes bytes last = first_of bytes
 left_by step.Communal bytes last = first_of bytes
+left_by step.Component bytes last = first_of bytes
 left_by step.Leaf bytes last = first_of bytes
 left_by step.Fix bytes last = first_of bytes
 left_by step.Thread bytes last = thread_fix (first_of bytes)
@@ -130,9 +134,19 @@ is_there when.Explicit last = last % 16 == 0
 is_there when.Absolute last = nat_lt last 32
 is_there when.Near last = is_near last
 is_there when.Far last = last == 0x61
+is_there (when.Component n) last = last == n
+is_there when.OtherComponent last = nat_lt last 0xFE
 is_there (when.Frame m) last = last / 16 == m
 is_there (when.Target m) last = bits last 3 1 == 0 && bits last 0 2 == m
 is_there when.Displaced last = bits last 2 1 == 0
+
+-- SEGDEF's attributes, ACBP: alignment, combination, use (P), big (B).
+abbrev pub attribute_fields : ℕ → List Field
+attribute_fields byte = field (codes "align") (Word (alignment_word (alignment byte))) ∷ field (codes "combine") (Word (combination_word (combination byte)))
+    ∷ field (codes "use") (Number (if is_use32 byte then 32 else 16)) ∷ field (codes "big") (Flag (is_big byte)) ∷ []
+
+abbrev pub named_attributes : List ℕ → ℕ → List Field
+named_attributes name byte = field name (Hex 2 byte) ∷ attribute_fields byte
 
 -- COMDAT: continuation, iterated data, local, data in a code segment.
 abbrev pub comdat_flags : ℕ → List Field
@@ -222,12 +236,14 @@ value_fields t w name kind.Type bytes = field name (Number (index_of bytes)) ∷
 value_fields t w name kind.Name bytes = field name (Named (name_entry t (index_of bytes))) ∷ []
 value_fields t w name kind.Segment bytes = field name (Named (segment_entry t (index_of bytes))) ∷ []
 value_fields t w name kind.Group bytes = field name (Named (group_entry t (index_of bytes))) ∷ []
+value_fields t w name kind.External bytes = field name (Named (external_entry t (index_of bytes))) ∷ []
 value_fields t w name kind.OfSegment bytes = field name (Method (codes "segment") (Some (segment_entry t (index_of bytes)))) ∷ []
 value_fields t w name kind.OfGroup bytes = field name (Method (codes "group") (Some (group_entry t (index_of bytes)))) ∷ []
 value_fields t w name kind.OfExternal bytes = field name (Method (codes "external") (Some (external_entry t (index_of bytes)))) ∷ []
 value_fields t w name kind.ComdatFlags bytes = comdat_flags (first_of bytes)
 value_fields t w name kind.Selection bytes = comdat_attributes (first_of bytes)
 value_fields t w name kind.ComdatAlign bytes = field name (Word (word_in comdat_aligns (codes "reserved") (first_of bytes))) ∷ []
+value_fields t w name kind.Attributes bytes = named_attributes name (first_of bytes)
 value_fields t w name kind.LineFlags bytes = line_flags (first_of bytes)
 value_fields t w name kind.CommentFlags bytes = comment_flags (first_of bytes)
 value_fields t w name kind.CommentClass bytes = comment_class (first_of bytes)
@@ -292,23 +308,37 @@ items_from t w kind within (suc skipped) (b ∷ bytes) = items_from t w kind (wi
 items_from t w kind within zero (b ∷ bytes) =
     item within (item_fields t w kind (b ∷ bytes)) ∷ items_from t w kind (within + 1) (item_size w kind (b ∷ bytes) - 1) bytes
 
--- What follows the fields at the beginning, from an offset in the record on: bytes, the blocks of an LIDATA, or items.
-abbrev pub has_bytes : RecordType → Bool
-has_bytes Coment = true
-has_bytes Ledata = true
-has_bytes Comdat = true
-has_bytes Vendext = true
-has_bytes _ = false
+-- What follows the fields at the beginning: bytes, blocks, or items, by the first byte of the contents. The data of a COMDAT are blocks if they are iterated.
+abbrev pub has_bytes : RecordType → ℕ → Bool
+has_bytes Coment first = true
+has_bytes Ledata first = true
+has_bytes Comdat first = not (has_bit first 1)
+has_bytes Vendext first = true
+has_bytes _ first = false
 
-abbrev pub has_blocks : RecordType → Bool
-has_blocks Lidata = true
-has_blocks _ = false
+abbrev pub has_blocks : RecordType → ℕ → Bool
+has_blocks Lidata first = true
+has_blocks Comdat first = has_bit first 1
+has_blocks _ first = false
 
-abbrev pub rest_items : Tables → Width → RecordType → ℕ → List ℕ → Option (List Item)
-rest_items t w kind within bytes = if has_bytes kind then None else if has_blocks kind then Some (blocks_from w within [] 0 bytes) else Some (items_from t w kind within 0 bytes)
+-- The offset that a COMDAT's data have in their segment, after three bytes: flags, attributes, align (TIS OMF 1.1, "COMDAT").
+abbrev pub comdat_offset : Width → List ℕ → ℕ
+comdat_offset w body = little (take (width_bytes w) (drop 3 body))
 
-abbrev pub rest_block : RecordType → ℕ → List ℕ → Option Block
-rest_block kind within bytes = if has_bytes kind then Some (record { first = within; bytes = bytes }) else None
+-- The offset of the first of the bytes: of a COMDAT's in their segment, else in the record.
+abbrev pub is_comdat : RecordType → Bool
+is_comdat Comdat = true
+is_comdat _ = false
+
+abbrev pub first_offset : Width → RecordType → ℕ → List ℕ → ℕ
+first_offset w kind within body = if is_comdat kind then comdat_offset w body else within
+
+-- What follows, from an offset in the record on; `body` are the whole contents.
+abbrev pub rest_items : Tables → Width → RecordType → ℕ → List ℕ → List ℕ → Option (List Item)
+rest_items t w kind within body bytes = if has_bytes kind (first_of body) then None else if has_blocks kind (first_of body) then Some (blocks_from w within [] 0 bytes) else Some (items_from t w kind within 0 bytes)
+
+abbrev pub rest_block : Width → RecordType → ℕ → List ℕ → List ℕ → Option Block
+rest_block w kind within body bytes = if has_bytes kind (first_of body) then Some (record { first = first_offset w kind within body; bytes = bytes }) else None
 
 abbrev pub head_fields : Tables → Width → RecordType → List ℕ → List Field
 head_fields t w kind bytes = steps_fields t w 0 (head_steps kind) bytes
@@ -319,8 +349,8 @@ head_size w kind bytes = steps_size w 0 (head_steps kind) bytes
 abbrev pub type_shown : Tables → Width → RecordType → List ℕ → Shown
 type_shown t w kind bytes = record {
   fields = head_fields t w kind bytes;
-  items = rest_items t w kind (3 + head_size w kind bytes) (drop (head_size w kind bytes) bytes);
-  block = rest_block kind (3 + head_size w kind bytes) (drop (head_size w kind bytes) bytes);
+  items = rest_items t w kind (3 + head_size w kind bytes) bytes (drop (head_size w kind bytes) bytes);
+  block = rest_block w kind (3 + head_size w kind bytes) bytes (drop (head_size w kind bytes) bytes);
 }
 
 -- The type with the fields of a record; the end of a library has none.

@@ -7,10 +7,11 @@ use Rattle.omf_frame.specs.declared.fault.Place.{Place}
 use Rattle.omf_frame.specs.declared.fault.Reason.{Reason}
 use Rattle.omf_frame.specs.declared.fault.Reason.TheVariants as reason
 use Rattle.omf_frame.specs.Types.{type_of}
-use Rattle.omf_records.specs.Values.{Rec}
+use Rattle.omf_records.specs.Values.{Carried, Rec}
 use Rattle.omf_library.specs.Library.{is_page_size, library_header, page_size}
 use Rattle.omf_dump.specs.Fields.{Number, Hex, Word, Characters, Field, field}
-use Rattle.omf_dump.specs.Later.{body_of, checksum_if, front_kind, kept_record, later_text, lost_with, none_lost, stand_in, unjudged_body, unjudged_text}
+use Rattle.omf_dump.specs.Known.{Tables, tables}
+use Rattle.omf_dump.specs.Later.{body_of, checksum_if, front_kind, kept_record, later_text, lost_by, lost_with, none_lost, unjudged_body, unjudged_text}
 use Rattle.omf_dump.specs.Looks.{is_foreign, looks_like}
 use Rattle.omf_dump.specs.Render.{bytes_block, digits, fields_text, kind_head, line_end, place_head, record_end, rows}
 use Rattle.omf_dump.specs.Words.{type_word}
@@ -116,14 +117,19 @@ fault_text format.Json style before lost at why rest = refused_front format.Json
 abbrev pub fault_record : Style → List Rec → Lost → Place → Reason → List ℕ → List ℕ
 fault_record style before lost at why rest = if has_fields rest then fault_text style.format style before lost at why rest else refused_record style.format at why rest
 
--- The record at fault, for later ones: what it gives, if it can be read.
+-- The record at fault, for later ones: what it gives, if its type is known.
 abbrev pub unread_record : List ℕ → Rec
-unread_record rest = record { kind = front_kind rest; contents = stand_in (front_kind rest) (body_of rest) }
+unread_record rest = record { kind = front_kind rest; contents = Carried (body_of rest) }
 
-abbrev pub faulty_record : Lost → List ℕ → Rec
-faulty_record lost rest = if has_fields rest then kept_record lost rest else unread_record rest
+abbrev pub faulty_record : Tables → Lost → List ℕ → Rec
+faulty_record t lost rest = if has_fields rest then kept_record t lost rest else unread_record rest
+
+-- What is not known after it.
+abbrev pub faulty_lost : Tables → Lost → List ℕ → Lost
+faulty_lost t lost rest = if has_fields rest then lost_by t lost rest else lost
 
 -- The record at fault, after these records, and then the records that follow it, unjudged.
 abbrev pub refusal_text : Style → List Rec → Place → Reason → List ℕ → List ℕ
 refusal_text style before at why rest =
-    fault_record style before (own_lost why rest) at why rest ++ later_text style (before ++ faulty_record (own_lost why rest) rest ∷ []) at.number at.start rest
+    fault_record style before (own_lost why rest) at why rest
+    ++ later_text style (before ++ faulty_record (tables before) (own_lost why rest) rest ∷ []) (faulty_lost (tables before) (own_lost why rest) rest) at.number at.start rest

@@ -1,6 +1,6 @@
 -- The words for packed fields and classes (TIS OMF 1.1, SEGDEF's ACBP, FIXUPP's LOCATION and methods, COMENT's classes; their spelling here is
 -- this profile's rule).
-use Rattle.std.specs.Prelude.{ℕ, List, [], ◌∷◌, find, unwrap_or, option_map, ◌==◌, codes, if◌then◌else◌}
+use Rattle.std.specs.Prelude.{ℕ, List, [], ◌∷◌, find, unwrap_or, option_map, ◌==◌, codes}
 use Rattle.omf_frame.specs.Types.{type_name}
 
 -- The word of a number in a table, or another one if the table has none.
@@ -48,9 +48,15 @@ subtypes = (1, codes "IMPDEF") ∷ (2, codes "EXPDEF") ∷ (3, codes "INCDEF") �
 abbrev pub subtype_word : ℕ → List ℕ
 subtype_word n = word_in subtypes (codes "reserved") n
 
--- The name of a record's type. F1H, the end of a library, has a name of its own.
+-- The name of a record's type. F1H, the end of a library, has a name of its own; so have the obsolete types, which are not known here (TIS OMF 1.1, "Obsolete
+-- records").
 abbrev pub library_end : ℕ
 library_end = 0xF1
 
+abbrev pub other_types : List (ℕ × List ℕ)
+other_types = (0x6E, codes "RHEADR") ∷ (0x70, codes "REGINT") ∷ (0x72, codes "REDATA") ∷ (0x74, codes "RIDATA") ∷ (0x76, codes "OVLDEF") ∷ (0x78, codes "ENDREC")
+    ∷ (0x7A, codes "BLKDEF") ∷ (0x7C, codes "BLKEND") ∷ (0x7E, codes "DEBSYM") ∷ (0x84, codes "PEDATA") ∷ (0x86, codes "PIDATA") ∷ (0x92, codes "LOCSYM")
+    ∷ (0xA4, codes "LIBHED") ∷ (0xA6, codes "LIBNAM") ∷ (0xA8, codes "LIBLOC") ∷ (0xAA, codes "LIBDIC") ∷ (library_end, codes "library-end") ∷ []
+
 abbrev pub type_word : ℕ → List ℕ
-type_word kind = if kind == library_end then codes "library-end" else type_name kind
+type_word kind = word_in other_types (type_name kind) kind

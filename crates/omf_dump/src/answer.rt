@@ -60,7 +60,7 @@ fn dump_fault<'a, K: Sink>(
     let Ok(()) = show_fault(&mut text, style, &mut state, fault) else {
         return Err(DumpFault::Memory);
     };
-    put_later(writer, &mut text, style, state.known, fault)?;
+    put_later(writer, &mut text, style, &mut state, fault)?;
     send(writer, &text)
 }
 

@@ -3,8 +3,9 @@
 ghost use Rattle.std.specs.Prelude.{◌≡◌, ◌+◌, ◌++◌, codes, length};
 ghost use Rattle.omf_frame.specs.Bytes.{AddsText, has_bit};
 ghost use Rattle.omf_records.specs.Inner.Sizes.{size_seen};
-ghost use Rattle.omf_dump.specs.Contents.{absolute_if, attribute_fields, base_fields, comment_fields, communal_fields, end_fields, expanded_if, external_fields, group_fields, header_fields, indexed_fields, length_field, length_if, length_of, member_fields, name_fields, place_fields, public_fields, segment_fields, segment_names, size_fields};
+ghost use Rattle.omf_dump.specs.Contents.{absolute_if, base_fields, comment_fields, communal_fields, end_fields, expanded_if, external_fields, group_fields, header_fields, indexed_fields, length_field, length_if, length_of, member_fields, name_fields, place_fields, public_fields, segment_fields, segment_names, size_fields};
 ghost use Rattle.omf_dump.specs.Fields.{Flag, Hex, Word};
+ghost use Rattle.omf_dump.specs.Raw.{attribute_fields};
 ghost use Rattle.omf_dump.specs.Render.{fields_text, value_text};
 ghost use Rattle.omf_dump.specs.Words.{class_word};
 

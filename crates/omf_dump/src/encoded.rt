@@ -1,6 +1,6 @@
 //! Fields by their bytes: sizes and values.
 
-ghost use Rattle.std.specs.Prelude.{◌≡◌, ◌+◌, ◌*◌, ◌≤◌, IfSome, length};
+ghost use Rattle.std.specs.Prelude.{◌≡◌, ◌+◌, ◌*◌, ◌≤◌, ◌<◌, IfSome, length};
 ghost use Rattle.omf_dump.specs.declared.step.When.TheVariants as when;
 ghost use Rattle.omf_dump.specs.Raw.{after_first, count_bytes, count_of, count_size, first_of, if_there, index_of, index_size, is_near, is_there, left_by, little, locat_of, name_size, size_of, thread_fix, version_of};
 
@@ -20,7 +20,7 @@ fn if_there(count: usize, bytes: &[u8]) -> Option<usize>
 }
 
 /// The size of an index in bytes.
-fn index_size(bytes: &[u8]) -> Option<usize>
+pub(crate) fn index_size(bytes: &[u8]) -> Option<usize>
     ensures value { result ≡ index_size bytes.now }
     ensures fits { IfSome result (λ n. n ≤ length bytes.now) }
 {
@@ -37,9 +37,10 @@ fn index_size(bytes: &[u8]) -> Option<usize>
 }
 
 /// The size of a name with its length byte.
-fn name_size(bytes: &[u8]) -> Option<usize>
+pub(crate) fn name_size(bytes: &[u8]) -> Option<usize>
     ensures value { result ≡ name_size bytes.now }
     ensures fits { IfSome result (λ n. n ≤ length bytes.now) }
+    ensures small { IfSome result (λ n. n ≤ 256) }
 {
     match bytes {
         [] => None,
@@ -86,6 +87,7 @@ pub(crate) fn size_of(width: Width, kind: Kind, bytes: &[u8]) -> Option<usize>
         | Kind::Name
         | Kind::Segment
         | Kind::Group
+        | Kind::External
         | Kind::OfSegment
         | Kind::OfGroup
         | Kind::OfExternal => index_size(bytes),
@@ -93,6 +95,7 @@ pub(crate) fn size_of(width: Width, kind: Kind, bytes: &[u8]) -> Option<usize>
         | Kind::ComdatFlags
         | Kind::Selection
         | Kind::ComdatAlign
+        | Kind::Attributes
         | Kind::LineFlags
         | Kind::CommentFlags
         | Kind::CommentClass
@@ -128,7 +131,8 @@ pub(crate) fn little(bytes: &[u8]) -> u32
 
 /// An index, of one byte or two.
 pub(crate) fn index_of(bytes: &[u8]) -> u16
-    ensures { result ≡ index_of bytes.now }
+    ensures value { result ≡ index_of bytes.now }
+    ensures small { result < 32768 }
 {
     match bytes {
         [] => 0,
@@ -211,16 +215,19 @@ pub(crate) fn left_by(step: Step, bytes: &[u8], last: u16) -> u16
 {
     match step {
         Step::Segment | Step::ExplicitSegment => index_of(bytes),
-        Step::Selection | Step::Attributes | Step::Communal | Step::Leaf | Step::Fix => {
-            u16::from(first_of(bytes))
-        }
+        Step::Selection
+        | Step::Attributes
+        | Step::Communal
+        | Step::Component
+        | Step::Leaf
+        | Step::Fix => u16::from(first_of(bytes)),
         Step::Thread => u16::from(thread_fix(first_of(bytes))),
         _ => last,
     }
 }
 
 /// Whether a communal is near: 62H, or the segment index of a communal of Borland's.
-fn is_near(kind: u16) -> bool
+pub(crate) fn is_near(kind: u16) -> bool
     ensures { result ≡ is_near kind }
 {
     kind == 0x62 || kind > 0 && kind < 0x60
@@ -244,6 +251,8 @@ pub(crate) fn is_there(when: When, last: u16) -> bool
         When::Absolute => last < 32,
         When::Near => is_near(last),
         When::Far => last == 0x61,
+        When::Component(byte) => last == u16::from(byte),
+        When::OtherComponent => last < 0xFE,
         When::Frame(method) => last / 16 == u16::from(method),
         When::Target(method) => has_target(last, method),
         When::Displaced => last / 4 % 2 == 0,

@@ -4,17 +4,16 @@ ghost use Rattle.std.specs.Prelude.{◌≡◌, ◌++◌, ◌∷◌, [], codes, L
 ghost use Rattle.omf_frame.specs.Bytes.{AddsText};
 ghost use Rattle.omf_records.specs.Values.{Rec};
 ghost use Rattle.omf_dump.specs.Inner.Walking.{Holds};
-ghost use Rattle.omf_dump.specs.Later.{kept_record};
-ghost use Rattle.omf_dump.specs.Refused.{fault_record, fault_text, faulty_record, fields_object, has_fields, own_lost, refused_record, unread_record};
+ghost use Rattle.omf_dump.specs.Known.{tables};
+ghost use Rattle.omf_dump.specs.Later.{kept_record, lost_by};
+ghost use Rattle.omf_dump.specs.Refused.{fault_record, fault_text, faulty_lost, faulty_record, fields_object, has_fields, own_lost, refused_record};
 ghost use Rattle.omf_dump.specs.declared.format.Format.TheVariants as format;
 
 use crate::format::{Format, Style};
 use crate::item::close_record;
 use crate::later::{
-    Fault, Rest, State, forget, front_kind, lost_with, put_checksum_if, put_unjudged,
-    put_unjudged_body,
+    Fault, Rest, State, lost_with, put_checksum_if, put_unjudged, put_unjudged_body,
 };
-use crate::library::front_contents;
 use crate::lost::Lost;
 use crate::refused::{open_refusal, show_refusal};
 use omf_frame::{Reason, RecordType};
@@ -63,7 +62,8 @@ fn put_fields_object<'a>(
     bytes: &'a [u8],
 ) -> Result<(), AllocError>
     ensures text { (before : List Rec) → Holds state.old.known before → AddsText result text.old.items text.new.items (fields_object style before state.old.lost bytes.entry.now) }
-    ensures holds { (before : List Rec) → Holds state.old.known before → OnOk result (Holds state.new.known (before ++ kept_record state.old.lost bytes.entry.now ∷ [])) }
+    ensures holds { (before : List Rec) → Holds state.old.known before → OnOk result (Holds state.new.known (before ++ kept_record (tables before) state.old.lost bytes.entry.now ∷ [])) }
+    ensures lost { OnOk result (state.new.lost ≡ lost_by state.old.known.tables state.old.lost bytes.entry.now) }
 {
     open_fields(text)?;
     put_checksum_if(text, style.format, bytes)?;
@@ -79,7 +79,8 @@ fn show_lines<'a>(
     fault: Fault<'a>,
 ) -> Result<(), AllocError>
     ensures text { (before : List Rec) → Holds state.old.known before → AddsText result text.old.items text.new.items (fault_text format.Text style before state.old.lost fault.entry.place fault.entry.reason fault.entry.rest.now) }
-    ensures holds { (before : List Rec) → Holds state.old.known before → OnOk result (Holds state.new.known (before ++ kept_record state.old.lost fault.entry.rest.now ∷ [])) }
+    ensures holds { (before : List Rec) → Holds state.old.known before → OnOk result (Holds state.new.known (before ++ kept_record (tables before) state.old.lost fault.entry.rest.now ∷ [])) }
+    ensures lost { OnOk result (state.new.lost ≡ lost_by state.old.known.tables state.old.lost fault.entry.rest.now) }
 {
     let Fault {
         reason,
@@ -103,7 +104,8 @@ fn show_object<'a>(
     fault: Fault<'a>,
 ) -> Result<(), AllocError>
     ensures text { (before : List Rec) → Holds state.old.known before → AddsText result text.old.items text.new.items (fault_text format.Json style before state.old.lost fault.entry.place fault.entry.reason fault.entry.rest.now) }
-    ensures holds { (before : List Rec) → Holds state.old.known before → OnOk result (Holds state.new.known (before ++ kept_record state.old.lost fault.entry.rest.now ∷ [])) }
+    ensures holds { (before : List Rec) → Holds state.old.known before → OnOk result (Holds state.new.known (before ++ kept_record (tables before) state.old.lost fault.entry.rest.now ∷ [])) }
+    ensures lost { OnOk result (state.new.lost ≡ lost_by state.old.known.tables state.old.lost fault.entry.rest.now) }
 {
     open_refusal(text, Format::Json, fault.place, fault.reason, fault.rest)?;
     put_fields_object(text, style, state, fault.rest)?;
@@ -119,7 +121,8 @@ fn show_both<'a>(
     fault: Fault<'a>,
 ) -> Result<(), AllocError>
     ensures text { (before : List Rec) → Holds state.old.known before → AddsText result text.old.items text.new.items (fault_text format style before state.old.lost fault.entry.place fault.entry.reason fault.entry.rest.now) }
-    ensures holds { (before : List Rec) → Holds state.old.known before → OnOk result (Holds state.new.known (before ++ kept_record state.old.lost fault.entry.rest.now ∷ [])) }
+    ensures holds { (before : List Rec) → Holds state.old.known before → OnOk result (Holds state.new.known (before ++ kept_record (tables before) state.old.lost fault.entry.rest.now ∷ [])) }
+    ensures lost { OnOk result (state.new.lost ≡ lost_by state.old.known.tables state.old.lost fault.entry.rest.now) }
 {
     match format {
         Format::Text => show_lines(text, style, state, fault),
@@ -128,16 +131,9 @@ fn show_both<'a>(
 }
 
 /// The record at fault of a type that is not known.
-fn show_unknown<'a>(
-    text: &mut Vec<u8>,
-    format: Format,
-    state: &mut State<'a>,
-    fault: Fault<'a>,
-) -> Result<(), AllocError>
-    ensures text { AddsText result text.old.items text.new.items (refused_record format fault.entry.place fault.entry.reason fault.entry.rest.now) }
-    ensures holds { (before : List Rec) → Holds state.old.known before → OnOk result (Holds state.new.known (before ++ unread_record fault.entry.rest.now ∷ [])) }
+fn show_unknown(text: &mut Vec<u8>, format: Format, fault: Fault<'_>) -> Result<(), AllocError>
+    ensures { AddsText result text.old.items text.new.items (refused_record format fault.entry.place fault.entry.reason fault.entry.rest.now) }
 {
-    forget(state, front_kind(fault.rest), front_contents(fault.rest));
     show_refusal(text, format, fault.place, fault.reason, fault.rest)
 }
 
@@ -149,10 +145,11 @@ pub(crate) fn show_fault<'a>(
     fault: Fault<'a>,
 ) -> Result<(), AllocError>
     ensures text { (before : List Rec) → Holds state.old.known before → AddsText result text.old.items text.new.items (fault_record style before state.old.lost fault.entry.place fault.entry.reason fault.entry.rest.now) }
-    ensures holds { (before : List Rec) → Holds state.old.known before → OnOk result (Holds state.new.known (before ++ faulty_record state.old.lost fault.entry.rest.now ∷ [])) }
+    ensures holds { (before : List Rec) → Holds state.old.known before → OnOk result (Holds state.new.known (before ++ faulty_record (tables before) state.old.lost fault.entry.rest.now ∷ [])) }
+    ensures lost { OnOk result (state.new.lost ≡ faulty_lost state.old.known.tables state.old.lost fault.entry.rest.now) }
 {
     if !has_fields(fault.rest) {
-        return show_unknown(text, style.format, state, fault);
+        return show_unknown(text, style.format, fault);
     }
     show_both(text, style.format, style, state, fault)
 }

@@ -2,9 +2,9 @@
 
 ghost use Rattle.std.specs.Prelude.{◌≡◌};
 ghost use Rattle.omf_frame.specs.Bytes.{AddsText};
-ghost use Rattle.omf_dump.specs.Raw.{allocations, comdat_aligns, comdat_attributes, comdat_flags, comment_class, comment_flags, communal_kind, end_flags, fix_frame, fix_target, leaves, line_flags, locat_fields, method_if, methods, patches, selections, thread_number, variables};
+ghost use Rattle.omf_dump.specs.Raw.{allocations, attribute_fields, comdat_aligns, comdat_attributes, comdat_flags, comment_class, comment_flags, communal_kind, end_flags, fix_frame, fix_target, leaves, line_flags, locat_fields, method_if, methods, patches, selections, thread_number, variables};
 ghost use Rattle.omf_dump.specs.Render.{fields_text};
-ghost use Rattle.omf_dump.specs.Words.{location_word, word_in};
+ghost use Rattle.omf_dump.specs.Words.{alignment_word, combination_word, location_word, word_in};
 ghost use Rattle.std.specs.Prelude.{codes};
 
 use crate::field::{flag, hexadecimal, method, number, small, word};
@@ -117,6 +117,48 @@ fn locat_word(code: u8) -> &'static str
         13 => "loader-offset32",
         _ => "undefined",
     }
+}
+
+/// The word for the alignment of a segment.
+fn alignment_word(code: u8) -> &'static str
+    ensures { result.now ≡ alignment_word code }
+{
+    match code {
+        0 => "absolute",
+        1 => "byte",
+        2 => "word",
+        3 => "paragraph",
+        4 => "page",
+        5 => "dword",
+        _ => "undefined",
+    }
+}
+
+/// The word for its combination.
+fn combination_word(code: u8) -> &'static str
+    ensures { result.now ≡ combination_word code }
+{
+    match code {
+        0 => "private",
+        1 => "reserved1",
+        2 => "public",
+        3 => "reserved3",
+        4 => "public4",
+        5 => "stack",
+        6 => "common",
+        _ => "public7",
+    }
+}
+
+/// A SEGDEF's attributes.
+pub(crate) fn put_attributes(text: &mut Vec<u8>, format: Format, byte: u8) -> Result<(), AllocError>
+    ensures { AddsText result text.old.items text.new.items (fields_text format (attribute_fields byte)) }
+{
+    let bits = if byte % 2 == 1 { 32 } else { 16 };
+    word(text, format, "align", alignment_word(byte / 32))?;
+    word(text, format, "combine", combination_word(byte / 4 % 8))?;
+    number(text, format, "use", bits)?;
+    flag(text, format, "big", byte / 2 % 2 == 1)
 }
 
 /// A COMDAT's flags.

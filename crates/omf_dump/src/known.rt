@@ -54,7 +54,7 @@ pub struct Known<'a> {
 }
 
 /// The name with index `index`, from 1; None outside the table.
-fn name_of<'a>(names: &[Name<'a>], index: usize) -> Option<Name<'a>>
+pub(crate) fn name_of<'a>(names: &[Name<'a>], index: usize) -> Option<Name<'a>>
     ensures { result ≡ entry names.now index }
 {
     let name = names.get(index.checked_sub(1)?)?;

@@ -1,15 +1,16 @@
 //! Records that are not judged, as far as they can be read: those after a record at fault.
 
-ghost use Rattle.std.specs.Prelude.{◌≡◌, ◌≤◌, ◌<◌, ◌+◌, ◌++◌, ◌∷◌, ◌^◌, IsTrue, List, OnOk, [], length, true};
+ghost use Rattle.std.specs.Prelude.{◌≡◌, ◌≤◌, ◌<◌, ◌+◌, ◌++◌, ◌∷◌, ◌^◌, IfOk, IsTrue, List, OnOk, [], is_some, length, true, unwrap_or};
 ghost use Rattle.omf_frame.specs.Bytes.{AddsText};
 ghost use Rattle.omf_frame.specs.Framing.{after_front, is_end, is_taken, is_whole, record_len, stated_length};
 ghost use Rattle.omf_frame.specs.Types.{type_of};
 ghost use Rattle.omf_records.specs.Inner.Reading.{contents_or, read_body};
-ghost use Rattle.omf_records.specs.Values.{Rec};
+ghost use Rattle.omf_records.specs.Values.{Carried, Rec};
 ghost use Rattle.omf_dump.specs.Inner.Later.{following, unjudged_shown};
 ghost use Rattle.omf_dump.specs.Inner.Showing.{Keeps, shown_by};
 ghost use Rattle.omf_dump.specs.Inner.Walking.{Holds, Passes};
-ghost use Rattle.omf_dump.specs.Later.{body_of, checksum_at, checksum_if, front_kind, goes_on, has_data_if, is_listed, is_lost_if, is_plain, kept_contents, kept_record, later_from, later_text, lose_if, lost_after, lost_by, lost_with, none_lost, stand_in, unjudged_body, unjudged_head, unjudged_text};
+ghost use Rattle.omf_dump.specs.Later.{body_of, checksum_at, checksum_if, front_kind, given, given_if, goes_on, has_data_if, is_listed, is_lost_if, is_plain, kept_contents, kept_record, later_from, later_text, lose_if, lost_after, lost_by, lost_with, none_lost, stand_in, unjudged_body, unjudged_head, unjudged_text, unread_contents, unread_lost};
+ghost use Rattle.omf_dump.specs.Known.{tables};
 ghost use Rattle.omf_dump.specs.Library.{after_member};
 ghost use Rattle.omf_dump.specs.Raw.{raw_shown};
 ghost use Rattle.omf_dump.specs.Render.{fields_text, head_text, shown_text};
@@ -17,6 +18,7 @@ ghost use Rattle.omf_dump.specs.Render.{fields_text, head_text, shown_text};
 use crate::fault::DumpFault;
 use crate::field::{flag, small};
 use crate::format::{Format, Style};
+use crate::giving::give;
 use crate::item::{close_record, put_kind_head, put_number_head};
 use crate::known::Known;
 use crate::library::front_contents;
@@ -230,7 +232,7 @@ fn is_plain(lost: Lost, kind: u8) -> bool
 }
 
 /// Forgets what a record of this type would have given, which was not read.
-pub(crate) fn forget(state: &mut State<'_>, kind: u8, body: &[u8])
+fn forget(state: &mut State<'_>, kind: u8, body: &[u8])
     ensures keeps { Keeps state.old.known (stand_in kind body.now) state.new.known }
     ensures lost { state.new.lost ≡ lose_if state.old.lost (type_of kind) }
 {
@@ -241,21 +243,57 @@ pub(crate) fn forget(state: &mut State<'_>, kind: u8, body: &[u8])
     state.lost = lose_if(state.lost, kind);
 }
 
-/// The contents of a record by its bytes alone.
-fn show_opaque(
-    text: &mut Vec<u8>,
-    style: Style,
-    state: &mut State<'_>,
-    kind: u8,
-    body: &[u8],
-) -> Result<(), AllocError>
-    ensures text { AddsText result text.old.items text.new.items (shown_text style (raw_shown state.old.known.tables kind body.now)) }
-    ensures keeps { OnOk result (Keeps state.old.known (stand_in kind body.now) state.new.known) }
-    ensures lost { OnOk result (state.new.lost ≡ lose_if state.old.lost (type_of kind)) }
+/// Keeps what a record of a type gives that is not read, if that and its place in the tables are known. Returns whether it is.
+#[tactic(auto, using(crate::proofs::LaterLaws::by_true, crate::proofs::LaterLaws::by_false, crate::proofs::GivesLaws::none_changed))]
+fn give_if<'a>(
+    state: &mut State<'a>,
+    kind: Option<RecordType>,
+    width: Width,
+    body: &'a [u8],
+) -> Result<bool, AllocError>
+    ensures given { IfOk result (λ is_given. is_given ≡ is_some (given_if state.old.known.tables.names state.old.lost width body.entry.now kind)) }
+    ensures keeps { OnOk result (Keeps state.old.known (unwrap_or (given_if state.old.known.tables.names state.old.lost width body.entry.now kind) (Carried [])) state.new.known) }
+    ensures lost { state.new.lost ≡ state.old.lost }
 {
-    show_raw(text, style, &state.known.tables, kind, body)?;
+    match kind {
+        Some(kind) => {
+            if is_lost(state.lost, kind) {
+                return Ok(false);
+            }
+            give(&mut state.known, width, kind, body)
+        }
+        None => Ok(false),
+    }
+}
+
+/// Keeps what a record gives that is not read, if that is known; else forgets what it would have given.
+#[tactic(auto, using(crate::proofs::GivesLaws::given_kept, crate::proofs::GivesLaws::none_kept, crate::proofs::LaterLaws::by_true, crate::proofs::LaterLaws::by_false))]
+fn keep_unread<'a>(state: &mut State<'a>, kind: u8, body: &'a [u8]) -> Result<(), AllocError>
+    ensures keeps { OnOk result (Keeps state.old.known (unread_contents state.old.known.tables state.old.lost kind body.entry.now) state.new.known) }
+    ensures lost { OnOk result (state.new.lost ≡ unread_lost state.old.known.tables state.old.lost kind body.entry.now) }
+{
+    let is_given = give_if(state, RecordType::of(kind), Width::of(kind), body)?;
+    if is_given {
+        return Ok(());
+    }
     forget(state, kind, body);
     Ok(())
+}
+
+/// The contents of a record by its bytes alone.
+fn show_opaque<'a>(
+    text: &mut Vec<u8>,
+    style: Style,
+    state: &mut State<'a>,
+    kind: u8,
+    body: &'a [u8],
+) -> Result<(), AllocError>
+    ensures text { AddsText result text.old.items text.new.items (shown_text style (raw_shown state.old.known.tables kind body.entry.now)) }
+    ensures keeps { OnOk result (Keeps state.old.known (unread_contents state.old.known.tables state.old.lost kind body.entry.now) state.new.known) }
+    ensures lost { OnOk result (state.new.lost ≡ unread_lost state.old.known.tables state.old.lost kind body.entry.now) }
+{
+    show_raw(text, style, &state.known.tables, kind, body)?;
+    keep_unread(state, kind, body)
 }
 
 /// The contents of a record of a type that a module may have, if its layout has no fault; else its fields by its bytes alone.
@@ -269,8 +307,8 @@ fn show_plain<'a>(
     requires taken { IsTrue (is_taken raw.kind) }
     requires short { length raw.body.now ≤ 65534 }
     ensures text { AddsText result text.old.items text.new.items (shown_text style (unjudged_shown state.old.known state.old.lost raw.entry.kind raw.entry.body.now)) }
-    ensures keeps { OnOk result (Keeps state.old.known (kept_contents state.old.lost raw.entry.kind raw.entry.body.now) state.new.known) }
-    ensures lost { OnOk result (state.new.lost ≡ lost_after state.old.lost raw.entry.kind raw.entry.body.now) }
+    ensures keeps { OnOk result (Keeps state.old.known (kept_contents state.old.known.tables state.old.lost raw.entry.kind raw.entry.body.now) state.new.known) }
+    ensures lost { OnOk result (state.new.lost ≡ lost_after state.old.known.tables state.old.lost raw.entry.kind raw.entry.body.now) }
 {
     match view(raw) {
         Ok(rec) => show_contents(text, style, &mut state.known, Width::of(raw.kind), &rec),
@@ -287,8 +325,8 @@ fn show_unjudged<'a>(
 ) -> Result<(), AllocError>
     requires { length raw.body.now ≤ 65534 }
     ensures text { AddsText result text.old.items text.new.items (shown_text style (unjudged_shown state.old.known state.old.lost raw.entry.kind raw.entry.body.now)) }
-    ensures keeps { OnOk result (Keeps state.old.known (kept_contents state.old.lost raw.entry.kind raw.entry.body.now) state.new.known) }
-    ensures lost { OnOk result (state.new.lost ≡ lost_after state.old.lost raw.entry.kind raw.entry.body.now) }
+    ensures keeps { OnOk result (Keeps state.old.known (kept_contents state.old.known.tables state.old.lost raw.entry.kind raw.entry.body.now) state.new.known) }
+    ensures lost { OnOk result (state.new.lost ≡ lost_after state.old.known.tables state.old.lost raw.entry.kind raw.entry.body.now) }
 {
     if is_plain(state.lost, raw.kind) {
         show_plain(text, style, state, raw)
@@ -340,8 +378,8 @@ pub(crate) fn put_unjudged_body<'a>(
     bytes: &'a [u8],
 ) -> Result<(), AllocError>
     ensures text { (before : List Rec) → Holds state.old.known before → AddsText result text.old.items text.new.items (unjudged_body style before state.old.lost bytes.entry.now) }
-    ensures holds { (before : List Rec) → Holds state.old.known before → OnOk result (Holds state.new.known (before ++ kept_record state.old.lost bytes.entry.now ∷ [])) }
-    ensures lost { OnOk result (state.new.lost ≡ lost_by state.old.lost bytes.entry.now) }
+    ensures holds { (before : List Rec) → Holds state.old.known before → OnOk result (Holds state.new.known (before ++ kept_record (tables before) state.old.lost bytes.entry.now ∷ [])) }
+    ensures lost { OnOk result (state.new.lost ≡ lost_by state.old.known.tables state.old.lost bytes.entry.now) }
 {
     let raw = RawRecord {
         kind: front_kind(bytes),
@@ -360,8 +398,8 @@ pub(crate) fn put_unjudged<'a>(
     rest: Rest<'a>,
 ) -> Result<(), AllocError>
     ensures text { (before : List Rec) → Holds state.old.known before → AddsText result text.old.items text.new.items (unjudged_text style before state.old.lost rest.entry.number rest.entry.start rest.entry.bytes.now) }
-    ensures holds { (before : List Rec) → Holds state.old.known before → OnOk result (Holds state.new.known (before ++ kept_record state.old.lost rest.entry.bytes.now ∷ [])) }
-    ensures lost { OnOk result (state.new.lost ≡ lost_by state.old.lost rest.entry.bytes.now) }
+    ensures holds { (before : List Rec) → Holds state.old.known before → OnOk result (Holds state.new.known (before ++ kept_record (tables before) state.old.lost rest.entry.bytes.now ∷ [])) }
+    ensures lost { OnOk result (state.new.lost ≡ lost_by state.old.known.tables state.old.lost rest.entry.bytes.now) }
 {
     put_unjudged_head(text, style.format, rest)?;
     put_unjudged_body(text, style, state, rest.bytes)?;
@@ -408,7 +446,7 @@ fn goes_on(number: u32, bytes: &[u8]) -> bool
     is_whole(bytes) && !is_end(front_kind(bytes)) && !is_foreign(number, bytes)
 }
 
-/// What is lost after the record at fault, which is at the front.
+/// What is lost by the record at fault, which is at the front, if its checksum is wrong.
 pub(crate) fn lost_with(bytes: &[u8]) -> Lost
     ensures { result ≡ lost_with bytes.now }
 {
@@ -421,11 +459,11 @@ pub(crate) fn put_later<'a, K: Sink>(
     writer: &mut K,
     text: &mut Vec<u8>,
     style: Style,
-    known: Known<'a>,
+    state: &mut State<'a>,
     fault: Fault<'a>,
 ) -> Result<(), DumpFault>
     requires { fault.place.start + length fault.rest.now < 2 ^ 63 }
-    ensures { (before : List Rec) → Holds known.entry before → Passes (K.seen writer.old).bytes (K.seen writer.new).bytes result (text.old.items ++ later_text style before fault.entry.place.number fault.entry.place.start fault.entry.rest.now) text.new.items }
+    ensures { (before : List Rec) → Holds state.old.known before → Passes (K.seen writer.old).bytes (K.seen writer.new).bytes result (text.old.items ++ later_text style before state.old.lost fault.entry.place.number fault.entry.place.start fault.entry.rest.now) text.new.items }
 {
     let place = fault.place;
     let bytes = fault.rest;
@@ -438,9 +476,5 @@ pub(crate) fn put_later<'a, K: Sink>(
         start: place.start + size as u64,
         bytes: bytes.split_at(size).1,
     };
-    let mut state = State {
-        known,
-        lost: lost_with(bytes),
-    };
-    put_from(writer, text, style, &mut state, rest)
+    put_from(writer, text, style, state, rest)
 }

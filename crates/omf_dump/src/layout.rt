@@ -12,7 +12,7 @@ pub(crate) fn name(step: Step) -> &'static str
 {
     match step {
         Step::Group | Step::ExplicitGroup => "group",
-        Step::Segment | Step::ExplicitSegment => "segment",
+        Step::Segment | Step::ExplicitSegment | Step::MemberSegment => "segment",
         Step::Frame
         | Step::AbsoluteFrame
         | Step::Fix
@@ -21,7 +21,7 @@ pub(crate) fn name(step: Step) -> &'static str
         | Step::FrameExternal => "frame",
         Step::AbsoluteOffset | Step::Offset => "offset",
         Step::Name | Step::NameIndex => "name",
-        Step::External => "external",
+        Step::External | Step::MemberExternal => "external",
         Step::Public | Step::PublicIndex => "public",
         Step::Alias => "alias",
         Step::Substitute => "substitute",
@@ -61,7 +61,7 @@ pub(crate) fn name(step: Step) -> &'static str
         Step::TargetSegment | Step::TargetGroup | Step::TargetExternal => "target",
         Step::TargetNumber => "target-number",
         Step::Displacement => "displacement",
-        Step::Rest => "left",
+        Step::Rest | Step::MemberRest => "left",
     }
 }
 
@@ -71,13 +71,12 @@ pub(crate) fn kind(step: Step) -> Kind
 {
     match step {
         Step::Group | Step::ExplicitGroup => Kind::Group,
-        Step::Segment | Step::ExplicitSegment => Kind::Segment,
+        Step::Segment | Step::ExplicitSegment | Step::MemberSegment => Kind::Segment,
+        Step::MemberExternal => Kind::External,
+        Step::Attributes => Kind::Attributes,
         Step::Frame | Step::AbsoluteFrame | Step::FrameNumber | Step::TargetNumber => Kind::Short,
-        Step::AbsoluteOffset
-        | Step::LibraryFlags
-        | Step::EightLeaf
-        | Step::Component
-        | Step::Attributes => Kind::Small,
+        Step::AbsoluteOffset | Step::LibraryFlags | Step::EightLeaf | Step::Component =>
+            Kind::Small,
         Step::Name | Step::External | Step::Public | Step::Alias | Step::Substitute =>
             Kind::Counted,
         Step::Version => Kind::Version,
@@ -105,7 +104,7 @@ pub(crate) fn kind(step: Step) -> Kind
         Step::FrameSegment | Step::TargetSegment => Kind::OfSegment,
         Step::FrameGroup | Step::TargetGroup => Kind::OfGroup,
         Step::FrameExternal | Step::TargetExternal => Kind::OfExternal,
-        Step::Rest => Kind::Bytes,
+        Step::Rest | Step::MemberRest => Kind::Bytes,
     }
 }
 
@@ -159,6 +158,9 @@ pub(crate) fn when(step: Step) -> When
         Step::AbsoluteFrame | Step::AbsoluteOffset => When::Absolute,
         Step::Bits | Step::NearLength => When::Near,
         Step::Elements | Step::ElementType | Step::FarCount | Step::FarSize => When::Far,
+        Step::MemberSegment => When::Component(0xFF),
+        Step::MemberExternal => When::Component(0xFE),
+        Step::MemberRest => When::OtherComponent,
         Step::FrameSegment => When::Frame(0),
         Step::FrameGroup => When::Frame(1),
         Step::FrameExternal => When::Frame(2),
@@ -296,7 +298,12 @@ pub(crate) fn item_steps(kind: RecordType, byte: u8) -> &'static [Step]
         RecordType::Extdef | RecordType::Lextdef => &[Step::External, Step::TypeIndex],
         RecordType::Pubdef | RecordType::Lpubdef => &[Step::Public, Step::Offset, Step::TypeIndex],
         RecordType::Lnames | RecordType::Llnames => &[Step::Name],
-        RecordType::Grpdef => &[Step::Component, Step::Segment],
+        RecordType::Grpdef => &[
+            Step::Component,
+            Step::MemberSegment,
+            Step::MemberExternal,
+            Step::MemberRest,
+        ],
         RecordType::Fixupp => subrecord_item(byte),
         RecordType::Comdef | RecordType::Lcomdef => &[
             Step::External,

@@ -23,9 +23,11 @@ pub(crate) fn is_lost(lost: Lost, kind: RecordType) -> bool
         RecordType::Lnames | RecordType::Llnames => lost.names,
         RecordType::Segdef => lost.segments,
         RecordType::Grpdef => lost.groups,
-        RecordType::Extdef | RecordType::Lextdef | RecordType::Comdef | RecordType::Lcomdef => {
-            lost.externals
-        }
+        RecordType::Extdef
+        | RecordType::Lextdef
+        | RecordType::Comdef
+        | RecordType::Lcomdef
+        | RecordType::Cextdef => lost.externals,
         RecordType::Fixupp | RecordType::Modend => lost.threads,
         RecordType::Theadr
         | RecordType::Lheadr
@@ -40,7 +42,6 @@ pub(crate) fn is_lost(lost: Lost, kind: RecordType) -> bool
         | RecordType::Alias
         | RecordType::Vernum
         | RecordType::Bakpat
-        | RecordType::Cextdef
         | RecordType::Comdat
         | RecordType::Nbkpat
         | RecordType::Vendext

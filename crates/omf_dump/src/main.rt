@@ -21,6 +21,7 @@ mod field;
 mod file;
 mod flags;
 mod format;
+mod giving;
 mod host;
 mod item;
 mod items;

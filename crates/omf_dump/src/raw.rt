@@ -2,7 +2,7 @@
 
 ghost use Rattle.std.specs.Prelude.{◌≡◌, ◌+◌, ◌-◌, ◌++◌, ◌≤◌, ◌<◌, ◌^◌, [], IfOk, None, Some, length, true};
 ghost use Rattle.omf_frame.specs.Bytes.{AddsText};
-ghost use Rattle.omf_dump.specs.Raw.{cut_fields, fields_type, fix_frame, fix_target, has_blocks, has_bytes, head_fields, head_size, item_fields, item_size, items_from, left_if, raw_shown, rest_block, rest_items, step_fields, steps_fields, steps_size, type_shown, value_fields};
+ghost use Rattle.omf_dump.specs.Raw.{comdat_offset, cut_fields, fields_type, first_offset, fix_frame, fix_target, has_blocks, has_bytes, head_fields, head_size, is_comdat, item_fields, item_size, items_from, left_if, named_attributes, raw_shown, rest_block, rest_items, step_fields, steps_fields, steps_size, type_shown, value_fields};
 ghost use Rattle.omf_dump.specs.Blocks.{blocks_from};
 ghost use Rattle.omf_dump.specs.Render.{closing, fields_text, items_text, shown_text};
 
@@ -14,15 +14,15 @@ use crate::encoded::{
 };
 use crate::field::{bytes, characters, flag, hexadecimal, method, named, number, small, word};
 use crate::flags::{
-    align_word, leaf_word, patch_word, put_comdat_attributes, put_comdat_flags, put_comment_class,
-    put_comment_flags, put_communal_kind, put_end_flags, put_fix_frame, put_fix_target,
-    put_line_flags, put_locat, put_thread_number, variable_word,
+    align_word, leaf_word, patch_word, put_attributes, put_comdat_attributes, put_comdat_flags,
+    put_comment_class, put_comment_flags, put_communal_kind, put_end_flags, put_fix_frame,
+    put_fix_target, put_line_flags, put_locat, put_thread_number, variable_word,
 };
 use crate::format::{Format, Style};
 use crate::item::{close_item, open_item_at};
 use crate::known::Tables;
 use crate::layout::{head_steps, item_steps, kind, name, when};
-use crate::part::after;
+use crate::part::{after, first};
 use crate::step::{Kind, Step};
 use omf_frame::{RecordType, Width};
 use omf_records::Blocks;
@@ -42,6 +42,19 @@ fn put_fix(text: &mut Vec<u8>, format: Format, byte: u8) -> Result<(), AllocErro
 {
     put_fix_frame(text, format, byte)?;
     put_fix_target(text, format, byte)
+}
+
+/// The attributes of a SEGDEF, as a byte and by their fields.
+fn put_segment_attributes(
+    text: &mut Vec<u8>,
+    format: Format,
+    name: &str,
+    byte: u8,
+) -> Result<(), AllocError>
+    ensures { AddsText result text.old.items text.new.items (fields_text format (named_attributes name.now byte)) }
+{
+    small(text, format, name, byte)?;
+    put_attributes(text, format, byte)
 }
 
 /// A field with these bytes.
@@ -76,6 +89,7 @@ fn put_value(
         Kind::Name => named(text, format, name, tables.name(index_of(value))),
         Kind::Segment => named(text, format, name, tables.segment(index_of(value))),
         Kind::Group => named(text, format, name, tables.group(index_of(value))),
+        Kind::External => named(text, format, name, tables.external(index_of(value))),
         Kind::OfSegment => method(
             text,
             format,
@@ -100,6 +114,7 @@ fn put_value(
         Kind::ComdatFlags => put_comdat_flags(text, format, first_of(value)),
         Kind::Selection => put_comdat_attributes(text, format, first_of(value)),
         Kind::ComdatAlign => word(text, format, name, align_word(first_of(value))),
+        Kind::Attributes => put_segment_attributes(text, format, name, first_of(value)),
         Kind::LineFlags => put_line_flags(text, format, first_of(value)),
         Kind::CommentFlags => put_comment_flags(text, format, first_of(value)),
         Kind::CommentClass => put_comment_class(text, format, first_of(value)),
@@ -193,7 +208,7 @@ fn put_item_steps(
 }
 
 /// This number, or 1.
-fn at_least_one(count: usize) -> usize
+pub(crate) fn at_least_one(count: usize) -> usize
     ensures some { 0 < result }
     ensures same { result - 1 ≡ count - 1 }
 {
@@ -261,43 +276,89 @@ fn put_items_rest(
     end_items(text, view.style)
 }
 
-/// Whether bytes follow the fields at the beginning of a record.
-fn has_bytes(kind: RecordType) -> bool
-    ensures { result ≡ has_bytes kind }
+/// Whether bytes follow the fields at the beginning of a record, by the first byte of its contents.
+fn has_bytes(kind: RecordType, first: u8) -> bool
+    ensures { result ≡ has_bytes kind first }
 {
     match kind {
-        RecordType::Coment | RecordType::Ledata | RecordType::Comdat | RecordType::Vendext => true,
+        RecordType::Coment | RecordType::Ledata | RecordType::Vendext => true,
+        RecordType::Comdat => first / 2 % 2 == 0,
         _ => false,
     }
 }
 
 /// Whether blocks follow them.
-fn has_blocks(kind: RecordType) -> bool
-    ensures { result ≡ has_blocks kind }
+pub(crate) fn has_blocks(kind: RecordType, first: u8) -> bool
+    ensures { result ≡ has_blocks kind first }
 {
     match kind {
         RecordType::Lidata => true,
+        RecordType::Comdat => first / 2 % 2 == 1,
         _ => false,
     }
 }
 
-/// What follows the fields at the beginning of a record, from an offset in it on.
+/// The offset of a COMDAT's data in their segment.
+pub(crate) fn comdat_offset(width: Width, body: &[u8]) -> u32
+    ensures { result ≡ comdat_offset width body.now }
+{
+    little(first(width.bytes(), after(3, body)))
+}
+
+/// Whether a record is a COMDAT.
+fn is_comdat(kind: RecordType) -> bool
+    ensures { result ≡ is_comdat kind }
+{
+    match kind {
+        RecordType::Comdat => true,
+        _ => false,
+    }
+}
+
+/// The contents of a record, and the part of them after the fields at the beginning, with its offset in the record.
+#[derive(Clone, Copy)]
+struct Parts<'b> {
+    body: &'b [u8],
+    within: u64,
+    rest: &'b [u8],
+}
+
+/// The bytes after the fields at the beginning of a record.
+fn put_bytes_rest(
+    text: &mut Vec<u8>,
+    view: &View<'_, '_>,
+    kind: RecordType,
+    parts: Parts<'_>,
+) -> Result<(), AllocError>
+    requires { parts.within + length parts.rest.now < 2 ^ 64 }
+    ensures { AddsText result text.old.items text.new.items (closing view.now.style None (Some (record { first = first_offset view.now.width kind parts.entry.within parts.entry.body.now; bytes = parts.entry.rest.now }))) }
+{
+    let Parts { body, within, rest } = parts;
+    if is_comdat(kind) {
+        let offset = comdat_offset(view.width, body);
+        close_block(text, view.style, u64::from(offset), rest)
+    } else {
+        close_block(text, view.style, within, rest)
+    }
+}
+
+/// What follows the fields at the beginning of a record.
 fn put_rest(
     text: &mut Vec<u8>,
     view: &View<'_, '_>,
     kind: RecordType,
-    within: u64,
-    value: &[u8],
+    parts: Parts<'_>,
 ) -> Result<(), AllocError>
-    requires { within + length value.now < 2 ^ 64 }
-    ensures { AddsText result text.old.items text.new.items (closing view.now.style (rest_items view.now.tables.now view.now.width kind within value.now) (rest_block kind within value.now)) }
+    requires { parts.within + length parts.rest.now < 2 ^ 64 }
+    ensures { AddsText result text.old.items text.new.items (closing view.now.style (rest_items view.now.tables.now view.now.width kind parts.entry.within parts.entry.body.now parts.entry.rest.now) (rest_block view.now.width kind parts.entry.within parts.entry.body.now parts.entry.rest.now)) }
 {
-    if has_bytes(kind) {
-        close_block(text, view.style, within, value)
-    } else if has_blocks(kind) {
-        put_blocks_rest(text, view, within, value)
+    let byte = first_of(parts.body);
+    if has_bytes(kind, byte) {
+        put_bytes_rest(text, view, kind, parts)
+    } else if has_blocks(kind, byte) {
+        put_blocks_rest(text, view, parts.within, parts.rest)
     } else {
-        put_items_rest(text, view, kind, within, value)
+        put_items_rest(text, view, kind, parts.within, parts.rest)
     }
 }
 
@@ -325,7 +386,12 @@ fn show_type(
     ensures { AddsText result text.old.items text.new.items (shown_text view.now.style (type_shown view.now.tables.now view.now.width kind value.now)) }
 {
     let size = put_head(text, view, kind, value)?;
-    put_rest(text, view, kind, 3 + size as u64, after(size, value))
+    let parts = Parts {
+        body: value,
+        within: 3 + size as u64,
+        rest: after(size, value),
+    };
+    put_rest(text, view, kind, parts)
 }
 
 /// The end of a library.

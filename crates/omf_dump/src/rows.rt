@@ -1,13 +1,18 @@
 //! Worked examples, each evaluated by the check.
 
-ghost use Rattle.std.specs.Prelude.{◌≡◌, ℕ, [], ◌∷◌, ◌++◌, codes, drop};
+ghost use Rattle.std.specs.Prelude.{◌≡◌, ℕ, [], ◌∷◌, ◌++◌, None, Some, codes, drop};
 ghost use Rattle.omf_frame.specs.declared.fault.Reason.TheVariants as reason;
 ghost use Rattle.omf_check.specs.Module.{records_in};
 ghost use Rattle.omf_check.specs.Rows.{H, first_module, place, wrong_checksum};
 ghost use Rattle.omf_dump.specs.Dump.{dump_text};
+ghost use Rattle.omf_frame.specs.declared.kinds.RecordType.TheVariants as types;
+ghost use Rattle.omf_frame.specs.declared.kinds.Width.TheVariants as width;
+ghost use Rattle.omf_records.specs.Values.{Carried};
+ghost use Rattle.omf_dump.specs.Gives.{data_of, externs_of, given_by, group_of, segment_of};
 ghost use Rattle.omf_dump.specs.Looks.{looks_like};
 ghost use Rattle.omf_dump.specs.Refused.{refusal_text};
 ghost use Rattle.omf_dump.specs.Render.{left_out};
+ghost use Rattle.omf_dump.specs.Words.{type_word};
 ghost use Rattle.omf_dump.specs.Csv.{csv_quoted};
 ghost use Rattle.omf_dump.specs.Rows.{json, lines, named_text, short, text};
 ghost use Rattle.omf_dump.specs.declared.format.Format.TheVariants as format;
@@ -39,6 +44,38 @@ pub fn refusals()
     ensures end { refusal_text text [] (place 1 6 0) reason.NoEnd [] ≡ lines (codes "1 00000006  refused 1  reason NoEnd  within 0  meaning \"the input ends before a MODEND\"" ∷ []) }
     ensures empty { refusal_text json [] (place 0 0 0) reason.NoEnd [] ≡ lines (codes "{\"number\":0,\"start\":0,\"refused\":1,\"reason\":\"NoEnd\",\"within\":0,\"meaning\":\"the input ends before a MODEND\",\"looks-like\":\"an empty file\",\"data\":\"\"}" ∷ []) }
     ensures program { refusal_text text [] (place 0 0 0) reason.UnknownType (0x4D ∷ 0x5A ∷ []) ≡ lines (codes "0 00000000 4D   refused 3  reason UnknownType  within 0  byte 4D  meaning \"the record's type is unknown\"  looks-like \"a program (MZ)\"" ∷ codes "    00000000 4D 5A                                            MZ" ∷ codes "             ^^ +0" ∷ []) }
+{}
+
+/// What records give that are not read, by their bytes: SEGDEF with alignment 6, GRPDEF with an external, COMDEF with a communal of Borland's, CEXTDEF, FIXUPP
+/// with an explicit frame, COMDAT.
+pub fn given()
+    ensures segdef { given_by [] width.Bits16 types.Segdef (0xC8 ∷ 16 ∷ 0 ∷ 2 ∷ 3 ∷ 1 ∷ []) ≡ Some (segment_of 2) }
+    ensures grpdef { given_by [] width.Bits16 types.Grpdef (4 ∷ 0xFE ∷ 1 ∷ []) ≡ Some (group_of 4) }
+    ensures comdef { given_by [] width.Bits16 types.Comdef (1 ∷ 0x62 ∷ 0 ∷ 1 ∷ 16 ∷ 1 ∷ 0x6E ∷ 0 ∷ 0x61 ∷ 3 ∷ 0x81 ∷ 0 ∷ 1 ∷ []) ≡ Some (externs_of (codes "b" ∷ codes "n" ∷ [])) }
+    ensures cextdef { given_by ([] ∷ codes "f" ∷ []) width.Bits16 types.Cextdef (2 ∷ 0 ∷ 2 ∷ 0x81 ∷ 0 ∷ []) ≡ Some (externs_of (codes "f" ∷ codes "f" ∷ [])) }
+    ensures fixupp { given_by [] width.Bits16 types.Fixupp (0xC4 ∷ 1 ∷ 0x36 ∷ 0x34 ∷ 0x12 ∷ 1 ∷ []) ≡ Some (Carried []) }
+    ensures comdat { given_by [] width.Bits16 types.Comdat (0 ∷ 16 ∷ 0 ∷ 2 ∷ 0 ∷ 0 ∷ 1 ∷ 1 ∷ 5 ∷ 0xB8 ∷ []) ≡ Some (data_of 2 (0xB8 ∷ [])) }
+{}
+
+/// What they do not give: a cut field, a communal or a length of no known kind, an index of no name, a reserved frame method, a THREAD, iterated data.
+pub fn not_given()
+    ensures segdef { given_by [] width.Bits16 types.Segdef (0xC8 ∷ 16 ∷ 0 ∷ 2 ∷ 3 ∷ []) ≡ None }
+    ensures comdef { given_by [] width.Bits16 types.Comdef (1 ∷ 0x62 ∷ 0 ∷ 0x60 ∷ 16 ∷ []) ≡ None }
+    ensures length { given_by [] width.Bits16 types.Comdef (1 ∷ 0x62 ∷ 0 ∷ 0x62 ∷ 0x82 ∷ []) ≡ None }
+    ensures cextdef { given_by ([] ∷ []) width.Bits16 types.Cextdef (2 ∷ 0 ∷ []) ≡ None }
+    ensures reserved { given_by [] width.Bits16 types.Fixupp (0xC4 ∷ 1 ∷ 0x66 ∷ 1 ∷ []) ≡ None }
+    ensures thread { given_by [] width.Bits16 types.Fixupp (0x40 ∷ 1 ∷ []) ≡ None }
+    ensures iterated { given_by [] width.Bits16 types.Comdat (2 ∷ 16 ∷ 0 ∷ 2 ∷ 0 ∷ 0 ∷ 1 ∷ 1 ∷ 5 ∷ []) ≡ None }
+{}
+
+/// The names of types: a known one, obsolete ones, the end of a library, one of no name.
+pub fn type_names()
+    ensures known { type_word 0x9A ≡ codes "GRPDEF" }
+    ensures header { type_word 0x6E ≡ codes "RHEADR" }
+    ensures data { type_word 0x84 ≡ codes "PEDATA" }
+    ensures symbols { type_word 0x92 ≡ codes "LOCSYM" }
+    ensures end { type_word 0xF1 ≡ codes "library-end" }
+    ensures none { type_word 0x4D ≡ [] }
 {}
 
 /// What files look like.

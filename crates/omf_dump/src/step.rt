@@ -29,6 +29,8 @@ pub enum Kind {
     Segment,
     /// An index of a group.
     Group,
+    /// An index of an external.
+    External,
     /// An index of the segment, the group or the external of a frame or a target.
     OfSegment,
     OfGroup,
@@ -37,6 +39,7 @@ pub enum Kind {
     ComdatFlags,
     Selection,
     ComdatAlign,
+    Attributes,
     LineFlags,
     CommentFlags,
     CommentClass,
@@ -65,6 +68,10 @@ pub enum When {
     Near,
     /// A communal is far.
     Far,
+    /// A group's component has this byte.
+    Component(u8),
+    /// It has another one.
+    OtherComponent,
     /// Fix data have this frame method, and no thread.
     Frame(u8),
     /// Fix data have this target method, and no thread.
@@ -114,6 +121,9 @@ pub enum Step {
     FarCount,
     FarSize,
     Component,
+    MemberSegment,
+    MemberExternal,
+    MemberRest,
     ComdatFlags,
     Selection,
     ComdatAlign,

@@ -103,16 +103,28 @@ pub(crate) fn subtype_word(subtype: u8) -> &'static str
     }
 }
 
-/// The end of a library.
-const LIBRARY_END: u8 = 0xF1;
-
-/// The name of a record's type; F1H, the end of a library, has a name of its own.
+/// The name of a record's type; F1H, the end of a library, and the obsolete types have names of their own.
 pub(crate) fn type_word(kind: u8) -> &'static str
     ensures { result.now ≡ type_word kind }
 {
-    if kind == LIBRARY_END {
-        "library-end"
-    } else {
-        type_name(kind)
+    match kind {
+        0x6E => "RHEADR",
+        0x70 => "REGINT",
+        0x72 => "REDATA",
+        0x74 => "RIDATA",
+        0x76 => "OVLDEF",
+        0x78 => "ENDREC",
+        0x7A => "BLKDEF",
+        0x7C => "BLKEND",
+        0x7E => "DEBSYM",
+        0x84 => "PEDATA",
+        0x86 => "PIDATA",
+        0x92 => "LOCSYM",
+        0xA4 => "LIBHED",
+        0xA6 => "LIBNAM",
+        0xA8 => "LIBLOC",
+        0xAA => "LIBDIC",
+        0xF1 => "library-end",
+        _ => type_name(kind),
     }
 }

@@ -13,5 +13,8 @@ returns-clause-text c = λ before h.
     subst (λ (n : ℕ). OnOk c.show_refusal.result (c.show_refusal.new.text.items ≡ c.args.text.now.items ++ (unjudged_text c.args.style before c.args.state.now.lost n fault.place.start fault.rest.now ++ why))) c.from.ensures
     (two_written c.show_refusal.result _ _ _ _ why (c.in_ok-put_unjudged.ensures.text before h) c.show_refusal.ensures)
 
+pub returns-clause-lost : goal.returns-clause-lost
+returns-clause-lost c = on_any c.show_refusal.result c.in_ok-put_unjudged.ensures.lost
+
 pub returns-clause-holds : goal.returns-clause-holds
 returns-clause-holds c = λ before h. on_any c.show_refusal.result (c.in_ok-put_unjudged.ensures.holds before h)

@@ -7,3 +7,6 @@ returns-clause-text c = λ before h.
 
 pub returns-clause-holds : goal.returns-clause-holds
 returns-clause-holds c = λ before h. on_any c.close_record.result (c.in_ok-put_fields_object.ensures.holds before h)
+
+pub returns-clause-lost : goal.returns-clause-lost
+returns-clause-lost c = on_any c.close_record.result c.in_ok-put_fields_object.ensures.lost

@@ -38,7 +38,7 @@ loop-left-preserved g c =
           let w = c.loop-left.invariant.streamed before h in
           let step = next_later c.args.style w.before c.loop-left.state.lost c.loop-left.number c.loop-left.start c.loop-left.left.now listed in
           let whole = went_on w.sent.front c.loop-left.text.items _ _ _ c.put_unjudged.new.text.items _ w.sent.whole step (c.in-Ok.ensures.text w.before w.holds) in
-          rw (c.in-Ok.ensures.lost, c.following-left.ensures, size) (record {
+          rw (c.in-Ok.ensures.lost, w.holds.tables, c.following-left.ensures, size) (record {
             before = _;
             holds = c.in-Ok.ensures.holds w.before w.holds;
             sent = piece_sent _ _ _ _ w.sent.front c.put_unjudged.new.text.items c.send_piece.new.text.items _ whole w.sent.written c.in_ok-send_piece.ensures;

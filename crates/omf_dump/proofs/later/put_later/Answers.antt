@@ -10,7 +10,7 @@ returns-then-not-goes_on g c = λ before h.
     let place = c.args.fault.place in
     let bytes : List ℕ = c.args.fault.rest.now in
     let no : goes_on place.number bytes ≡ false = cc in
-    nothing_sent (g.K.Sink.seen c.args.writer.now).bytes c.args.text.now.items _ (none_follows c.args.style before place.number place.start bytes no)
+    nothing_sent (g.K.Sink.seen c.args.writer.now).bytes c.args.text.now.items _ (none_follows c.args.style before c.args.state.now.lost place.number place.start bytes no)
 
 pub returns : goal.returns
 returns g c = λ before h.
@@ -18,5 +18,5 @@ returns g c = λ before h.
     let bytes : List ℕ = c.args.fault.rest.now in
     let goes : goes_on place.number bytes ≡ true = cc in
     let size = c.stated_length-size.ensures.value in
-    let is = followed c.args.style before c.lost_with.result place.number place.start _ _ bytes c.split_at.result.1.now goes c.lost_with.ensures (ap (λ (n : ℕ). n + 1) c.from.ensures) (ap (λ (n : ℕ). place.start + (3 + n)) size) (c.split_at.ensures.back ∙ ap (λ (n : ℕ). drop (3 + n) bytes) size) in
+    let is = followed c.args.style before c.args.state.now.lost place.number place.start _ _ bytes c.split_at.result.1.now goes (ap (λ (n : ℕ). n + 1) c.from.ensures) (ap (λ (n : ℕ). place.start + (3 + n)) size) (c.split_at.ensures.back ∙ ap (λ (n : ℕ). drop (3 + n) bytes) size) in
     subst (λ (t : List ℕ). Passes (g.K.Sink.seen c.args.writer.now).bytes (g.K.Sink.seen c.put_from.new.writer).bytes c.put_from.result (c.args.text.now.items ++ t) c.put_from.new.text.items) is (c.put_from.ensures before h)

@@ -22,11 +22,11 @@ returns-in-Ok-clause-text c =
 pub returns-in-Ok-clause-keeps : goal.returns-in-Ok-clause-keeps
 returns-in-Ok-clause-keeps c =
     let raw = c.args.raw in
-    let is = read_kept c.args.state.now.lost raw.kind raw.body.now (contents_seen c.in-Ok.rec) c.requires.plain c.in-Ok.ensures.read in
+    let is = read_kept c.args.state.now.known.tables c.args.state.now.lost raw.kind raw.body.now (contents_seen c.in-Ok.rec) c.requires.plain c.in-Ok.ensures.read in
     subst (λ (x : Contents). OnOk c.show_contents.result (Keeps c.args.state.now.known x c.show_contents.new.known)) is c.show_contents.ensures.keeps
 
 pub returns-in-Ok-clause-lost : goal.returns-in-Ok-clause-lost
-returns-in-Ok-clause-lost c = on_any c.show_contents.result (read_lost c.args.state.now.lost c.args.raw.kind c.args.raw.body.now (contents_seen c.in-Ok.rec) c.requires.plain c.in-Ok.ensures.read)
+returns-in-Ok-clause-lost c = on_any c.show_contents.result (read_lost c.args.state.now.known.tables c.args.state.now.lost c.args.raw.kind c.args.raw.body.now (contents_seen c.in-Ok.rec) c.requires.plain c.in-Ok.ensures.read)
 
 pub returns-in-Err-clause-text : goal.returns-in-Err-clause-text
 returns-in-Err-clause-text c =
@@ -38,10 +38,10 @@ pub returns-in-Err-clause-keeps : goal.returns-in-Err-clause-keeps
 returns-in-Err-clause-keeps c =
     let raw = c.args.raw in
     let lost = c.args.state.now.lost in
-    let is = unread_kept lost raw.kind raw.body.now (fault_unread lost raw.kind raw.body.now _ c.requires.plain c.in-Err.ensures.read) in
+    let is = unread_kept c.args.state.now.known.tables lost raw.kind raw.body.now (fault_unread lost raw.kind raw.body.now _ c.requires.plain c.in-Err.ensures.read) in
     subst (λ (x : Contents). OnOk c.show_opaque.result (Keeps c.args.state.now.known x c.show_opaque.new.state.known)) is c.show_opaque.ensures.keeps
 
 pub returns-in-Err-clause-lost : goal.returns-in-Err-clause-lost
 returns-in-Err-clause-lost c =
     let raw = c.args.raw in
-    fault_lost c.show_opaque.result c.args.state.now.lost c.show_opaque.new.state.lost raw.kind raw.body.now _ c.requires.plain c.in-Err.ensures.read c.show_opaque.ensures.lost
+    fault_lost c.show_opaque.result c.args.state.now.known.tables c.args.state.now.lost c.show_opaque.new.state.lost raw.kind raw.body.now _ c.requires.plain c.in-Err.ensures.read c.show_opaque.ensures.lost

@@ -3,7 +3,9 @@ use Rattle.std.proofs.KnownBytes.{Appends-nil, Appends-trans}
 use Rattle.std.proofs.lemmas.Bool.Decides.{nat_tests}
 use Rattle.std.proofs.lemmas.Result.{err_from_is_err_and}
 use Rattle.omf_check.proofs.ListedLaws.{front_short, front_taken}
+use Rattle.omf_frame.specs.Framing.{after_front}
 use Rattle.omf_dump.specs.Inner.Walking.{IsWalked}
+use Rattle.omf_dump.proofs.LaterLaws.{front_shorter}
 use Rattle.omf_dump.proofs.StreamLaws.{halted, sent_on, stopped}
 use Rattle.omf_dump.proofs.WalkLaws.{all_held, all_walked, begins, counted, moved_on, next_of, rest_is, shown_next, walk_begins}
 use Rattle.omf_dump.proofs.walk.show_records.Goals as goal
@@ -54,6 +56,13 @@ overflow_add-number g c =
     let n = next_of c.args.style c.args.bytes.now records c.loop-left.known c.loop-left.number c.loop-left.start c.loop-left.left.now [] (c.loop-left.invariant.streamed.front ++ c.loop-left.text.items) are some (c.loop-left.invariant.streamed.walked records are) in
     let few = counted c.args.style c.args.bytes.now records c.loop-left.known c.loop-left.number c.loop-left.start c.loop-left.left.now [] (c.loop-left.invariant.streamed.front ++ c.loop-left.text.items) are n in
     omega arith
+
+pub overflow_sub-start : goal.overflow_sub-start
+overflow_sub-start g c =
+    let some : 0 < length c.loop-left.left.now = grind (arith, nat_tests) in
+    let less : length (after_front c.loop-left.left.now) < length c.loop-left.left.now = front_shorter c.loop-left.left.now some in
+    let rest : length c.split_record.result.1.now ≡ length (after_front c.loop-left.left.now) = ap length c.split_record.ensures.rest in
+    omega (arith, less, rest)
 
 pub returns-in_default-clause-text : goal.returns-in_default-clause-text
 returns-in_default-clause-text g c = λ records are. halted c.args.style records c.loop-left.known c.loop-left.number c.loop-left.start c.loop-left.left.now (g.K.Sink.seen c.args.writer.now).bytes (g.K.Sink.seen c.loop-left.writer).bytes
