@@ -7,6 +7,8 @@ from promises import promised
 
 # The numbers with a sign.
 DELTAS = ("external-delta", "line-delta")
+# Types with a name whose fields are not known.
+OBSOLETE = "RHEADR REGINT REDATA RIDATA OVLDEF ENDREC BLKDEF BLKEND DEBSYM PEDATA PIDATA LOCSYM LIBHED LIBNAM LIBLOC LIBDIC".split()
 
 
 def look_at_value(value, most):
@@ -50,7 +52,7 @@ def look_at_records(lines, bytes_, most):
         promised(one["number"] == number and one["start"] == at, f"record {number}: number or start")
         promised(("unjudged" not in one) == is_judged, "a record after the one at fault")
         is_judged = is_judged and "refused" not in one
-        promised(("fields" in one) == ("refused" in one and one.get("record", "") != ""), f"record {number}: fields beside a refusal")
+        promised(("fields" in one) == ("refused" in one and one.get("record", "") not in ("", *OBSOLETE)), f"record {number}: fields beside a refusal")
         shown = one.get("fields", {}) if "refused" in one else one
         promised("refused" not in one or not shown or shown["unjudged"] is True, f"record {number}: judged fields of a record at fault")
         size = 3 + struct.unpack_from("<H", bytes_, at + 1)[0] if len(bytes_) - at >= 3 else len(bytes_) - at
