@@ -6,16 +6,23 @@ class Cursor {
   constructor(bytes, at) { this.bytes = bytes; this.at = at; }
   take(size) { const from = this.at; this.at += size; return [from, this.at]; }
   index() { return this.take(this.bytes[this.at] & 0x80 ? 2 : 1); }
+  isZero([from, to]) { return (this.bytes[from] & 0x7F) === 0 && (to - from === 1 || this.bytes[from + 1] === 0); }
   name() { return this.take(1 + this.bytes[this.at]); }
   communal() { return this.take({ 0x81: 3, 0x84: 4, 0x88: 5 }[this.bytes[this.at]] || 1); }
 }
 
+// The places of the datum of a frame or a target, by its method: an index, with method 3 a frame number, else none.
+function datumPlaces(cursor, kind, method, byte) {
+  if (method === 3) return { [kind + "-number"]: cursor.take(2) };
+  return { [kind]: method < 3 ? cursor.index() : byte };
+}
+
 // The places of a reference: fix data, frame datum, target datum, displacement.
 function referencePlaces(cursor, wide) {
-  const fix = cursor.take(1), data = cursor.bytes[fix[0]], places = {};
-  const frameThread = data & 0x80, targetThread = data & 0x08, method = data >> 4 & 7;
-  places.frame = !frameThread && method < 3 ? cursor.index() : fix;
-  places.target = targetThread ? fix : cursor.index();
+  const fix = cursor.take(1), data = cursor.bytes[fix[0]];
+  const frameThread = data & 0x80, targetThread = data & 0x08;
+  const places = frameThread ? { frame: fix } : datumPlaces(cursor, "frame", data >> 4 & 7, fix);
+  Object.assign(places, targetThread ? { target: fix } : datumPlaces(cursor, "target", data & 3, fix));
   if (!(data & 0x04)) places.displacement = cursor.take(wide ? 4 : 2);
   if (frameThread) places["frame-thread"] = fix;
   if (targetThread) places["target-thread"] = fix;
@@ -31,12 +38,11 @@ function subrecordPlaces(cursor, wide, data) {
     if (data !== null) places.bytes = [data + offset, data + offset];
     return Object.assign(places, referencePlaces(cursor, wide));
   }
-  const byte = cursor.take(1), method = first >> 2 & 7, isFrame = first & 0x40;
-  const datum = !isFrame || method < 3 ? cursor.index() : byte;
-  return isFrame ? { "frame-thread": byte, frame: datum } : { "target-thread": byte, target: datum };
+  const byte = cursor.take(1), kind = first & 0x40 ? "frame" : "target", method = first >> 2 & (kind === "frame" ? 7 : 3);
+  return { [kind + "-thread"]: byte, ...datumPlaces(cursor, kind, method, byte) };
 }
 
-// The places of a block of an LIDATA: repeat count, block count, and the data if that is 0.
+// The places of a block of an LIDATA or a COMDAT: repeat count, block count, and the data if that is 0.
 function blockPlaces(cursor, wide) {
   const repeat = cursor.take(wide ? 4 : 2), blocks = cursor.take(2);
   const isData = cursor.bytes[blocks[0]] === 0 && cursor.bytes[blocks[0] + 1] === 0;
@@ -54,13 +60,18 @@ function leafPlaces(cursor) {
 // The places of one item of a record.
 function itemPlaces(type, cursor, wide, data) {
   if (type === "LNAMES" || type === "LLNAMES") return { name: cursor.name() };
-  if (type === "GRPDEF") { cursor.take(1); return { segment: cursor.index() }; }
+  if (type === "GRPDEF") {
+    const component = cursor.take(1), index = cursor.index();
+    return { component, segment: index, external: index };
+  }
   if (type === "EXTDEF" || type === "LEXTDEF") return { external: cursor.name(), type: cursor.index() };
   if (type === "PUBDEF" || type === "LPUBDEF") return { public: cursor.name(), offset: cursor.take(wide ? 4 : 2), type: cursor.index() };
   if (type === "COMDEF" || type === "LCOMDEF") {
     const places = { external: cursor.name(), type: cursor.index(), communal: cursor.take(1) };
-    if (cursor.bytes[places.communal[0]] === 0x61) return { ...places, count: cursor.communal(), size: cursor.communal() };
-    return { ...places, length: cursor.communal() };
+    const kind = cursor.bytes[places.communal[0]];
+    places.kind = places.communal;
+    if (kind === 0x61) return { ...places, count: cursor.communal(), size: cursor.communal() };
+    return kind === 0x62 || kind > 0 && kind < 0x60 ? { ...places, length: cursor.communal() } : places;
   }
   if (type === "COMENT") { const index = cursor.index(); return { external: index, default: index }; }
   if (type === "LINNUM" || type === "LINSYM") return { line: cursor.take(2), offset: cursor.take(wide ? 4 : 2) };
@@ -68,7 +79,7 @@ function itemPlaces(type, cursor, wide, data) {
   if (type === "TYPDEF") return leafPlaces(cursor);
   if (type === "CEXTDEF") return { name: cursor.index(), type: cursor.index() };
   if (type === "BAKPAT" || type === "NBKPAT") return { offset: cursor.take(wide ? 4 : 2), value: cursor.take(wide ? 4 : 2) };
-  if (type === "LIDATA") return blockPlaces(cursor, wide);
+  if (type === "LIDATA" || type === "COMDAT") return blockPlaces(cursor, wide);
   if (type === "FIXUPP") return subrecordPlaces(cursor, wide, data);
   if (type === "MODEND") return referencePlaces(cursor, wide);
   return {};
@@ -81,7 +92,7 @@ function comdatPlaces(cursor, wide, end) {
   if ((cursor.bytes[attributes[0]] & 0x0F) === 0) {
     places.group = cursor.index();
     places.segment = cursor.index();
-    if (cursor.bytes[places.segment[0]] === 0) places.frame = cursor.take(2);
+    if (cursor.isZero(places.segment)) places.frame = cursor.take(2);
   }
   places.public = cursor.index();
   return { ...places, data: [cursor.at, end - 1] };
@@ -99,15 +110,15 @@ function recordPlaces(type, cursor, wide, end) {
   } else if (type === "SEGDEF") {
     const attributes = cursor.take(1);
     places.segment = contents;
-    places.align = places.combine = places.use = places.big = attributes;
+    places.attributes = places.align = places.combine = places.use = places.big = attributes;
     if (cursor.bytes[attributes[0]] >> 5 === 0) { places.frame = cursor.take(2); places.offset = cursor.take(1); }
     places.length = cursor.take(wide ? 4 : 2);
     places.name = cursor.index(); places.class = cursor.index(); places.overlay = cursor.index();
   } else if (type === "GRPDEF") { places.group = contents; places.name = cursor.index(); }
   else if (type === "PUBDEF" || type === "LPUBDEF") {
     places.group = cursor.index();
-    const segment = places.segment = cursor.index();
-    if (segment[1] - segment[0] === 1 && cursor.bytes[segment[0]] === 0) places.frame = cursor.take(2);
+    places.segment = cursor.index();
+    if (cursor.isZero(places.segment)) places.frame = cursor.take(2);
   } else if (type === "LEDATA" || type === "LIDATA") {
     places.segment = cursor.index();
     places.offset = cursor.take(wide ? 4 : 2);
@@ -120,6 +131,7 @@ function recordPlaces(type, cursor, wide, end) {
   else if (type === "BAKPAT") { places.segment = cursor.index(); places.location = cursor.take(1); }
   else if (type === "NBKPAT") { places.location = cursor.take(1); places.public = cursor.index(); }
   else if (type === "VENDEXT") { places.vendor = cursor.take(2); places.data = [cursor.at, end - 1]; }
+  else if (type === "library") { places.dictionary = cursor.take(4); places.blocks = cursor.take(2); places.flags = cursor.take(1); }
   else if (type === "MODEND") places.flags = places.main = places["has-start"] = cursor.take(1);
   else places.data = places.length = contents;
   return places;
@@ -147,10 +159,11 @@ function shownValue(key, value, type, wide, isOfItem) {
     if (["data", "bytes", "left"].includes(key)) return value.replace(/..(?=.)/g, "$& ");
     return QUOTED.has(key) && !(key === "meaning" && type === "COMENT") ? shownName(value) : value;
   }
-  if (type === "COMENT" || key === "flags" || key === "EN" || key === "byte" || (key === "offset" && type === "SEGDEF")) return hex(value, 2) + "H";
+  if (type === "COMENT" || ["flags", "attributes", "component", "kind", "EN", "byte"].includes(key) || (key === "offset" && type === "SEGDEF")) return hex(value, 2) + "H";
   if ((key === "type" || key === "checksum") && !isOfItem) return hex(value, 2) + "H";
   if (["offset", "at", "displacement", "length", "value"].includes(key)) return hex(value, digits) + "H";
-  if (["frame", "count", "size", "bits", "elements"].includes(key)) return hex(value, 4) + "H";
+  if (key === "dictionary") return hex(value, 8) + "H";
+  if (["frame", "frame-number", "target-number", "count", "size", "bits", "elements"].includes(key)) return hex(value, 4) + "H";
   return String(value);
 }
 
@@ -182,19 +195,20 @@ function fieldRows(bytes, from, to, type, shown, dataAt) {
   const wide = (bytes[from] & 1) === 1, cursor = new Cursor(bytes, from + 3), rows = [], places = recordPlaces(type, cursor, wide, to);
   places.type = [from, from + 1];
   places.checksum = [to - 1, to];
+  const left = value => [to - 1 - value.length / 2, to - 1];
   for (const [key, value] of Object.entries(shown)) {
     if (FRAME.has(key)) continue;
-    const [first, end] = places[key] || [from, to];
+    const [first, end] = key === "left" ? left(value) : places[key] || [from, to];
     const cut = key === "data" && shown["left-out"] ? " .." : "";
-    rows.push({ level: 2, key, value: shownValue(key, value, type, wide) + cut, from: first, to: end });
+    rows.push({ level: 2, key, value: shownValue(key, value, type, wide) + cut, from: Math.min(first, end), to: end });
   }
   for (const item of shown.items || []) {
     cursor.at = from + item.within;
     const inside = itemPlaces(type, cursor, wide, dataAt), children = [];
-    cursor.at = Math.min(cursor.at, to - 1);
+    cursor.at = "left" in item || item.cut ? to - 1 : Math.min(cursor.at, to - 1);
     for (const [key, value] of Object.entries(item)) {
       if (key === "within") continue;
-      let [first, end] = inside[key] || [from + item.within, cursor.at];
+      let [first, end] = key === "left" ? left(value) : inside[key] || [from + item.within, cursor.at];
       if (key === "before" || key === "after") continue;
       if (key === "bytes" && type === "FIXUPP") end = first + (value.length / 2 || 0);
       children.push({ level: 3, key, value: shownValue(key, value, type, wide, true), from: first, to: end });

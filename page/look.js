@@ -33,9 +33,11 @@ class Look {
   dataRecord(record) {
     for (let i = record - 1; i >= 0; i--) {
       const type = this.typeOf(i);
-      if (type === "LIDATA") return null;
+      const from = this.records[i];
+      if (type === "LIDATA" || (type === "COMDAT" && this.bytes[from + 3] & 2)) return null;
+      if (type === "COMDAT") return { record: i, at: comdatPlaces(new Cursor(this.bytes, from + 3), this.bytes[from] & 1, this.records[i + 1]).data[0] };
       if (type !== "LEDATA") continue;
-      const from = this.records[i], index = this.bytes[from + 3] & 0x80 ? 2 : 1;
+      const index = this.bytes[from + 3] & 0x80 ? 2 : 1;
       return { record: i, at: from + 3 + index + (this.bytes[from] & 1 ? 4 : 2) };
     }
     return null;
