@@ -59,6 +59,7 @@ class Page {
     $("examples-list").append(element("option", { value: "" }, "choose .."), ...groups.values());
     $("examples-list").addEventListener("change", event => { if (event.target.value) this.example(+event.target.value); });
     $("fault-button").addEventListener("click", () => this.toFault());
+    $("next-button").addEventListener("click", () => this.nextModule());
     document.addEventListener("keydown", event => this.key(event));
   }
 
@@ -134,8 +135,8 @@ class Page {
     return this.openModule(`${shown} in ${this.opened.name}`, `${file}.${shown.slice(1, -1).replace(/[\\/]/g, "_")}`, bytes.slice(start, start + size));
   }
 
-  // One module.
-  async openModule(name, file, bytes, placement) {
+  // One module; `whole` is the name of its file, where others are before it.
+  async openModule(name, file, bytes, placement, whole) {
     this.engine.renew();
     const turn = this.turn = Symbol(name), isOld = () => turn !== this.turn;
     document.documentElement.dataset.state = "busy";
@@ -144,7 +145,7 @@ class Page {
     return this.attempt(name, isOld, async () => {
       const { verdict, records } = await this.engine.ask("judge", { bytes });
       if (isOld()) return;
-      this.look = new Look(name, file, bytes, verdict, records);
+      this.look = Object.assign(new Look(name, file, bytes, verdict, records), { whole });
       this.showVerdict();
       const dump = await this.engine.ask("dump", { records, isWhole: verdict.ok });
       if (isOld()) return;
@@ -152,6 +153,12 @@ class Page {
       if (verdict.ok) await this.place(placement, isOld);
       if (!isOld()) document.documentElement.dataset.state = "done";
     });
+  }
+
+  // The module after this one in its file.
+  nextModule() {
+    const { look } = this, { offset, name = "" } = look.dump.next, whole = look.whole || look.name;
+    return this.openModule(`${shownName(name)} in ${whole}`, look.file, look.bytes.slice(offset), undefined, whole);
   }
 
   // Does what needs the programs, and says so where it fails.
@@ -173,7 +180,7 @@ class Page {
     this.look = null;
     for (const part of [this.tree, this.search, this.hex, this.picture, this.placing, this.compare]) part.clear();
     $("advice").replaceChildren();
-    for (const id of ["reading", "placing", "fault-button"]) $(id).hidden = true;
+    for (const id of ["reading", "placing", "fault-button", "next-button"]) $(id).hidden = true;
   }
 
   showVerdict() {
@@ -197,6 +204,8 @@ class Page {
     look.setRecords(dump.records);
     this.hex.count();
     this.tree.set(look);
+    $("next-button").hidden = !dump.next;
+    if (dump.next) $("next-button").textContent = `Open the next module of the file, ${shownName(dump.next.name || "")}`;
     if (verdict.ok || !verdict.reason) return;
     const last = dump.starts.length - 2;
     const isEmpty = this.library.isGood && !this.library.members.length;   // a good library without a member is no fault

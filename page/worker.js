@@ -122,10 +122,12 @@ function verdictOf(bytes) {
   return { isGood: verdict.ok, words: verdict.ok ? `well-formed: ${count(verdict.records, "record")}` : verdict.line };
 }
 
-// The lines of the records of a file's first module: before a line of a further module, or of bytes that are left.
+// The lines of the records of a file's first module, before a line of a further module or of bytes that are left; and that of the next module, or null.
 function ownLines(text, starts) {
   const other = starts.findIndex(at => /^\{"(module|left)":/.test(textOf(text.subarray(at, at + 10))));
-  return other < 0 ? starts : starts.slice(0, other + 1);
+  if (other < 0) return { starts, next: null };
+  const line = lineAt(text, starts, other);
+  return { starts: starts.slice(0, other + 1), next: "module" in line ? line : null };
 }
 
 // The records of a dump: those after the one at fault are there too, as many as it has lines.
@@ -193,9 +195,9 @@ const jobs = {
   },
   dump({ records, isWhole }) {
     const answer = run("omf_dump", ["--json", "--data", "16"], [current.bytes]);
-    const starts = ownLines(answer.output, lineStarts(answer.output));
+    const { starts, next } = ownLines(answer.output, lineStarts(answer.output));
     const seen = isWhole ? outline(answer.output, starts, current.bytes, records) : null;
-    return { status: answer.status, trap: answer.trap, text: answer.output, starts, seen, records: isWhole ? records : recordsOf(records, starts.length - 1, current.bytes) };
+    return { status: answer.status, trap: answer.trap, text: answer.output, starts, next, seen, records: isWhole ? records : recordsOf(records, starts.length - 1, current.bytes) };
   },
   verdict({ bytes }) { return verdictOf(bytes); },
   library({ bytes }) { return { list: said(run("omf_lib", ["list", "-"], [bytes])), check: said(run("omf_lib", ["check", "-"], [bytes])) }; },

@@ -170,6 +170,8 @@ def module(tab, tries, name, data):
     """A module: its words, its sentence, its tree."""
     tries.see(f"{name}: the page is done", tab.value(STATE), "done")
     no_wrong_words(tab, tries, name, data)
+    further = any(it.startswith(b'{"module":1,') for it in printed("omf_dump", ["--json"], data).splitlines())
+    tries.see(f"{name}: a button for the next module", tab.value("!document.getElementById('next-button').hidden"), further)
     line = printed("omf", ["check"], data).decode().split()
     (accepted if line[0] == "OK" else refused)(tab, tries, name, data, line)
 
