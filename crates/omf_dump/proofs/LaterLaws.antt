@@ -1,11 +1,10 @@
 -- The records after a record at fault, one after another.
 use Rattle.std.proofs.Common.{◌≡◌, ℕ, zero, suc, ◌+◌, ◌-◌, ◌*◌, ◌<◌, ◌≤◌, List, [], ◌∷◌, ◌++◌, length, drop, Bool, true, false, cond, refl, sym, ap, ap₂, ◌∙◌, arith, append_assoc, length-drop}
-use Rattle.std.specs.Prelude.{nat_le, is_some, ◌&&◌}
+use Rattle.std.specs.Prelude.{nat_le, ◌&&◌}
 use Rattle.std.proofs.lemmas.Bool.{leb-true}
 use Rattle.omf_frame.specs.Framing.{after_front, is_end, is_whole, record_len, stated_length}
-use Rattle.omf_frame.specs.Types.{type_of}
 use Rattle.omf_dump.specs.Inner.Later.{following}
-use Rattle.omf_dump.specs.Later.{front_kind, goes_on, is_listed, kept_record, later_from, later_text, lost_by, unjudged_text}
+use Rattle.omf_dump.specs.Later.{front_kind, goes_on, kept_record, later_from, later_text, lost_by, unjudged_text}
 use Rattle.omf_dump.specs.Known.{tables}
 use Rattle.omf_dump.specs.Library.{after_member}
 use Rattle.omf_dump.specs.declared.format.Style.{Style}
@@ -27,10 +26,6 @@ pub by_false : {A : Type 0} (b : Bool) (x y : A) → b ≡ false → cond b x y 
 by_false true x y e = absurd cc
 by_false false x y e = refl
 
-both : (a b : Bool) → (a && b) ≡ true → b ≡ true
-both true b e = e
-both false b e = absurd cc
-
 -- bytes that belong to the record before
 skipped : (f : Style) (before : List Rec) (lost : Lost) (number start n : ℕ) (bytes : List ℕ) → later_from f before lost number start n bytes ≡ later_from f before lost number (start + n) 0 (drop n bytes)
 skipped f before lost number start zero bytes = let e : start ≡ start + 0 = omega arith in ap (λ (s : ℕ). later_from f before lost number s 0 bytes) e
@@ -40,15 +35,6 @@ skipped f before lost number start (suc n) (b ∷ bytes) =
     skipped f before lost number (start + 1) n bytes ∙ ap (λ (s : ℕ). later_from f before lost number s 0 (drop n bytes)) e
 
 -- a whole record fits
-pub listed_fits : (bytes : List ℕ) → is_listed bytes ≡ true → 3 + stated_length bytes ≤ length bytes
-listed_fits [] e = absurd cc
-listed_fits (t ∷ []) e = let w = both (is_some (type_of t)) false e in absurd cc
-listed_fits (t ∷ lo ∷ []) e = let w = both (is_some (type_of t)) false e in absurd cc
-listed_fits (t ∷ lo ∷ hi ∷ rest) e =
-    let w = both (is_some (type_of t)) (nat_le (lo + 256 * hi) (length rest)) e in
-    let fits = leb-true (lo + 256 * hi) (length rest) w in
-    omega (arith, fits)
-
 pub whole_fits : (bytes : List ℕ) → is_whole bytes ≡ true → 3 + stated_length bytes ≤ length bytes
 whole_fits [] e = absurd cc
 whole_fits (t ∷ []) e = absurd cc
@@ -74,12 +60,12 @@ following_len : (b : Bool) (rest : List ℕ) → length (cond b [] rest) ≤ len
 following_len true rest = omega arith
 following_len false rest = omega arith
 
-pub following_fits : (bytes : List ℕ) → is_listed bytes ≡ true → length (following bytes) + (3 + stated_length bytes) ≤ length bytes
+pub following_fits : (bytes : List ℕ) → is_whole bytes ≡ true → length (following bytes) + (3 + stated_length bytes) ≤ length bytes
 following_fits [] e = absurd cc
-following_fits (t ∷ []) e = let w = both (is_some (type_of t)) false e in absurd cc
-following_fits (t ∷ lo ∷ []) e = let w = both (is_some (type_of t)) false e in absurd cc
+following_fits (t ∷ []) e = absurd cc
+following_fits (t ∷ lo ∷ []) e = absurd cc
 following_fits (t ∷ lo ∷ hi ∷ rest) e =
-    let fits = listed_fits (t ∷ lo ∷ hi ∷ rest) e in
+    let fits = whole_fits (t ∷ lo ∷ hi ∷ rest) e in
     let most = following_len (is_end t) (drop (lo + 256 * hi) rest) in
     let left = length-drop (lo + 256 * hi) rest in
     omega (arith, fits, most, left)
@@ -90,12 +76,12 @@ ended f before lost number start true more rest e = refl
 ended f before lost number start false more rest e = e
 
 -- a record, and those that follow it
-pub next_later : (f : Style) (before : List Rec) (lost : Lost) (number start : ℕ) (bytes : List ℕ) → is_listed bytes ≡ true
+pub next_later : (f : Style) (before : List Rec) (lost : Lost) (number start : ℕ) (bytes : List ℕ) → is_whole bytes ≡ true
     → later_from f before lost number start 0 bytes
     ≡ unjudged_text f before lost number start bytes ++ later_from f (before ++ kept_record (tables before) lost bytes ∷ []) (lost_by (tables before) lost bytes) (number + 1) (start + (3 + stated_length bytes)) 0 (following bytes)
 next_later f before lost number start [] e = absurd cc
-next_later f before lost number start (t ∷ []) e = let w = both (is_some (type_of t)) false e in absurd cc
-next_later f before lost number start (t ∷ lo ∷ []) e = let w = both (is_some (type_of t)) false e in absurd cc
+next_later f before lost number start (t ∷ []) e = absurd cc
+next_later f before lost number start (t ∷ lo ∷ []) e = absurd cc
 next_later f before lost number start (t ∷ lo ∷ hi ∷ rest) e =
     let k : ℕ = lo + 256 * hi in
     let all : List ℕ = t ∷ lo ∷ hi ∷ rest in
@@ -107,13 +93,13 @@ next_later f before lost number start (t ∷ lo ∷ hi ∷ rest) e =
     ap (λ (n : ℕ). later_from f kept gone (number + 1) (start + 1) n (lo ∷ hi ∷ rest)) size
     ∙ skipped f kept gone (number + 1) (start + 1 + 1 + 1) k rest
     ∙ ap (λ (s : ℕ). later_from f kept gone (number + 1) s 0 (drop k rest)) at in
-    by_true (is_listed all) _ [] e
+    by_true (is_whole all) _ [] e
     ∙ ap (λ (x : List ℕ). unjudged_text f before lost number start all ++ x) (ended f kept gone (number + 1) (start + (3 + k)) (is_end t) _ (drop k rest) more)
 
 -- no record follows
-pub none_later : (f : Style) (before : List Rec) (lost : Lost) (number start : ℕ) (bytes : List ℕ) → is_listed bytes ≡ false → later_from f before lost number start 0 bytes ≡ []
+pub none_later : (f : Style) (before : List Rec) (lost : Lost) (number start : ℕ) (bytes : List ℕ) → is_whole bytes ≡ false → later_from f before lost number start 0 bytes ≡ []
 none_later f before lost number start [] e = refl
-none_later f before lost number start (t ∷ bytes) e = by_false (is_listed (t ∷ bytes)) _ [] e
+none_later f before lost number start (t ∷ bytes) e = by_false (is_whole (t ∷ bytes)) _ [] e
 
 -- ---- the text of these records goes out in pieces
 

@@ -24,11 +24,6 @@ abbrev pub front_kind : List ℕ → ℕ
 front_kind [] = 0
 front_kind (kind ∷ _) = kind
 
--- A whole record of a known type is at the front.
-abbrev pub is_listed : List ℕ → Bool
-is_listed [] = false
-is_listed (kind ∷ bytes) = is_some (type_of kind) && is_whole (kind ∷ bytes)
-
 -- What is not known after records that are not read: entries of tables, threads.
 abbrev pub none_lost : Lost
 none_lost = record { names = false; segments = false; groups = false; externals = false; threads = false }
@@ -148,13 +143,12 @@ unjudged_body style before lost bytes = shown_text style (shown (tables before) 
 abbrev pub unjudged_text : Style → List Rec → Lost → ℕ → ℕ → List ℕ → List ℕ
 unjudged_text style before lost number start bytes = unjudged_head style.format number start bytes ++ (unjudged_body style before lost bytes ++ record_end style.format)
 
--- The records from an offset on, as far as they are whole and of known types, up to the first MODEND. The first `skipped` bytes are those of
--- the record before.
+-- The records from an offset on, as far as they are whole, up to the first MODEND. The first `skipped` bytes are those of the record before.
 abbrev pub later_from : Style → List Rec → Lost → ℕ → ℕ → ℕ → List ℕ → List ℕ
 later_from f before lost number start skipped [] = []
 later_from f before lost number start (suc skipped) (b ∷ bytes) = later_from f before lost number (start + 1) skipped bytes
 later_from f before lost number start zero (kind ∷ bytes) =
-    if is_listed (kind ∷ bytes) then
+    if is_whole (kind ∷ bytes) then
     unjudged_text f before lost number start (kind ∷ bytes)
     ++ (if is_end kind then []
     else later_from f (before ++ kept_record (tables before) lost (kind ∷ bytes) ∷ []) (lost_by (tables before) lost (kind ∷ bytes)) (number + 1) (start + 1) (record_len (kind ∷ bytes) - 1) bytes)

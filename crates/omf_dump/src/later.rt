@@ -9,7 +9,7 @@ ghost use Rattle.omf_records.specs.Values.{Carried, Rec};
 ghost use Rattle.omf_dump.specs.Inner.Later.{following, unjudged_shown};
 ghost use Rattle.omf_dump.specs.Inner.Showing.{Keeps, shown_by};
 ghost use Rattle.omf_dump.specs.Inner.Walking.{Holds, Passes};
-ghost use Rattle.omf_dump.specs.Later.{body_of, checksum_at, checksum_if, front_kind, given, given_if, goes_on, has_data_if, is_listed, is_lost_if, is_plain, kept_contents, kept_record, later_from, later_text, lose_if, lost_after, lost_by, lost_with, none_lost, stand_in, unjudged_body, unjudged_head, unjudged_text, unread_contents, unread_lost};
+ghost use Rattle.omf_dump.specs.Later.{body_of, checksum_at, checksum_if, front_kind, given, given_if, goes_on, has_data_if, is_lost_if, is_plain, kept_contents, kept_record, later_from, later_text, lose_if, lost_after, lost_by, lost_with, none_lost, stand_in, unjudged_body, unjudged_head, unjudged_text, unread_contents, unread_lost};
 ghost use Rattle.omf_dump.specs.Known.{tables};
 ghost use Rattle.omf_dump.specs.Library.{after_member};
 ghost use Rattle.omf_dump.specs.Raw.{raw_shown};
@@ -55,16 +55,6 @@ fn is_end(kind: u8) -> bool
     ensures { result ≡ is_end kind }
 {
     matches!(kind, 0x8A | 0x8B)
-}
-
-/// Whether a whole record of a known type is at the front.
-fn is_listed(bytes: &[u8]) -> bool
-    ensures { result ≡ is_listed bytes.now }
-{
-    match bytes {
-        [] => false,
-        [kind, ..] => RecordType::of(*kind).is_some() && is_whole(bytes),
-    }
 }
 
 /// The type byte of the record at the front.
@@ -406,8 +396,8 @@ pub(crate) fn put_unjudged<'a>(
     close_record(text, style.format)
 }
 
-/// Writes the records from an offset on, as far as they are whole and of known types, up to the first MODEND. The end of it is left in `text`.
-#[tactic(auto, using(crate::proofs::LaterLaws::listed_fits, crate::proofs::LaterLaws::following_fits))]
+/// Writes the records from an offset on, as far as they are whole, up to the first MODEND. The end of it is left in `text`.
+#[tactic(auto, using(crate::proofs::LaterLaws::whole_fits, crate::proofs::LaterLaws::following_fits))]
 fn put_from<'a, K: Sink>(
     writer: &mut K,
     text: &mut Vec<u8>,
@@ -422,7 +412,7 @@ fn put_from<'a, K: Sink>(
     let mut number = rest.number;
     let mut start = rest.start;
     let mut left = rest.bytes;
-    while is_listed(left) {
+    while is_whole(left) {
         let here = Rest {
             number,
             start,

@@ -2,7 +2,7 @@ use Rattle.std.proofs.Common.{◌≡◌, ℕ, List, [], ◌++◌, length, true, 
 use Rattle.std.proofs.KnownBytes.{Appends-nil}
 use Rattle.std.proofs.lemmas.List.{append-nil}
 use Rattle.std.proofs.lemmas.Result.{err_from_is_err_and}
-use Rattle.omf_dump.specs.Later.{is_listed}
+use Rattle.omf_frame.specs.Framing.{is_whole}
 use Rattle.omf_dump.proofs.LaterLaws.{following_fits, next_later, none_later, piece_failed, piece_sent, went_on}
 use Rattle.omf_dump.proofs.later.put_from.Goals as goal
 
@@ -19,16 +19,16 @@ returns-in_default g c = λ before h. let w = c.loop-left.invariant.streamed bef
 pub returns-in_err-send_piece : goal.returns-in_err-send_piece
 returns-in_err-send_piece g c = λ before h.
     let w = c.loop-left.invariant.streamed before h in
-    let listed : is_listed c.loop-left.left.now ≡ true = cc in
-    let step = next_later c.args.style w.before c.loop-left.state.lost c.loop-left.number c.loop-left.start c.loop-left.left.now listed in
+    let whole_here : is_whole c.loop-left.left.now ≡ true = cc in
+    let step = next_later c.args.style w.before c.loop-left.state.lost c.loop-left.number c.loop-left.start c.loop-left.left.now whole_here in
     let whole = went_on w.sent.front c.loop-left.text.items _ _ _ c.put_unjudged.new.text.items _ w.sent.whole step (c.in-Ok.ensures.text w.before w.holds) in
     let p = err_from_is_err_and c.from_residual.result c.from_residual.ensures.1 in
     rw p.1 (piece_failed _ _ _ _ w.sent.front c.put_unjudged.new.text.items _ whole w.sent.written c.in_err-send_piece.ensures)
 
 pub loop-left-preserved : goal.loop-left-preserved
 loop-left-preserved g c =
-    let listed : is_listed c.loop-left.left.now ≡ true = cc in
-    let fits = following_fits c.loop-left.left.now listed in
+    let whole_here : is_whole c.loop-left.left.now ≡ true = cc in
+    let fits = following_fits c.loop-left.left.now whole_here in
     let after = ap length c.following-left.ensures in
     let size = c.stated_length.ensures.value in
     let count = c.loop-left.invariant.count in
@@ -36,7 +36,7 @@ loop-left-preserved g c =
     record {
       streamed = λ before h.
           let w = c.loop-left.invariant.streamed before h in
-          let step = next_later c.args.style w.before c.loop-left.state.lost c.loop-left.number c.loop-left.start c.loop-left.left.now listed in
+          let step = next_later c.args.style w.before c.loop-left.state.lost c.loop-left.number c.loop-left.start c.loop-left.left.now whole_here in
           let whole = went_on w.sent.front c.loop-left.text.items _ _ _ c.put_unjudged.new.text.items _ w.sent.whole step (c.in-Ok.ensures.text w.before w.holds) in
           rw (c.in-Ok.ensures.lost, w.holds.tables, c.following-left.ensures, size) (record {
             before = _;
@@ -50,7 +50,7 @@ loop-left-preserved g c =
 pub returns : goal.returns
 returns g c = λ before h.
     let w = c.loop-left.invariant.streamed before h in
-    let none : is_listed c.loop-left.left.now ≡ false = cc in
+    let none : is_whole c.loop-left.left.now ≡ false = cc in
     let front = w.sent.front in
     record {
       front = front;
