@@ -70,7 +70,7 @@ def faults():
     for number, name, means, cause in re.findall(r"^\| (\d+) \| (\w+) \| (.*?) \| (.*?) \|$", text, re.M):
         todo = todo if cause == "the same" else plain(cause)
         found[number] = {"name": name, "means": plain(means), "todo": todo}
-    missing = [n for n in range(1, 22) if str(n) not in found]
+    missing = [n for n in range(1, 23) if str(n) not in found and n != 20]   # 20 is no fault any more
     assert not missing, f"docs/LIBRARIES.md has no row for {missing}"
     return found
 
