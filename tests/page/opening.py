@@ -120,9 +120,11 @@ def refused(tab, tries, name, data, line):
     tries.see(f"{name}: the record at fault is chosen", tab.value("page.tree.rowAt(page.tree.at).record"), record)
     tries.see(f"{name}: records of the tree", tab.value("page.look.dump.starts.length - 1"), len(lines))
     own = re.split("^module ", printed("omf_dump", [], data).decode(), flags=re.M)[0]
-    after = [it.split()[:4] for it in own.splitlines() if "  unjudged" in it and int(it.split()[0]) > record]
+    # Number, offset, type byte, and the type's name if it is known.
+    head = lambda it: [word for word in it.split()[:4] if word not in ("checksum", "unjudged")]
+    after = [head(it) for it in own.splitlines() if "  unjudged" in it and int(it.split()[0]) > record]
     rows = tab.value("[...page.look.records.keys()].slice(0, -1).filter(it => page.look.isUnjudged(it)).map(it => page.tree.make(page.tree.indexOf(it)).textContent)")
-    tries.see(f"{name}: records after the fault", [it.lstrip("▸▾").split()[:4] for it in rows], after)
+    tries.see(f"{name}: records after the fault", [head(it.lstrip("▸▾")) for it in rows], after)
 
 
 def shown_name(name):
