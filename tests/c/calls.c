@@ -188,7 +188,7 @@ static const struct {
 static void reason_calls(void) {
     static const char sentence[] = "the input ends inside a record", line[] = "refused 2 Cut record 4 at 34 within 2";
     const struct omf_answer cut = omf_check(first, 36, false), done = omf_check(first, sizeof first, false);
-    const struct omf_answer room = {.status = OMF_ROOM, .size = 5};
+    const struct omf_answer room = {.status = OMF_ROOM, .size = 5}, no_segment = {.status = OMF_REACH, .reason = OMF_ABSOLUTE, .index = 65536};
     if (omf_version() != OMF_VERSION_NUMBER) {
         printf("version: %u\n", omf_version());
         failures++;
@@ -202,6 +202,7 @@ static void reason_calls(void) {
     expect("no sentence", omf_reason_sentence(34, NULL, 0), (struct omf_answer){.size = 0});
     expect("no fault", omf_fault_line(&done, NULL, 0), (struct omf_answer){.size = 0});
     expect("no room is no fault", omf_fault_line(&room, NULL, 0), (struct omf_answer){.size = 0});
+    expect("no such segment", omf_fault_line(&no_segment, NULL, 0), (struct omf_answer){.size = 0});
     AT_EACH_REFUSAL("line: memory", (struct omf_answer){.size = sizeof line - 1}, omf_fault_line(&cut, out, sizeof out));
 }
 

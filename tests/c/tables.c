@@ -352,6 +352,22 @@ static void starts(void) {
     if (n < 3 || !has(is, OMF_DONE, 1)) fail("start", "refused allocations, by arrays");
 }
 
+/* The image of an LIDATA and an LEDATA, and a start by an external: 7 bytes after 10030H, in the frame 1000H. */
+static void repeats(void) {
+    static const struct omf_place segment[] = {{0x10020, 0x10000, 0x1000, 0}}, external[] = {{0x10030, 0x10000, 0x1000, 0}};
+    static const struct omf_run wanted_runs[] = {{3, 1, 4}, {6, 1, 8}};
+    static const uint8_t wanted[] = {0x11, 0x22, 0x33, 0xAA, 0xBB, 0xAA, 0xBB, 0xAA, 0xBB};
+    static const struct omf_placement given = {segment, 1, NULL, 0, external, 1};
+    struct omf_run runs[2];
+    uint8_t out[9];
+    struct omf_start start[1];
+    memset(start, 7, sizeof start);
+    const struct omf_answer is = omf_image_at(parts, sizeof parts, &given, false, runs, 2, out, 9);
+    if (is.status != OMF_DONE || is.size != 9 || is.record_count != 2) fail("repeats", "another answer");
+    if (memcmp(runs, wanted_runs, sizeof runs) != 0 || memcmp(out, wanted, sizeof out) != 0) fail("repeats", "other bytes");
+    if (!has(omf_start_at(parts, sizeof parts, &given, false, start, 1), OMF_DONE, 1) || start[0].selector != 0x1000 || start[0].offset != 0x37) fail("repeats", "another start");
+}
+
 /* A library with pages of 16 bytes and a dictionary of one block: hello.c with the public _hello from 16 on, gets.asm with _gets and _getc from
  * 64 on. */
 static const uint8_t members_of_library[] = {
@@ -639,6 +655,7 @@ int main(void) {
     start_reference();
     no_start_reference();
     starts();
+    repeats();
     segments();
     groups();
     members();

@@ -17,15 +17,11 @@ mod programs;
 mod reasons;
 mod records;
 mod row_calls;
-#[cfg(test)]
-mod row_tests;
 mod rows;
 mod runs;
 mod starts;
 mod table;
 mod tables;
-#[cfg(test)]
-mod tests;
 mod texts;
 
 pub use answer::Answer;
