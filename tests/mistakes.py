@@ -29,6 +29,10 @@ TEXTS = {
 SAY = (ROOT / "examples/link/say.obj").read_bytes()
 TEXTS |= {"twice.obj": SAY + bytes(3) + SAY, "second.obj": SAY + (ROOT / "examples/reasons/06-Checksum.omf").read_bytes(), "tail.obj": SAY + b"\x1A\x1Aend"}
 
+# A module with padding, and what is neither a module nor padding after one, in files whose names are not plain; a file of a record, and an empty one.
+MARK = (ROOT / "examples/link/mark.obj").read_bytes()
+TEXTS |= {"padded.obj": MARK + b"\x1A\x1A", "b\x1b[2J": MARK + b"\0\0MZ", "text.obj": MARK + b";\n", "old lib": b"\xF0\x0D\0", "empty.obj": b""}
+
 # A .COM file by itself: int 20H at 100H, which is its start.
 TEXTS["tiny.obj"] = bytes.fromhex("80030001413B 96040000015400 98070028020102010100 A00600010001CD2000 8A0700C1000101000100")
 
@@ -104,7 +108,7 @@ SAME = [
     ["omf-link com -o - --stack 8 --allow twice --library-path b tiny.obj", "omf-link com --allow twice tiny.obj --stack 8 -o - --library-path b"],
     ["omf-link bin --base 0 --size 10000 -t program.link start.obj say.obj mark.obj", "omf-link bin --base 0 --size 64K -t program.link start.obj say.obj mark.obj"],
     ["omf-link exe --stack 4096 -o - main.obj show.obj report.obj", "omf-link exe --stack 4K -o - main.obj show.obj report.obj", "omf-link exe --stack 0x1000 -o - main.obj show.obj report.obj", "omf-link exe --stack=4096 -o - main.obj show.obj report.obj"],
-    ["omf-link image -t program.link start.obj say.obj mark.obj", "omf-link image -t program.link start say mark", "omf-link image -t program.link ./start say.obj mark"],
+    ["omf-link image -t program.link start.obj say.obj mark.obj", "omf-link image -t program.link start say mark", "omf-link image -t program.link ./start say.obj mark", "omf-link image -t program.link start.obj say.obj padded.obj"],
     ["omf-link draft start.obj mark.obj", "omf-link draft start mark"], ["omf-link lower -o - mark.obj", "omf-link lower -o - mark"], ["omf-place hello.obj", "omf-place hello"],
     ["omf-link map -t plain.link start.obj", "omf-link map -t mark.link start.obj", "omf-link map -t marked.link start.obj", "omf-link map -t=plain.link start.obj"],
     ["omf-place --base 7C00 first.omf", "omf-place --base 0x7C00 first.omf", "omf-place --base 7C00H first.omf"],
