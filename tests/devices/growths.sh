@@ -1,5 +1,6 @@
 #!/usr/bin/env bash
-# Refuses exactly one growth, each in turn, until a run meets none: of the tests that hold whichever growth is refused, and of the programs.
+# Refuses exactly one growth, each in turn, until a run meets none: of the tests that hold whichever growth is refused, and of the programs. Of `omf` it then
+# refuses that growth and all after it.
 #
 # usage: tests/devices/growths.sh [--all]
 #   It takes the programs that `rt ci` or `rt test` left in the crates: those of the tests, omf, omf-link, omf-place, omf-dump, omf-lib and
@@ -130,7 +131,7 @@ is_memory() {
 refuse_each_of_run() {
     local wanted=$1 input=$2 program=$3 name number status in_pieces
     shift 3
-    name="$(basename "$program") $* of $(basename "$input")"
+    name="$(basename "$program") $* of $(basename "$input")${REFUSE_ALL:+, and all after it}"
     if [ ! -x "$program" ]; then
         skips "$name"
         return
@@ -149,6 +150,12 @@ refuse_each_of_run() {
     done
     cmp -s "$here/out" "$here/wanted" || fails "$name: the run that meets no refusal"
     counts "$name" $((number - 1))
+}
+
+# refuse_all_from_each_of_run STATUS INPUT PROGRAM ARGUMENT..: the same for a run of which a growth and all that come after it are refused.
+refuse_all_from_each_of_run() {
+    local -x REFUSE_ALL=yes
+    refuse_each_of_run "$@"
 }
 
 # has_whole_members COUNT: whether the folder `taken` has that many files or fewer, each a member byte for byte.
@@ -245,18 +252,27 @@ input repeats "$header $names 98 07 00 28 0C 00 02 01 01 29
 input start "$header $names $segment 9A 04 00 02 FF 01 60 9C 03 00 46 01 1A 8A 06 00 C1 A0 01 02 00 0C" "$(
     printf 'S 10020 real\nG real')"
 
+group='9A 04 00 02 FF 01 60' external='8C 04 00 01 58 00 17' public='90 08 00 00 01 01 58 02 00 00 0C'
+input call "$header $names $segment A0 08 00 01 00 00 E8 00 00 90 DF 9C 06 00 84 01 04 01 01 D3 $end" "$placed"
+input framed "$header $names $segment $group 9C 03 00 46 01 1A 8A 06 00 C1 A0 01 02 00 0C" "$(printf '%s\nG 10010 1001' "$placed")"
+input long "$header $names $segment A0 09 00 80 01 00 00 B8 00 00 90 8E $fixup $end" "$placed"
+input local "$header CA 03 00 01 55 DD 98 07 00 28 04 00 01 00 00 34 B4 04 00 01 58 00 EF B5 04 00 01 59 00 ED
+    B8 08 00 01 5A 00 62 81 80 00 82 B6 08 00 00 01 01 50 02 00 00 EE B7 0A 00 00 01 01 51 02 00 00 00 00 EA
+    A0 08 00 01 00 00 EB 00 00 90 DC 9C 06 00 80 01 06 01 01 D5 $end" "$(printf '%s\nE 100A1 10000 1000\nE 0 0 0\nE 0 0 0' "$placed")"
+
 # refuse_each_on MODULE: the programs on a module.
 refuse_each_on() {
     local job
     for job in check list canon reloc; do
         refuse_each_of_run 0 "$1" "$omf" $job
+        refuse_all_from_each_of_run 0 "$1" "$omf" $job
     done
     refuse_each_of_run 0 "$1" "$place" --real
     refuse_each_of_run 0 "$1" "$dump"
     refuse_each_of_run 0 "$1" "$dump" --json
 }
 
-for module in offset threads jump flat repeats start; do
+for module in offset threads jump flat repeats start call framed long local; do
     apart refuse_each_on "$work/$module"
 done
 input empty '' ''
@@ -270,6 +286,24 @@ apart refuse_each_of_run 1 "$work/missing" "$omf" reloc
 for task in image map draft; do
     apart refuse_each_of_run 0 "$work/program" "$link" $task
 done
+
+# Two modules, of which the first has the offset of an external that the second defines; the same by the names of their segments and groups.
+input pair "$header $names $segment $external $data 9C 05 00 C4 01 56 01 43 $end $header $names $segment $public $end" "$(
+    printf 'M #1\nS #1 10020 10000 1000\nM #2\nS #1 10040 10000 1000\n')"
+input named "$header $names $segment $group $external $data 9C 05 00 C4 01 56 01 43 $end $header $names $segment $group $public $end" "$(
+    printf 'P "T" 10020 10000 1000 at 20000\nF "T" 10000 1000\n')"
+for module in pair named; do
+    for task in image map draft; do
+        apart refuse_each_of_run 0 "$work/$module" "$link" $task
+    done
+done
+
+# A module M with a group, two externals and a communal; a module N with local externals, and publics of their names.
+letters='96 08 00 00 01 41 01 42 01 43 00'
+input unlinked "80 03 00 01 4D 00 $letters 98 07 00 28 05 00 02 02 01 00 9A 04 00 03 FF 01 00 8C 07 00 01 58 00 01 59 00 00
+    B0 06 00 01 5A 00 62 07 00 $end 80 03 00 01 4E 00 $letters 98 07 00 28 04 00 02 02 01 00 B4 07 00 01 58 00 01 59 00 00
+    90 08 00 00 01 01 58 00 00 00 00 B6 08 00 00 01 01 59 00 00 00 00 $end" ''
+apart refuse_each_of_run 0 "$work/unlinked" "$link" draft --base 401000 --flat 8
 
 for task in list check; do
     apart refuse_each_of_run 0 "$root/examples/library/small.lib" "$lib" $task -
