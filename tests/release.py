@@ -122,6 +122,7 @@ def stages():
     yield Stage("full disk", ["tests/devices/disk.py"], "OMF_LIB OMF_LINK", "", 1800, r"killed (?:at each of )?(\d+) ")
     yield Stage("outputs", ["tests/devices/outputs.py"], "OMF_LIB OMF_LINK", "", 600, r"(\d+) runs")
     yield Stage("results", ["tests/devices/results.py"], " ".join(PROGRAMS), "", 600, r"^(\d+) results refused")
+    yield Stage("streams", ["tests/devices/streams.py"], "OMF OMF_LINK OMF_PLACE", "", 600, r"^(\d+) runs")
     yield Stage("mistakes", ["tests/mistakes.py"], "OMF_DUMP OMF_FIND OMF_LIB OMF_LINK OMF_PLACE", "", 600, r"^(\d+) mistakes told")
     yield Stage("searches", ["tests/searches.py"], "OMF_LINK", "", 600, r"^(\d+) searches")
     yield Stage("sandbox", ["tests/devices/sandbox.py"], " ".join(PROGRAMS), "bwrap", 600, r"^(\d+) runs in a sandbox")

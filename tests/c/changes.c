@@ -1,6 +1,6 @@
 /* Cuts modules to every length, and replaces each of their bytes by each other value: changes
  *
- * A module that is cut is refused: between two records for want of an end, in a record because that is cut. Of one with another byte the verdict is
+ * A module that is cut is refused: between two records it has no end, in a record it is cut. Of one with another byte the verdict is
  * a refusal or a module; its canonical bytes are their own, and have the same image and start, or the same cause why the placement does not reach. The same
  * is done with all checksum bytes 0, which are right whatever the sums: then the other bytes are judged. No call runs out of memory. */
 #include <omf.h>

@@ -1,4 +1,4 @@
-//! Tests of the programs and of the calls they make: failing devices, memory that runs out, modules that are cut and changed.
+//! Sample uses of the libraries, with contracts, and tests of calls that no program makes.
 #![tactic(auto)]
 
 #[cfg(test)]
