@@ -37,7 +37,7 @@ def text_of(field):
 
 
 def bytes_of(field):
-    """Bytes in hexadecimal; `XX*N` is N times a byte."""
+    """Bytes in hexadecimal; `BYTES*N` is N times these."""
     parts = (it.partition("*") for it in field.split())
     return b"".join(bytes.fromhex(digits) * int(times or 1) for digits, _, times in parts)
 
@@ -45,7 +45,7 @@ def bytes_of(field):
 def case_of(number, rule, line):
     name, call, records, text, status, printed = (it.strip() for it in line.split("|"))
     words = ["" if it == '""' else it for it in call.split(" ")]
-    wanted = bytes.fromhex(printed[4:]) if printed.startswith("hex ") else text_of(printed)
+    wanted = bytes_of(printed[4:]) if printed.startswith("hex ") else text_of(printed)
     return Case(number, rule, name, words, bytes_of(records) + text_of(text), int(status), wanted)
 
 

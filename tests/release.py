@@ -64,9 +64,13 @@ def conformance():
     right = r"^(\d+) right"
     run = ["conformance/run.py", "--seconds", "60"]
     yield Stage("conformance", [*run, f"omf={call['OMF']}", f"omf-link={call['OMF_LINK']}", f"omf-place={call['OMF_PLACE']}"], "OMF OMF_LINK OMF_PLACE", "", 1800, right)
-    yield Stage("conformance libraries", [*run, "--cases", "conformance/libraries", f"omf-lib={call['OMF_LIB']}"], "OMF_LIB", "", 600, right)
-    program = f"omf-link=conformance/adapters/program.py {call['OMF_LINK']} {{args}} -o {{exe}} {{files}}"
-    yield Stage("conformance programs", [*run, "--cases", "conformance/programs", program], "OMF_LINK", "", 600, right)
+    adapter = "conformance/adapters/program.py"
+    makes = f"omf-lib make={adapter} {call['OMF_LIB']} make -o {{exe}} {{files}}"
+    yield Stage("conformance libraries", [*run, "--cases", "conformance/libraries", f"omf-lib={call['OMF_LIB']}", makes], "OMF_LIB", "", 600, right)
+    links, finds = f"omf-link={adapter} {call['OMF_LINK']} {{args}} -o {{exe}} {{files}}", f"omf-find={adapter} {call['OMF_FIND']} {{args}}"
+    yield Stage("conformance programs", [*run, "--cases", "conformance/programs", links, finds], "OMF_LINK OMF_FIND", "", 600, right)
+    sizes = ["conformance/run.py", "--seconds", "300", "--cases", "conformance/sizes", f"omf={call['OMF']}", f"omf-link={call['OMF_LINK']}"]
+    yield Stage("conformance sizes", sizes, "OMF OMF_LINK", "", 1800, right)
 
 
 def peers():

@@ -328,6 +328,67 @@ else
     skips "omf_find"
 fi
 
+# Calls of the libraries. `lower` on a file of modules: with externals by name, backpatches, a comment of a vendor, a COMDAT and its backpatch.
+data_word='B2 07 00 01 01 01 00 34 12 FE' comdat='C2 0C 00 00 00 00 00 00 00 00 01 02 AA BB CA'
+input lowered.obj "$header $names BC 05 00 02 00 01 05 37 $end $header $names $segment $data $data_word $fixup $end
+    $header $names $segment $data B3 0B 00 01 02 00 00 00 00 FF FF FF FF 43 A0 06 00 01 02 00 05 00 52 $end 00 00
+    $header CE 05 00 01 00 AA BB C7 CA 03 00 01 55 DD BC 03 00 01 00 40 $end
+    $header $names $segment $comdat C8 07 00 01 02 00 00 02 01 2B $end" ''
+apart refuse_each_of_made "$link" lower -o made/x.obj "$work/lowered.obj"
+
+# Of the COMDATs of a name one is chosen; code that nothing reaches is left out, and a weak external has the place of its default.
+any='C2 0C 00 00 10 00 00 00 00 00 01 02 AA BB BA' start='8A 07 00 C1 00 01 01 00 00 00'
+input first.obj "$header $names $segment $any $start" ''
+input second.obj "$header $names $segment $any 9C 06 00 C4 00 04 01 01 94 $end" ''
+apart refuse_each_of_made "$link" exe --stack 16 -o made/x.exe "$work/first.obj" "$work/second.obj"
+classes='96 0E 00 00 01 54 04 43 4F 44 45 04 44 41 54 41 00' code='98 07 00 28 04 00 02 03 01 00' own='98 07 00 28 04 00 02 04 01 00'
+input unreached.obj "$header $classes $own $code 90 08 00 00 02 01 66 02 00 00 00 A0 06 00 02 00 00 00 00 00 9C 05 00 C4 00 54 02 00 $start" ''
+input weak.obj "$header $classes $own 8C 07 00 01 66 00 01 67 00 00 88 05 00 00 A8 01 02 00 A0 06 00 01 00 00 00 00 00 9C 05 00 C4 00 56 01 00 $start" ''
+input default.obj "$header $classes $code $code 90 08 00 00 02 01 67 00 00 00 FE A0 06 00 02 00 00 00 00 00 $end" ''
+apart refuse_each_of_made "$link" exe --eliminate --stack 16 -o made/x.exe "$work/unreached.obj"
+apart refuse_each_of_made "$link" exe --eliminate --stack 16 -o made/x.exe "$work/weak.obj" "$work/default.obj"
+
+# Pieces of data that are laid in other orders, of which the last joins the others; each has the bytes of the system's smallest block.
+as=$(printf '41%.0s' {1..24}) bs=$(printf '42%.0s' {1..24}) cs=$(printf '43%.0s' {1..24})
+input pieces "$header $names 98 07 00 28 48 00 02 01 01 00 98 07 00 28 48 00 02 01 01 00
+    A0 1C 00 01 00 00 $as 00 A0 1C 00 01 30 00 $cs 00 A0 1C 00 01 18 00 $bs 00
+    A0 05 00 02 06 00 45 00 A0 05 00 02 04 00 43 00 A0 05 00 02 02 00 41 00 A0 08 00 02 01 00 61 62 63 64 00 $end" "$(printf 'S 0 0 0\nS 100 0 0')"
+input pieces.bin "$as $bs $cs" ''
+apart refuse_each_on "$work/pieces"
+apart refuse_each_of_run 0 /dev/null "$find" --possible --near 4 --base 0 "$work/pieces.bin" "$work/pieces"
+
+# Drafts: segments of each alignment, an external and two communals; absolute segments and groups; a segment that a comment raises to 4,096 bytes.
+input aligned "$header $names 98 07 00 28 03 00 02 01 01 00 98 07 00 48 05 00 02 01 01 00 98 07 00 A8 01 00 02 01 01 00
+    98 07 00 68 02 00 02 01 01 00 98 07 00 88 01 00 02 01 01 00 8C 04 00 01 58 00 17
+    B0 06 00 01 59 00 62 07 00 B0 07 00 01 5A 00 61 03 05 00 $end" ''
+input absolute "$header $names 98 07 00 28 04 00 02 01 01 00 98 0A 00 08 00 B8 00 04 00 02 01 01 96 98 0A 00 08 00 B8 10 04 00 02 01 01 00
+    98 07 00 68 01 00 02 01 01 00 9A 04 00 02 FF 01 60 9A 02 00 02 00 8C 04 00 01 58 00 17 $end" ''
+input raised "$header $names 98 07 00 28 03 00 02 01 01 00 98 07 00 88 02 00 02 01 01 00 88 05 00 00 DC 80 02 00 $end" ''
+apart refuse_each_of_run 0 "$work/aligned" "$place" --base 10001 --flat 8
+for module in absolute raised; do
+    apart refuse_each_of_run 0 "$work/$module" "$place" --base 12345 --real
+done
+
+# Links by texts: a main module before another one; a frame that is shared, and a segment that is stored elsewhere; externals, one of which has its
+# place from a group's public and one from a local public; and one with two publics.
+external='8C 04 00 01 58 00 17' public='90 08 00 00 01 01 58 02 00 00 0C'
+input sides "$header $names 98 07 00 28 02 00 02 01 01 00 A0 06 00 01 00 00 CC DD 00 8A 06 00 41 50 01 01 00 00
+    $header $names 98 07 00 20 02 00 02 01 01 00 A0 06 00 01 00 00 AA BB 00 8A 06 00 C1 50 01 01 00 00" "$(
+    printf 'M #1\nS #1 10002 10000 1000\nM #2\nS #1 10000 10000 1000\n')"
+input stored "$header $names $segment $segment $external $end" "$(
+    printf 'M #1\nS #2 20 1234 5 at 8000\nS #1 10 shared\nX #1 30 0 0')"
+places=$(printf 'M #1\nS #1 10020 10000 1000\nM #2\nS #1 20040 20000 2000\n')
+input grouped "$header $names $segment $external $end $header $names $segment 9A 04 00 02 FF 01 60 90 08 00 01 01 01 58 02 00 00 0B $end" "$(
+    printf '%s\nG #1 20010 2001' "$places")"
+input local "$header $names $segment B4 04 00 01 58 00 EF B6 08 00 00 01 01 58 03 00 00 E5 $end $header $names $segment $public $end" "$places"
+input twice "$header $names $segment $external $end $header $names $segment $public $end $header $names $segment $public $end" "$(
+    printf '%s\nM #3\nS #1 20040 20000 2000' "$places")"
+for module in sides stored grouped local; do
+    apart refuse_each_of_run 0 "$work/$module" "$link" image
+    apart refuse_each_of_run 0 "$work/$module" "$link" map
+done
+apart refuse_each_of_run 1 "$work/twice" "$link" image
+
 # Such tests are named a_refused_growth_..
 for test in $(grep -rhoE --include='*.rt' 'fn a_refused_growth_\w+' "$root"/crates/*_tests/src | sed 's/^fn //' | sort -u); do
     apart refuse_each_of_test "$test"
