@@ -1,29 +1,30 @@
 #!/usr/bin/env bash
-# Has other tools read the texts of crates/omf_module_tests/src/tests/chips.rt, and compares what they read with the memory: firmware.sh
+# Has other tools read the texts of the cases `link, runs for a chip` of crates/omf_cases/stdin, and compares what they read with the memory: firmware.sh
 #
-# Those tests show that the library writes these texts. objcopy (Debian's package: binutils) and srec_cat (srecord) read Intel
+# Those cases show that omf-link writes these texts. objcopy (Debian's package: binutils) and srec_cat (srecord) read Intel
 # HEX and S-records; a tool that is not installed is skipped. The status is 0 where each tool that is there reads the memory.
 set -euo pipefail
 cd "$(dirname "$0")/.."
 work=$(mktemp -d)
 trap 'rm -rf "$work"' EXIT
 
-# NAME.hex and NAME.srec for each text, and memory.bin: the runs from the lowest address on, with 0 between them.
+# N.hex or N.srec for each text, and memory.bin: the runs from the lowest address on, with 0 between them.
 python3 - "$work" << 'END'
-import ast
 import pathlib
-import re
 import sys
 
 work = pathlib.Path(sys.argv[1])
-source = pathlib.Path("crates/omf_module_tests/src/tests/chips.rt").read_text(encoding="utf-8")
-literal = r'(b"(?:[^"\\]|\\.)*")'
-endings = {"LINEAR": "hex", "SEGMENTS": "hex", "S24": "srec", "S32": "srec"}
-for name, ending in endings.items():
-    text = ast.literal_eval(re.search(rf"static {name}: &\[u8\] =\s*{literal}", source)[1])
-    (work / f"{name}.{ending}").write_bytes(text)
-table = source[source.index("static RUNS") : source.index("/// In Intel HEX by segments")]
-runs = [(int(a.replace("_", ""), 16), ast.literal_eval(b)) for a, b in re.findall(rf"address: (0x[0-9A-F_]+),\s*bytes: {literal}", table)]
+# The runs of these cases, each by its address.
+runs = [(0xFFFE, b"\xAA\xBB\xCC"), (0x10005, b"\x01\x02"), (0xFFFF0, b"\xEA")]
+written = 0
+for line in pathlib.Path("crates/omf_cases/stdin").read_text(encoding="utf-8").splitlines():
+    name, *fields = (it.strip() for it in line.split("|"))
+    task = fields[0].split()[1:2] if name.startswith("link, runs for a chip: ") else []
+    if task in (["hex"], ["srec"]) and fields[3] == "0":
+        written += 1
+        (work / f"{written}.{task[0]}").write_text(fields[4].replace("/", "\n"), encoding="ascii")
+if written != 4:
+    sys.exit(f"{written} texts in crates/omf_cases/stdin")
 first, end = min(a for a, _ in runs), max(a + len(b) for a, b in runs)
 memory = bytearray(end - first)
 for address, found in runs:

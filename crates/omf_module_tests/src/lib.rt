@@ -1,5 +1,4 @@
-//! Tests of the libraries by their public calls: records and images; checking, relocation, canonical bytes, layouts and links; libraries of
-//! modules, files for chips and programs, and modules in programs.
+//! Tests of calls of the libraries that no program makes.
 #![tactic(auto)]
 
 #[cfg(test)]

@@ -1,10 +1,18 @@
-//! Sources and sinks over readers and writers that fail: kinds of errors, and numbers of calls.
+//! Sources and sinks over readers and writers that fail: kinds of errors, and numbers of calls, of which contracts leave some open (docs/PROOFS.md, 'What
+//! is only tested').
 
-use super::framers::failure;
-use omf_frame::{Buffered, Reading, Sink, Source, Writing, pull_piece, write_record};
+use omf_frame::{Buffered, Reading, Sink, Source, Writing, pull_piece};
 use std::alloc::Global;
 use std::io;
 use std::io::{BufReader, ErrorKind, Read, Write};
+
+/// The kind of the error, if there is one.
+fn failure<T: Drop>(answer: Result<T, io::Error>) -> Option<ErrorKind> {
+    match answer {
+        Ok(_) => None,
+        Err(error) => Some(error.kind()),
+    }
+}
 
 /// A device that answers by its calls, from 0: one byte, two interruptions, a broken pipe, and then as at an end.
 #[derive(Drop)]
@@ -120,25 +128,4 @@ fn writes_torn() -> (bool, u32) {
 #[test]
 fn errors_of_a_writer_are_passed_on(rt: HostRuntime) {
     assert!(rt; writes_torn() == (true, 5));
-}
-
-/// The calls of a torn device before a record is written to it, the error, and the number of all calls.
-static WRITES: [(u32, ErrorKind, u32); 3] = [
-    (0, ErrorKind::BrokenPipe, 4),
-    (1, ErrorKind::BrokenPipe, 4),
-    (4, ErrorKind::WriteZero, 5),
-];
-
-/// The error of a record that is written after this many calls, and the number of all calls.
-fn written_after(calls: u32) -> (Option<ErrorKind>, u32) {
-    let mut torn = Torn { calls };
-    let error = failure(write_record(&mut Writing::new(&mut torn), 0x80, &[0x01, 0x41]));
-    (error, torn.calls)
-}
-
-#[test]
-fn a_record_is_written_until_a_writer_fails(rt: HostRuntime) {
-    for (before, error, after) in &WRITES {
-        assert!(rt; written_after(*before) == (Some(*error), *after));
-    }
 }
