@@ -350,12 +350,14 @@ apart refuse_each_of_made "$link" exe --eliminate --stack 16 -o made/x.exe "$wor
 
 # Pieces of data that are laid in other orders, of which the last joins the others; each has the bytes of the system's smallest block.
 as=$(printf '41%.0s' {1..24}) bs=$(printf '42%.0s' {1..24}) cs=$(printf '43%.0s' {1..24})
-input pieces "$header $names 98 07 00 28 48 00 02 01 01 00 98 07 00 28 48 00 02 01 01 00
+laid="$header $names 98 07 00 28 48 00 02 01 01 00 98 07 00 28 48 00 02 01 01 00
     A0 1C 00 01 00 00 $as 00 A0 1C 00 01 30 00 $cs 00 A0 1C 00 01 18 00 $bs 00
-    A0 05 00 02 06 00 45 00 A0 05 00 02 04 00 43 00 A0 05 00 02 02 00 41 00 A0 08 00 02 01 00 61 62 63 64 00 $end" "$(printf 'S 0 0 0\nS 100 0 0')"
+    A0 05 00 02 06 00 45 00 A0 05 00 02 04 00 43 00 A0 05 00 02 02 00 41 00 A0 08 00 02 01 00 61 62 63 64 00 $end"
+input pieces "$laid" "$(printf 'S 0 0 0\nS 100 0 0')"
+input pieces.obj "$laid" ''
 input pieces.bin "$as $bs $cs" ''
 apart refuse_each_on "$work/pieces"
-apart refuse_each_of_run 0 /dev/null "$find" --possible --near 4 --base 0 "$work/pieces.bin" "$work/pieces"
+apart refuse_each_of_run 0 /dev/null "$find" --possible --near 4 --base 0 "$work/pieces.bin" "$work/pieces.obj"
 
 # Drafts: segments of each alignment, an external and two communals; absolute segments and groups; a segment that a comment raises to 4,096 bytes.
 input aligned "$header $names 98 07 00 28 03 00 02 01 01 00 98 07 00 48 05 00 02 01 01 00 98 07 00 A8 01 00 02 01 01 00
@@ -377,12 +379,12 @@ input sides "$header $names 98 07 00 28 02 00 02 01 01 00 A0 06 00 01 00 00 CC D
     printf 'M #1\nS #1 10002 10000 1000\nM #2\nS #1 10000 10000 1000\n')"
 input stored "$header $names $segment $segment $external $end" "$(
     printf 'M #1\nS #2 20 1234 5 at 8000\nS #1 10 shared\nX #1 30 0 0')"
-places=$(printf 'M #1\nS #1 10020 10000 1000\nM #2\nS #1 20040 20000 2000\n')
+places=$(printf 'M #1\nS #1 10020 10000 1000\nM #2\nS #1 10040 10000 1000\n')
 input grouped "$header $names $segment $external $end $header $names $segment 9A 04 00 02 FF 01 60 90 08 00 01 01 01 58 02 00 00 0B $end" "$(
-    printf '%s\nG #1 20010 2001' "$places")"
+    printf '%s\nG #1 10000 1000' "$places")"
 input local "$header $names $segment B4 04 00 01 58 00 EF B6 08 00 00 01 01 58 03 00 00 E5 $end $header $names $segment $public $end" "$places"
 input twice "$header $names $segment $external $end $header $names $segment $public $end $header $names $segment $public $end" "$(
-    printf '%s\nM #3\nS #1 20040 20000 2000' "$places")"
+    printf '%s\nM #3\nS #1 10060 10000 1000' "$places")"
 for module in sides stored grouped local; do
     apart refuse_each_of_run 0 "$work/$module" "$link" image
     apart refuse_each_of_run 0 "$work/$module" "$link" map
