@@ -40,8 +40,8 @@ TEXTS |= {it: SAY for it in ("my name.obj", "a bcd e", 'x"y')}
 
 # A module with 1,000 names of one hash, which counts no case: ten letters each. Name n comes after n others, so the searches would be too long.
 NAMES = [bytes(it ^ (number >> at & 1) << 5 for at, it in enumerate(b"abcdefghij")) for number in range(1000)]
-PUBLICS = b"".join(b"\x90\x13\0\0\0\0\0\x0A" + it + b"\0\0\0\0" for it in NAMES)
-TEXTS["hash.obj"] = bytes.fromhex("80030001413B") + PUBLICS + bytes.fromhex("8A02000074")
+PUBLICS = [b"\x90\x13\0\0\0\0\0\x0A" + it + b"\0\0\0\0" for it in NAMES]
+TEXTS |= {name: bytes.fromhex("80030001413B") + b"".join(PUBLICS[:count]) + bytes.fromhex("8A02000074") for name, count in (("hash.obj", 1000), ("hundred.obj", 100))}
 
 # A .COM file by itself: int 20H at 100H, which is its start.
 TEXTS["tiny.obj"] = bytes.fromhex("80030001413B 96040000015400 98070028020102010100 A00600010001CD2000 8A0700C1000101000100")
@@ -126,6 +126,7 @@ SAME = [
     ["omf-lib --help", "omf-lib -h", "omf-lib help", "omf-lib find --help"],
     *([f"{it} --help", f"{it} -h"] for it in ("omf-dump", "omf-find", "omf-place")),
     ["omf-dump --verdict -- -x.obj", "omf-dump @dash.rsp"],
+    ["omf-lib make -o - hundred.obj", "omf-lib make -o=- hundred.obj"],
     ["omf-dump --verdict my%20name.obj a%20bcd%20e x%22y", "omf-dump @names.rsp"],
     ["omf-lib find small.lib _gets", "omf-lib find small.lib \\x5Fgets", "omf-lib find small.lib _get\\x73"],
 ]
