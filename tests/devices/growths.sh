@@ -231,6 +231,7 @@ refuse_each_of_made() {
 
 # input NAME HEX TEXT: a module, written in hexadecimal, and the text after it.
 input() {
+    [ ! -e "$work/$1" ] || fails "two inputs have the name $1"
     printf "$(printf '%s' "$2" | tr -d ' \n' | sed 's/../\\x&/g')" > "$work/$1"
     printf '%s' "$3" >> "$work/$1"
 }
@@ -373,7 +374,6 @@ done
 
 # Links by texts: a main module before another one; a frame that is shared, and a segment that is stored elsewhere; externals, one of which has its
 # place from a group's public and one from a local public; and one with two publics.
-external='8C 04 00 01 58 00 17' public='90 08 00 00 01 01 58 02 00 00 0C'
 input sides "$header $names 98 07 00 28 02 00 02 01 01 00 A0 06 00 01 00 00 CC DD 00 8A 06 00 41 50 01 01 00 00
     $header $names 98 07 00 20 02 00 02 01 01 00 A0 06 00 01 00 00 AA BB 00 8A 06 00 C1 50 01 01 00 00" "$(
     printf 'M #1\nS #1 10002 10000 1000\nM #2\nS #1 10000 10000 1000\n')"
@@ -382,10 +382,10 @@ input stored "$header $names $segment $segment $external $end" "$(
 places=$(printf 'M #1\nS #1 10020 10000 1000\nM #2\nS #1 10040 10000 1000\n')
 input grouped "$header $names $segment $external $end $header $names $segment 9A 04 00 02 FF 01 60 90 08 00 01 01 01 58 02 00 00 0B $end" "$(
     printf '%s\nG #1 10000 1000' "$places")"
-input local "$header $names $segment B4 04 00 01 58 00 EF B6 08 00 00 01 01 58 03 00 00 E5 $end $header $names $segment $public $end" "$places"
+input local_public "$header $names $segment B4 04 00 01 58 00 EF B6 08 00 00 01 01 58 03 00 00 E5 $end $header $names $segment $public $end" "$places"
 input twice "$header $names $segment $external $end $header $names $segment $public $end $header $names $segment $public $end" "$(
     printf '%s\nM #3\nS #1 10060 10000 1000' "$places")"
-for module in sides stored grouped local; do
+for module in sides stored grouped local_public; do
     apart refuse_each_of_run 0 "$work/$module" "$link" image
     apart refuse_each_of_run 0 "$work/$module" "$link" map
 done

@@ -15,7 +15,7 @@ laws    the laws of computed definitions. A file of specs/ may import a definiti
         ties it to what is believed: `-- computed: LAW.` Where one does not, this ends with status 1
 inner   the inner definitions in contracts of public calls
 costs   the gate's cost by crate: functions, edits and the crates above are counted; the seconds are kept as the page has them, or
-        taken from a file of lines `CRATE PROOF EDITS` (--times FILE with --write)
+        taken from a file of lines `CRATE PROOF EDITS` (--times FILE with --write). Status 1 where they come to more than docs/GATE.md allows
 """
 import re
 import sys
@@ -238,6 +238,16 @@ def costs(given=None):
     return table
 
 
+def over_budget(given=None):
+    """What the seconds of the table costs come to, where that is more than docs/GATE.md allows."""
+    allowed = re.search(r"may have ([\d,]+) seconds", (ROOT / "docs" / "GATE.md").read_text(encoding="utf-8"))
+    if not allowed:
+        return "docs/GATE.md: the budget of the gate is missing (may have N seconds)"
+    kept, most = seconds(given), int(allowed[1].replace(",", ""))
+    sums = [int(it.replace(",", "")) for crate in crates() for it in kept.get(crate, ()) if it.replace(",", "").isdigit()]
+    return f"the gate costs {sum(sums):,} seconds by the table of docs/INDEX.md, {most:,} are allowed by docs/GATE.md" if sum(sums) > most else None
+
+
 def with_table(text, name, table):
     """The page with the table of this name between its marks, and whether it has these marks."""
     place = marked(name)
@@ -273,6 +283,8 @@ def main():
         differing = []
     if UNTIED:
         print("computed definitions without a law (a line `-- computed: LAW.` above the import): " + ", ".join(UNTIED), file=sys.stderr)
+    if over_budget(given):
+        sys.exit(over_budget(given))
     if differing:
         sys.exit("tables of docs/INDEX.md that are not as the sources have them, run tests/docs.py --write: " + ", ".join(differing))
     sys.exit(1 if UNTIED else 0)
