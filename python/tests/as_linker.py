@@ -1,6 +1,7 @@
 """Does what `omf-link exe` and `com` do, by the package: as_linker.py exe|com -o OUTPUT FILE.. [--allow KIND].. [--stack N] [--order dos|input] [--ignore-case]
 
-tests/c/run.sh runs the cases of conformance/programs on it. A call that the package does not have, as with --map, ends with status 77.
+tests/c/run.sh runs the cases of conformance/programs on it. A call that the package does not have, as with --map, ends with status 77, and so do modules
+that ask for libraries: the package looks for no files.
 """
 import argparse
 import os
@@ -11,6 +12,18 @@ sys.path.insert(0, os.path.join(os.path.dirname(__file__), ".."))
 import omf  # noqa: E402
 
 CANNOT = 77
+
+
+def asks_for_library(data):
+    """Whether one of the records is a comment of class 9FH."""
+    at = 0
+    while at + 5 <= len(data):
+        if data[at] == 0x88 and data[at + 4] == 0x9F:
+            return True
+        at += 3 + int.from_bytes(data[at + 1 : at + 3], "little")
+    return False
+
+
 parser = argparse.ArgumentParser()
 parser.error = lambda _: sys.exit(CANNOT)
 parser.add_argument("kind", choices=["exe", "com"])
@@ -25,6 +38,8 @@ files = []
 for path in asked.files:
     with open(path, "rb") as file:
         files.append((path, file.read()))
+if any(asks_for_library(data) for _, data in files):
+    sys.exit(CANNOT)
 with warnings.catch_warnings(record=True) as caught:
     warnings.simplefilter("always")
     try:
