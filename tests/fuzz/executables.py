@@ -4,7 +4,7 @@ import struct
 import subprocess
 
 from libraries import record
-from modules import defaults_of, ends_of, named_externals, publics_of, titles_of
+from modules import SEGMENTS, bodies, defaults_of, ends_of, named_externals, publics_of, titles_of
 
 PARAGRAPH = 16
 COM_FRONT = 0x100
@@ -111,6 +111,29 @@ def places_in(text):
                 numbers = [int(it, 16) for it in numbers]
             places[-1]["SG".index(found[1])].append(numbers)
     return places
+
+
+# The number of bytes that a segment's place is a multiple of, by its alignment type A.
+ALIGNMENTS = {1: 1, 2: 2, 3: 16, 4: 256, 5: 4}
+
+
+def stack_byte(text, modules):
+    """The module that omf-link adds to an .EXE whose stack has an odd length: a part of one byte after the last one; None for another stack. `text` is a
+    drafted text of the modules."""
+    parts, length = [], 0
+    for one, (segments, _) in zip(modules, places_in(with_frames(text, modules))):
+        defined = [(kind, body) for kind, body in bodies(one, SEGMENTS)]
+        for (kind, body), title, place in zip(defined, titles_of(one)[0], segments):
+            if body[0] >> 5 and body[0] >> 2 & 7 == 5:
+                size = 0x10000 if body[0] & 2 else int.from_bytes(body[1:5 if kind & 1 else 3], "little")
+                parts.append((place[0], len(parts), size, ALIGNMENTS.get(body[0] >> 5, 1), body[0] & 1, title))
+    for _, _, size, alignment, _, _ in sorted(parts):
+        length = -(-length // alignment) * alignment + size
+    if length % 2 == 0:
+        return None
+    *_, wide, (name, title) = max(parts)
+    names = record(0x96, b"".join(bytes([len(it)]) + it for it in (title, name)))
+    return record(0x80, b"\x05stack") + names + record(0x98, bytes([0x34 | wide, 1, 0, 2, 1, 0])) + record(0x8A, b"\0")
 
 
 def public_place(places, group, segment, frame, offset):

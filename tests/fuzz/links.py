@@ -185,6 +185,10 @@ class Exe:
         is_read, is_mixed = all(map(is_open, inputs)), any(map(has_defaults, inputs)) and ends_of(inputs)
         if is_mixed and not is_read:
             return
+        own = executables.stack_byte(text, inputs) if self.TASK == "exe" else None
+        if own:
+            (folder / "stack.obj").write_bytes(own)
+            return self.compare([*names, "stack.obj"], [*inputs, own], file, folder)
         self.look_at_lines(names, inputs, executables.places_in(executables.with_frames(text, inputs)), folder)
         if self.TASK == "exe":
             least, asked = executables.least_memory(text), self.LOADED(file, 0)[2]
