@@ -6,6 +6,7 @@ import re
 from libraries import record
 
 NAMES, LOCAL_NAMES, EXTERNALS, COMDAT_EXTERNALS, DATA, REPEATED, BACKPATCH, COMDAT = 0x96, 0xCA, 0x8C, 0xBC, 0xA0, 0xA2, 0xB2, 0xC2
+FIXUPS, NAMED_BACKPATCH = 0x9C, 0xC8
 LOCAL_EXTERNALS, VENDOR = 0xB4, 0xCE
 HEADERS, ENDS, FRONT = (b"\x80", b"\x82"), (0x8A, 0x8B), 3
 PADDING = re.compile(rb"\0+|\x1A+|")
@@ -166,7 +167,11 @@ def front_record(rest):
 
 
 class Unread(Exception):
-    """A COMDAT, which this reader does not lower."""
+    """A COMDAT, a backpatch by name or a fixup of an LIDATA, which this reader does not lower."""
+
+
+class Beyond(Exception):
+    """A frame by number or an alignment to pages, which no reader here lowers (tests/frames.py links such modules)."""
 
 
 def is_lowered(bytes_):
@@ -184,7 +189,7 @@ class Lowered:
     bytes. `judge` is called with each record whose layout is not read here."""
 
     def __init__(self, judge=lambda one: None):
-        self.names, self.local, self.records, self.data, self.judge = [], [], [], [], judge
+        self.names, self.local, self.records, self.data, self.judge, self.is_repeated = [], [], [], [], judge, False
 
     def take(self, one):
         kind, contents = one[0], one[FRONT:-1]
@@ -192,7 +197,7 @@ class Lowered:
             self.take_externals(Fields(contents))
         elif kind & 0xFE == BACKPATCH:
             self.take_patches(Fields(contents), 4 if kind & 1 else 2)
-        elif kind & 0xFE == COMDAT:
+        elif kind & 0xFE in (COMDAT, NAMED_BACKPATCH):
             raise Unread
         elif kind == VENDOR:
             return
@@ -211,6 +216,9 @@ class Lowered:
             own, is_data = bytearray(fields.contents[at:]), one[0] & 0xFE == DATA
             size, number = (len(own), len(self.records)) if is_data else (repeated_size(own, width), None)
             self.data.append((segment, offset, size, number, fields.contents[:at], own))
+            self.is_repeated = not is_data
+        elif one[0] & 0xFE == FIXUPS and self.is_repeated:
+            raise Unread
         else:
             self.judge(one)
 
