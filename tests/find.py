@@ -150,7 +150,7 @@ def image_of(path):
 
 
 def linked_again(what, folder, program, *words):
-    """By what `--link` writes omf-link puts the members that are found where they are: each byte of a segment that is found is the program's."""
+    """By what `--link` writes omf-link puts the members that are found, lowered, where they are: each byte of a segment that is found is the program's."""
     global tried, left_out_of_links, lines_linked, bytes_linked
     tried += 1
     (folder / "found.link").unlink(missing_ok=True)
@@ -176,6 +176,11 @@ def linked_again(what, folder, program, *words):
         files.append(f"members/{number}/{member}.obj")
     if not files:
         return
+    for number, file in enumerate(files):
+        files[number] = f"lowered{number}.obj"
+        status, output, error = run(LINK, "lower", "-o", files[number], file, folder=folder)
+        if status:
+            fails(what, "omf-link lower", output, error)
     status, output, error = run(LINK, "image", *ALLOWED, "-t", "found.link", *files, folder=folder)
     if status:
         fails(what, "omf-link image", status, error)
@@ -364,12 +369,21 @@ def parts(folder):
         fails("--json", "no.exe", done, output, error)
 
 
+def has_comdat(bytes_):
+    """Whether a module has a COMDAT."""
+    at = 0
+    while at + 3 <= len(bytes_) and bytes_[at] & 0xFE != 0xC2:
+        at += 3 + int.from_bytes(bytes_[at + 1:at + 3], "little")
+    return at + 3 <= len(bytes_)
+
+
 def look_at_made(seed, folder):
     """A generated program, of its modules in any order: each segment that is found is where the map has it."""
     import executed
     plan = executed.Plan(seed)
     names = executed.built(plan, folder)
-    if plan.kind == "bin":
+    # (a COMDAT of several modules is found where the one is that was chosen)
+    if plan.kind == "bin" or any(has_comdat((folder / it).read_bytes()) for it in names):
         return
     order = names[1:]
     plan.random.shuffle(order)
