@@ -1,2 +1,3 @@
+pub mod OriginLaws
 pub mod StayLaws
 pub mod WalkLaws

@@ -1,6 +1,6 @@
 -- Records that this profile reads have no segment with A = 6 or 7.
-use Rattle.std.proofs.Common.{◌≡◌, ◌∙◌, ◌⊎◌, inl, inr, ℕ, suc, ◌<◌, Bool, true, false, List, [], ◌∷◌, Result, Ok, Err, refl, sym, ap, subst, arith}
-use Rattle.std.specs.Prelude.{All, ◌&&◌, ◌||◌, ◌==◌, is_ok, nat_le, nat_lt}
+use Rattle.std.proofs.Common.{◌≡◌, ◌∙◌, ◌⊎◌, inl, inr, ℕ, suc, Bool, true, false, List, [], ◌∷◌, Result, refl, sym, ap, subst, arith}
+use Rattle.std.specs.Prelude.{All, ◌&&◌, ◌||◌, is_ok, nat_le, nat_lt}
 use Rattle.std.specs.List.{list_any}
 use Rattle.std.proofs.lemmas.Bool.{eqb-true, lt-leb, ltb-true}
 use Rattle.omf_frame.specs.Fault.{Fault}

@@ -5,7 +5,9 @@
 
 mod aligned;
 pub mod laws;
+mod origin;
 pub mod rows;
 mod writing;
 
 pub use aligned::with_pages;
+pub use origin::pages_origin;

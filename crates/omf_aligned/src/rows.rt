@@ -1,10 +1,10 @@
 //! Worked examples, with values worked out by hand from the standard.
 
-ghost use Rattle.std.specs.Prelude.{◌≡◌, ◌∷◌, [], codes, false, true};
+ghost use Rattle.std.specs.Prelude.{◌≡◌, ◌∷◌, [], None, Some, codes, false, true};
 ghost use Rattle.omf_frame.specs.Framing.{front_record};
 ghost use Rattle.omf_frame.specs.Rows.{hex};
 ghost use Rattle.omf_aligned.specs.Aligned.{block_comment, gets_pages};
-ghost use Rattle.omf_aligned.specs.Rows.{paged};
+ghost use Rattle.omf_aligned.specs.Rows.{origin, paged};
 ghost use Rattle.omf_explicit.specs.Rows.{bytes_of};
 
 /// The comment of the segment with index 1, and with index 128, which has two bytes.
@@ -43,4 +43,13 @@ pub fn others()
         ≡ bytes_of (codes "80 03 00 01 41 3B" ∷ codes "98 07 00 CA 04 00 02 01 01 8F" ∷ codes "8A 02 00 00 74" ∷ []) }
     ensures changed { gets_pages (front_record (hex (codes "98 07 00 C8 04 00 02 01 01 91")) ∷ []) ≡ true }
     ensures none { gets_pages (front_record (hex (codes "98 07 00 A8 04 00 02 01 01 B1")) ∷ []) ≡ false }
+{}
+
+/// The comment after a SEGDEF with A = 6 comes from the SEGDEF, and there is none after one with A = 7.
+pub fn origins()
+    ensures segdef { origin (codes "80 03 00 01 41 3B" ∷ codes "98 07 00 C8 04 00 02 01 01 91" ∷ codes "98 07 00 E8 04 00 02 01 01 71" ∷ codes "8A 02 00 00 74" ∷ []) 1 ≡ Some 1 }
+    ensures comment { origin (codes "80 03 00 01 41 3B" ∷ codes "98 07 00 C8 04 00 02 01 01 91" ∷ codes "98 07 00 E8 04 00 02 01 01 71" ∷ codes "8A 02 00 00 74" ∷ []) 2 ≡ Some 1 }
+    ensures next { origin (codes "80 03 00 01 41 3B" ∷ codes "98 07 00 C8 04 00 02 01 01 91" ∷ codes "98 07 00 E8 04 00 02 01 01 71" ∷ codes "8A 02 00 00 74" ∷ []) 3 ≡ Some 2 }
+    ensures end { origin (codes "80 03 00 01 41 3B" ∷ codes "98 07 00 C8 04 00 02 01 01 91" ∷ codes "98 07 00 E8 04 00 02 01 01 71" ∷ codes "8A 02 00 00 74" ∷ []) 4 ≡ Some 3 }
+    ensures none { origin (codes "80 03 00 01 41 3B" ∷ codes "98 07 00 C8 04 00 02 01 01 91" ∷ codes "98 07 00 E8 04 00 02 01 01 71" ∷ codes "8A 02 00 00 74" ∷ []) 5 ≡ None }
 {}

@@ -15,7 +15,7 @@ use std::alloc::{AllocError, Global};
 pub(crate) const SEGMENT_LIMIT: usize = 32_767;
 
 /// A of a SEGDEF's contents.
-fn alignment_of(body: &[u8]) -> u8
+pub(crate) fn alignment_of(body: &[u8]) -> u8
     ensures { result ≡ alignment_of body.now }
 {
     match body {

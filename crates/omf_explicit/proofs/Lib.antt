@@ -1,6 +1,7 @@
 pub mod CountLaws
 pub mod FieldSteps
 pub mod ModuleLaws
+pub mod OriginLaws
 pub mod PartSteps
 pub mod PlaceLaws
 pub mod PlainLaws

@@ -25,7 +25,7 @@ pub fn segment_count(records: &[Front<'_>]) -> usize
 }
 
 /// The number of records up to the last SEGDEF; without a SEGDEF 1, or 0 without a record.
-fn front_count(records: &[Front<'_>]) -> usize
+pub(crate) fn front_count(records: &[Front<'_>]) -> usize
     ensures count { result ≡ front_count records.now }
     ensures within { result ≤ length records.now }
 {

@@ -115,7 +115,7 @@ fn whole_front<'a>(bytes: &'a [u8]) -> Option<(Front<'a>, &'a [u8])>
 }
 
 /// The record at the front of the bytes, and the bytes after it; none if they begin with no whole record.
-fn front_of<'a>(bytes: &'a [u8]) -> Option<(Front<'a>, &'a [u8])>
+pub(crate) fn front_of<'a>(bytes: &'a [u8]) -> Option<(Front<'a>, &'a [u8])>
     ensures spelled { IfSome result (λ r. bytes.entry.now ≡ raw_bytes r.0 ++ r.1.now) }
     ensures short { IfSome result (λ r. length r.0.body < 65535) }
     ensures none { IfNone result (has_record bytes.entry.now ≡ false) }

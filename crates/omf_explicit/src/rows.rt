@@ -1,10 +1,11 @@
 //! Worked examples, with values worked out by hand from the standard.
 
-ghost use Rattle.std.specs.Prelude.{◌≡◌, ◌∷◌, [], codes, Ok, Some};
+ghost use Rattle.std.specs.Prelude.{◌≡◌, ◌∷◌, [], codes, None, Ok, Some};
 ghost use Rattle.omf_records.specs.Inner.Reading.{read_body};
 ghost use Rattle.omf_records.specs.Values.{Segment};
 ghost use Rattle.omf_explicit.specs.Explicit.{distinct, place_in, segment};
-ghost use Rattle.omf_explicit.specs.Rows.{bytes_of, plain};
+ghost use Rattle.omf_explicit.specs.Origins.{origin_from};
+ghost use Rattle.omf_explicit.specs.Rows.{bytes_of, origin, plain};
 
 /// Numbers, each once.
 pub fn numbers_once()
@@ -53,4 +54,21 @@ pub fn others()
         ≡ bytes_of (codes "80 03 00 01 41 3B" ∷ codes "98 07 00 28 04 00 02 01 01 31" ∷ codes "A0 08 00 01 00 00 A1 00 00 CB EB" ∷ codes "9C 09 00 C4 01 33 40 00 40 00 17 CC" ∷ codes "8A 02 00 00 74" ∷ []) }
     ensures f6 { plain (codes "80 03 00 01 41 3B" ∷ codes "98 07 00 28 04 00 02 01 01 31" ∷ codes "A0 08 00 01 00 00 A1 00 00 CB EB" ∷ codes "9C 07 00 C4 01 60 01 17 00 20" ∷ codes "8A 02 00 00 74" ∷ [])
         ≡ bytes_of (codes "80 03 00 01 41 3B" ∷ codes "98 07 00 28 04 00 02 01 01 31" ∷ codes "A0 08 00 01 00 00 A1 00 00 CB EB" ∷ codes "9C 07 00 C4 01 60 01 17 00 20" ∷ codes "8A 02 00 00 74" ∷ []) }
+{}
+
+/// Of four records, with one, two, none and one in their places, the second has those with numbers 1 and 2, and the last the one with number 3.
+pub fn origins()
+    ensures first { origin_from 0 (1 ∷ 2 ∷ 0 ∷ 1 ∷ []) 0 ≡ Some 0 }
+    ensures second { origin_from 0 (1 ∷ 2 ∷ 0 ∷ 1 ∷ []) 2 ≡ Some 1 }
+    ensures last { origin_from 0 (1 ∷ 2 ∷ 0 ∷ 1 ∷ []) 3 ≡ Some 3 }
+    ensures none { origin_from 0 (1 ∷ 2 ∷ 0 ∷ 1 ∷ []) 4 ≡ None }
+{}
+
+/// The segments of two frames are records 2 and 3, and come from the SEGDEF before them, record 1; the FIXUPP after them was record 2.
+pub fn segments_origins()
+    ensures before { origin (codes "80 03 00 01 41 3B" ∷ codes "98 07 00 28 04 00 02 01 01 31" ∷ codes "9C 07 00 4C 00 B8 0D F0 FF 00" ∷ codes "8A 02 00 00 74" ∷ []) 1 ≡ 1 }
+    ensures first { origin (codes "80 03 00 01 41 3B" ∷ codes "98 07 00 28 04 00 02 01 01 31" ∷ codes "9C 07 00 4C 00 B8 0D F0 FF 00" ∷ codes "8A 02 00 00 74" ∷ []) 2 ≡ 1 }
+    ensures second { origin (codes "80 03 00 01 41 3B" ∷ codes "98 07 00 28 04 00 02 01 01 31" ∷ codes "9C 07 00 4C 00 B8 0D F0 FF 00" ∷ codes "8A 02 00 00 74" ∷ []) 3 ≡ 1 }
+    ensures fixups { origin (codes "80 03 00 01 41 3B" ∷ codes "98 07 00 28 04 00 02 01 01 31" ∷ codes "9C 07 00 4C 00 B8 0D F0 FF 00" ∷ codes "8A 02 00 00 74" ∷ []) 4 ≡ 2 }
+    ensures end { origin (codes "80 03 00 01 41 3B" ∷ codes "98 07 00 28 04 00 02 01 01 31" ∷ codes "9C 07 00 4C 00 B8 0D F0 FF 00" ∷ codes "8A 02 00 00 74" ∷ []) 5 ≡ 3 }
 {}

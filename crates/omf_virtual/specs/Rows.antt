@@ -1,7 +1,8 @@
 -- Records of the worked examples.
-use Rattle.std.specs.Prelude.{ℕ, Bool, List, codes, flat_map, map}
+use Rattle.std.specs.Prelude.{ℕ, Bool, List, Option, codes, flat_map, map}
 use Rattle.omf_frame.specs.Framing.{front_record, raw_bytes}
 use Rattle.omf_frame.specs.Rows.{hex}
+use Rattle.omf_virtual.specs.Origins.{comdats_origin}
 use Rattle.omf_virtual.specs.Virtual.{gets_comdats, with_comdats}
 
 -- The bytes of these records, those with COMDATs in place of virtual segments, and whether they get these.
@@ -13,6 +14,10 @@ lowered texts = flat_map raw_bytes (with_comdats (map (λ t. front_record (hex t
 
 abbrev pub gets : List (List ℕ) → Bool
 gets texts = gets_comdats (map (λ t. front_record (hex t)) texts)
+
+-- The number of the record of these from which the record with a number comes.
+abbrev pub origin : List (List ℕ) → ℕ → Option ℕ
+origin texts n = comdats_origin (map (λ t. front_record (hex t)) texts) n
 
 -- a THEADR
 abbrev pub header : List ℕ

@@ -11,6 +11,7 @@ mod externals;
 mod fields;
 pub mod laws;
 mod names;
+mod origin;
 mod references;
 pub mod rows;
 mod segment_data;
@@ -18,4 +19,5 @@ mod table;
 mod virtuals;
 mod writing;
 
+pub use origin::comdats_origin;
 pub use virtuals::{ComdatModule, with_comdats};

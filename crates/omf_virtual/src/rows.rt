@@ -1,7 +1,7 @@
 //! Worked examples, with values worked out by hand from the standard.
 
-ghost use Rattle.std.specs.Prelude.{◌≡◌, ◌∷◌, [], codes, false, true};
-ghost use Rattle.omf_virtual.specs.Rows.{a_and_v, bytes_of, comdat_v, data_v, extern_f, extern_v, gets, header, lnames, lowered, modend, name_v, near_a, text};
+ghost use Rattle.std.specs.Prelude.{◌≡◌, ◌∷◌, [], None, Some, codes, false, true};
+ghost use Rattle.omf_virtual.specs.Rows.{a_and_v, bytes_of, comdat_v, data_v, extern_f, extern_v, gets, header, lnames, lowered, modend, name_v, near_a, origin, text};
 
 /// A virtual segment of two LEDATAs, with a fixup to it; 32-bit records; an LIDATA of each width; THREADs; a start; a group with the index; no data; a far communal beside it; two whose data
 /// come in the other order; externals of other records before it, and no LNAMES.
@@ -50,4 +50,16 @@ pub fn modules()
     ensures cut { gets (header ∷ lnames ∷ text ∷ codes "B0 06 00 02 5F 76 00 01 72" ∷ modend ∷ []) ≡ false }
     ensures cextdef { gets (header ∷ lnames ∷ text ∷ a_and_v ∷ codes "BC 03 00 03 00 3E" ∷ data_v ∷ modend ∷ []) ≡ false }
     ensures name { gets (header ∷ lnames ∷ text ∷ a_and_v ∷ data_v ∷ name_v ∷ modend ∷ []) ≡ false }
+{}
+
+/// The LNAMES of a COMDAT comes from the LNAMES before it, and the records in place of a COMDEF come from that.
+pub fn origins()
+    ensures lnames { origin (header ∷ lnames ∷ text ∷ a_and_v ∷ data_v ∷ modend ∷ []) 1 ≡ Some 1 }
+    ensures name { origin (header ∷ lnames ∷ text ∷ a_and_v ∷ data_v ∷ modend ∷ []) 2 ≡ Some 1 }
+    ensures text { origin (header ∷ lnames ∷ text ∷ a_and_v ∷ data_v ∷ modend ∷ []) 3 ≡ Some 2 }
+    ensures first { origin (header ∷ lnames ∷ text ∷ a_and_v ∷ data_v ∷ modend ∷ []) 4 ≡ Some 3 }
+    ensures second { origin (header ∷ lnames ∷ text ∷ a_and_v ∷ data_v ∷ modend ∷ []) 5 ≡ Some 3 }
+    ensures data { origin (header ∷ lnames ∷ text ∷ a_and_v ∷ data_v ∷ modend ∷ []) 6 ≡ Some 4 }
+    ensures end { origin (header ∷ lnames ∷ text ∷ a_and_v ∷ data_v ∷ modend ∷ []) 7 ≡ Some 5 }
+    ensures none { origin (header ∷ lnames ∷ text ∷ a_and_v ∷ data_v ∷ modend ∷ []) 8 ≡ None }
 {}

@@ -1,0 +1,8 @@
+use Rattle.std.proofs.Common.{◌≡◌, ◌++◌, drop}
+use Rattle.std.specs.Prelude.{map}
+use Rattle.omf_virtual.specs.Inner.Counts.{count_of}
+use Rattle.omf_virtual.proofs.origin.push_counts.Given as goal
+
+-- the counts so far, and those to come
+abbrev pub invariant-loop-record : goal.invariant-loop-record
+invariant-loop-record l = l.counts.items ++ map count_of (drop l.record-index l.records) ≡ l.fn.counts.items ++ map count_of l.records
