@@ -1,1 +1,2 @@
 pub mod FileState
+pub mod Moves

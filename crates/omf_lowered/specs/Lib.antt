@@ -1,4 +1,5 @@
 pub mod Modules
+pub mod Places
 pub mod Files
 pub mod Laws
 pub mod Mended

@@ -6,6 +6,7 @@ mod file;
 pub mod laws;
 mod mended;
 mod module;
+mod place;
 
 pub use fault::FileFault;
 pub use file::lowered_file;

@@ -3,10 +3,11 @@
 ghost use Rattle.std.specs.Prelude.{IfErr, IfOk};
 ghost use Rattle.omf_lowered.specs.Modules.{IsComdatFault, IsLoweredComdats, IsLoweredModule, IsLoweredPaged, IsModuleFault, IsPagedFault};
 
-use omf_aligned::with_pages;
-use omf_explicit::with_segments;
+use crate::place::{moved, number_of};
+use omf_aligned::{pages_origin, with_pages};
+use omf_explicit::{segments_origin, with_segments};
 use omf_lowering::{LoweredModule, LoweringFault, lowered};
-use omf_virtual::with_comdats;
+use omf_virtual::{comdats_origin, with_comdats};
 use std::alloc::Global;
 
 /// The first module of `bytes`, lowered as by `lowered` after each SEGDEF with A = 6 or 7 has A = 4 (`with_pages` of omf_aligned).
@@ -20,7 +21,10 @@ fn lowered_pages<'a>(alloc: Global, bytes: &'a [u8]) -> Result<LoweredModule<'a>
                 bytes: own.bytes,
                 rest: paged.rest,
             }),
-            Err(fault) => Err(fault),
+            Err(fault) => {
+                let origin = pages_origin(alloc, bytes, number_of(fault));
+                Err(moved(bytes, &paged.bytes, origin, fault))
+            }
         },
         Ok(None) => lowered(alloc, bytes),
         Err(_) => Err(LoweringFault::Memory),
@@ -38,7 +42,10 @@ fn lowered_comdats<'a>(alloc: Global, bytes: &'a [u8]) -> Result<LoweredModule<'
                 bytes: own.bytes,
                 rest: comdats.rest,
             }),
-            Err(fault) => Err(fault),
+            Err(fault) => {
+                let origin = comdats_origin(alloc, bytes, number_of(fault));
+                Err(moved(bytes, &comdats.bytes, origin, fault))
+            }
         },
         Ok(None) => lowered_pages(alloc, bytes),
         Err(_) => Err(LoweringFault::Memory),
@@ -51,7 +58,8 @@ fn lowered_comdats<'a>(alloc: Global, bytes: &'a [u8]) -> Result<LoweredModule<'
 ///
 /// # Errors
 ///
-/// `Refused` for the first record with a fault; `Memory` if memory runs out. In a module that a step changes, the place is that in the changed module.
+/// `Refused` for the first record with a fault; `Memory` if memory runs out. The place is one in `bytes`: if a step has changed or added the record, it is that of the record from
+/// which it comes, at its byte 0.
 pub fn lowered_module<'a>(
     alloc: Global,
     bytes: &'a [u8],
@@ -65,7 +73,10 @@ pub fn lowered_module<'a>(
                 bytes: own.bytes,
                 rest: plain.rest,
             }),
-            Err(fault) => Err(fault),
+            Err(fault) => {
+                let origin = segments_origin(alloc, bytes, number_of(fault));
+                Err(moved(bytes, &plain.bytes, origin, fault))
+            }
         },
         Ok(None) => lowered_comdats(alloc, bytes),
         Err(_) => Err(LoweringFault::Memory),
