@@ -1,8 +1,8 @@
 -- The classes of modules with the module for their order in front.
-use Rattle.std.proofs.Common.{◌≡◌, ◌∙◌, ℕ, ◌+◌, ◌*◌, List, [], ◌∷◌, ◌++◌, length, Bool, true, false, refl, sym, ap, ap₂, inl, inr, append-nil, append_assoc, length-append, arith}
-use Rattle.std.specs.Prelude.{◌&&◌, ◌||◌, bytes_eq, flat_map, is_some, map, not, option_map, Option, Some, None, slice_get, unwrap_or, if◌then◌else◌}
+use Rattle.std.proofs.Common.{◌≡◌, ◌∙◌, ℕ, ◌+◌, ◌*◌, List, [], ◌∷◌, ◌++◌, length, Bool, true, false, refl, sym, ap, ap₂, subst, inl, inr, append-nil, append_assoc, length-append, arith}
+use Rattle.std.specs.Prelude.{◌&&◌, ◌||◌, ◌==◌, bytes_eq, flat_map, is_some, map, not, option_map, Option, Some, None, slice_get, unwrap_or, if◌then◌else◌}
 use Rattle.std.specs.List.{cons_option, enumerate_from, filter, zip}
-use Rattle.std.proofs.lemmas.Bool.{cases_Bool, cond-false, cond-true}
+use Rattle.std.proofs.lemmas.Bool.{cases_Bool, cond-false, cond-true, eqb-true}
 use Rattle.std.proofs.lemmas.Grind.{flat_map-append}
 use Rattle.std.proofs.lemmas.List.{map-append}
 use Rattle.std.proofs.lemmas.List.Elements.{filter-append}
@@ -16,8 +16,10 @@ use Rattle.omf_layout.specs.Own.Order.{has_name}
 use Rattle.omf_layout.specs.Own.Ordered.{HasSegmentsOf}
 use Rattle.omf_layout.specs.Own.Written.{end_record, segment}
 use Rattle.omf_layout.specs.Several.Gathered.{distinct, names_in}
+use Rattle.omf_layout.specs.Several.Order.{is_named, nameless_last}
 use Rattle.omf_layout.specs.Several.Portions.{Classed, classed, name_at, portions, portions_in}
 use Rattle.omf_layout.proofs.RaisedLaws.{raisings-attributes, raisings-segments}
+use Rattle.omf_layout.proofs.SeveralLaws.ApartLaws.{Each}
 use Rattle.omf_layout.proofs.SeveralLaws.GatherLaws.{Name, dropped, kept, other, same}
 use Rattle.omf_combining.specs.Classes.{ClassesComeFirst, class_order_records, is_led, leader, leader_of, leaders, leaders_records, raise_records}
 use Rattle.omf_combining.specs.declared.classes.EmptySegment.{EmptySegment}
@@ -184,19 +186,79 @@ classes-in-front classes ms m h =
 names-both : (xs ys : List (Classed Portion)) → names_in (xs ++ ys) ≡ names_in xs ++ names_in ys
 names-both xs ys = map-append (λ (x : Classed Portion). x.0) xs ys
 
-any-number : (m : List Rec) (j k : ℕ) (xs : List (ℕ × (SegInfo × ℕ))) → names_in (map (classed m j) xs) ≡ names_in (map (classed m k) xs)
-any-number m j k [] = refl
-any-number m j k (x ∷ xs) = ap (λ ns. name_at m x.1.0.class ∷ ns) (any-number m j k xs)
+-- Of segments that pass a test on their SEGDEFs.
+abbrev passing : (SegInfo → Bool) → List (Classed Portion) → List (Classed Portion)
+passing u xs = filter (λ x. u x.1.1.segment) xs
 
-any-numbers : (j k : ℕ) (ms : List (List Rec)) → names_in (flat_map portions_in (enumerate_from j ms)) ≡ names_in (flat_map portions_in (enumerate_from k ms))
-any-numbers j k [] = refl
-any-numbers j k (m ∷ ms) =
-    names-both (portions_in (j, m)) (flat_map portions_in (enumerate_from (j + 1) ms))
-    ∙ ap₂ (λ us vs. us ++ vs) (any-number m j k (enumerate_from 1 (zip (segments m) (attributes m)))) (any-numbers (j + 1) (k + 1) ms)
-    ∙ sym (names-both (portions_in (k, m)) (flat_map portions_in (enumerate_from (k + 1) ms)))
+any-number : (u : SegInfo → Bool) (m : List Rec) (j k : ℕ) (xs : List (ℕ × (SegInfo × ℕ))) → names_in (passing u (map (classed m j) xs)) ≡ names_in (passing u (map (classed m k) xs))
+any-number u m j k [] = refl
+any-number u m j k (x ∷ xs) =
+    let t : Classed Portion → Bool = λ y. u y.1.1.segment in
+    elim (cases_Bool (u x.1.0)) [
+      | inl y ↦
+          ap names_in (taken t (classed m j x) (map (classed m j) xs) y) ∙ ap (λ ns. name_at m x.1.0.class ∷ ns) (any-number u m j k xs)
+          ∙ sym (ap names_in (taken t (classed m k x) (map (classed m k) xs) y))
+      | inr n ↦
+          ap names_in (left-out t (classed m j x) (map (classed m j) xs) n) ∙ any-number u m j k xs
+          ∙ sym (ap names_in (left-out t (classed m k x) (map (classed m k) xs) n))
+    ]
+
+passing-both : (u : SegInfo → Bool) (xs ys : List (Classed Portion)) → names_in (passing u (xs ++ ys)) ≡ names_in (passing u xs) ++ names_in (passing u ys)
+passing-both u xs ys = ap names_in (filter-append (λ (x : Classed Portion). u x.1.1.segment) xs ys) ∙ names-both (passing u xs) (passing u ys)
+
+any-numbers : (u : SegInfo → Bool) (j k : ℕ) (ms : List (List Rec))
+    → names_in (passing u (flat_map portions_in (enumerate_from j ms))) ≡ names_in (passing u (flat_map portions_in (enumerate_from k ms)))
+any-numbers u j k [] = refl
+any-numbers u j k (m ∷ ms) =
+    passing-both u (portions_in (j, m)) (flat_map portions_in (enumerate_from (j + 1) ms))
+    ∙ ap₂ (λ us vs. us ++ vs) (any-number u m j k (enumerate_from 1 (zip (segments m) (attributes m)))) (any-numbers u (j + 1) (k + 1) ms)
+    ∙ sym (passing-both u (portions_in (k, m)) (flat_map portions_in (enumerate_from (k + 1) ms)))
+
+-- The segments in front have names, and so come before those of the modules.
+abbrev has_name_index : SegInfo → Bool
+has_name_index s = not (s.name == 0)
+
+abbrev has_none : SegInfo → Bool
+has_none s = not (not (s.name == 0))
+
+abbrev AreNamed : List (Classed Portion) → Type 0
+AreNamed xs = Each (λ (x : Classed Portion). is_named x.1.1 ≡ true) xs
+
+all-named : (xs : List (Classed Portion)) → AreNamed xs → passing has_name_index xs ≡ xs
+all-named [] e = refl
+all-named (x ∷ xs) e = taken (λ (y : Classed Portion). is_named y.1.1) x xs e.0 ∙ ap (λ ys. x ∷ ys) (all-named xs e.1)
+
+none-other : (xs : List (Classed Portion)) → AreNamed xs → passing has_none xs ≡ []
+none-other [] e = refl
+none-other (x ∷ xs) e = left-out (λ (y : Classed Portion). not (is_named y.1.1)) x xs (ap not e.0) ∙ none-other xs e.1
+
+names-front : (xs ys : List (Classed Portion)) → AreNamed xs → names_in (nameless_last (xs ++ ys)) ≡ names_in xs ++ (names_in (passing has_name_index ys) ++ names_in (passing has_none ys))
+names-front xs ys e =
+    names-both (passing has_name_index (xs ++ ys)) (passing has_none (xs ++ ys))
+    ∙ ap₂ (λ us vs. us ++ vs) (passing-both has_name_index xs ys ∙ ap (λ zs. names_in zs ++ names_in (passing has_name_index ys)) (all-named xs e))
+    (passing-both has_none xs ys ∙ ap (λ zs. names_in zs ++ names_in (passing has_none ys)) (none-other xs e))
+    ∙ append_assoc (names_in xs) (names_in (passing has_name_index ys)) (names_in (passing has_none ys))
+
+front-named : (m : List Rec) (i j : ℕ) (ss : List EmptySegment) → AreNamed (map (classed m 0) (enumerate_from i (zip (infos j ss) (bytes ss))))
+front-named m i j [] = tt
+front-named m i j (s ∷ ss) = (
+  elim (cases_Bool (2 * j + 2 == 0)) [
+    | inl y ↦ absurd (let e = eqb-true (2 * j + 2) 0 y in omega (arith, e))
+    | inr n ↦ ap not n
+  ],
+  front-named m (i + 1) (j + 1) ss,
+)
+
+named-front : (classes : List Name) (ms : List (List Rec)) (m : List Rec) → HasSegmentsOf (class_order_records classes ms) m → AreNamed (portions_in (0, m))
+named-front classes ms m h =
+    subst AreNamed
+    (sym (ap₂ (λ ss bs. map (classed m 0) (enumerate_from 1 (zip ss bs))) (h.segments ∙ order-segments classes ms) (h.attributes ∙ order-attributes classes ms)))
+    (front-named m 1 0 (leaders ms classes))
 
 pub classes-come-first : ClassesComeFirst
 classes-come-first classes ms m h =
-    ap distinct (names-both (portions_in (0, m)) (flat_map portions_in (enumerate_from 1 ms))
-    ∙ ap₂ (λ us vs. us ++ vs) (classes-in-front classes ms m h ∙ led-classes ms classes) (any-numbers 1 0 ms))
-    ∙ distinct-both (filter (is_led ms) classes) (names_in (portions ms))
+    let own = portions ms in
+    ap distinct (names-front (portions_in (0, m)) (flat_map portions_in (enumerate_from 1 ms)) (named-front classes ms m h)
+    ∙ ap₂ (λ us vs. us ++ vs) (classes-in-front classes ms m h ∙ led-classes ms classes)
+    (ap₂ (λ us vs. us ++ vs) (any-numbers has_name_index 1 0 ms) (any-numbers has_none 1 0 ms) ∙ sym (names-both (passing has_name_index own) (passing has_none own))))
+    ∙ distinct-both (filter (is_led ms) classes) (names_in (nameless_last own))

@@ -1,5 +1,5 @@
 -- The module that a linker puts before the modules of a program for an order of classes (this profile's rule). Segments are laid by class as these first appear.
-use Rattle.std.specs.Prelude.{◌≡◌, ⊤, ℕ, ◌+◌, ◌*◌, ◌<◌, List, [], ◌∷◌, ◌++◌, codes, length, map, filter, filter_map, find, not, ◌&&◌, is_some, nat_lt, bytes_eq, Bool, Option, Some, None, option_map, if◌then◌else◌}
+use Rattle.std.specs.Prelude.{◌≡◌, ⊤, ℕ, ◌+◌, ◌*◌, ◌<◌, List, [], ◌∷◌, ◌++◌, codes, length, map, filter, filter_map, find, not, ◌&&◌, is_some, nat_lt, bytes_eq, Bool, Option, None, option_map, if◌then◌else◌}
 use Rattle.omf_layout.specs.declared.alignment.Alignment.{Alignment}
 use Rattle.omf_layout.specs.declared.several.portion.Combination.{Combination}
 use Rattle.omf_layout.specs.declared.own.order.OrderFault.{OrderFault}
@@ -9,6 +9,7 @@ use Rattle.omf_layout.specs.Own.Order.{alignment_bits, combination_bits, has_nam
 use Rattle.omf_layout.specs.Own.Ordered.{HasSegmentsOf}
 use Rattle.omf_layout.specs.Own.Written.{end_record, header, name_record, raisings, segment_record}
 use Rattle.omf_layout.specs.Several.Gathered.{distinct, names_in}
+use Rattle.omf_layout.specs.Several.Order.{nameless_last}
 use Rattle.omf_layout.specs.Several.Portions.{Classed, name_at, portions}
 use Rattle.omf_records.specs.Values.{Rec}
 use Rattle.omf_combining.specs.declared.classes.EmptySegment.{EmptySegment}
@@ -61,7 +62,7 @@ IsClassOrderFault classes ms order_fault.TooMany = 16383 < length (leaders ms cl
 
 -- The classes of modules, in the order in which they first appear: in this order they are laid (`runs` of omf_layout).
 abbrev pub class_order : List (List Rec) → List (List ℕ)
-class_order ms = distinct (names_in (portions ms))
+class_order ms = distinct (names_in (nameless_last (portions ms)))
 
 -- Of these classes those of which the modules have a segment that is not absolute, each once.
 abbrev pub is_led : List (List Rec) → List ℕ → Bool

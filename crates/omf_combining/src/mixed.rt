@@ -6,7 +6,7 @@ ghost use Rattle.omf_records.specs.Values.{is_use32};
 ghost use Rattle.omf_combining.specs.Mixed.{differs, first_mixed, mixed, mixed_in, mixed_run, part_at};
 
 use omf_check::Checked;
-use omf_layout::several::{Combination, Portion, combined_by, portions_of, runs_in};
+use omf_layout::several::{Combination, Portion, combined_by, runs_of};
 use std::alloc::{AllocError, Global};
 
 /// A segment of a module with at least one byte, and the kind of its code.
@@ -156,7 +156,7 @@ pub fn first_mixed(
     requires { length modules.now < 2 ^ 32 }
     ensures { IfOk result (λ o. o ≡ first_mixed (typed_modules modules.now)) }
 {
-    let runs = runs_in(alloc, portions_of(alloc, modules)?)?;
+    let runs = runs_of(alloc, modules)?;
     let all = all_mixed(alloc, modules, &runs)?;
     match all.as_slice() {
         [] => Ok(None),

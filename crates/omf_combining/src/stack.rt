@@ -12,7 +12,7 @@ use omf_check::Checked;
 use omf_frame::{Index, Name};
 use omf_layout::own::records::{Segment, put_end, put_header, put_name, put_segment};
 use omf_layout::own::stack_module;
-use omf_layout::several::{Portion, portions_of, runs_in};
+use omf_layout::several::{Portion, runs_of};
 use std::alloc::{AllocError, Global};
 
 /// A length in bytes, rounded up to an even one: a stack has words.
@@ -78,7 +78,7 @@ fn stack_parts(alloc: Global, modules: &[Checked]) -> Result<Vec<Portion>, Alloc
     requires { length modules.now < 2 ^ 32 }
     ensures { IfOk result (λ v. v.items ≡ stack_parts (typed_modules modules.now)) }
 {
-    let runs = runs_in(alloc, portions_of(alloc, modules)?)?;
+    let runs = runs_of(alloc, modules)?;
     parts_in(alloc, modules, &runs)
 }
 

@@ -1,5 +1,5 @@
 -- The lines of a draft, each an entry with a comment.
-use Rattle.std.proofs.Common.{◌≡◌, ℕ, ◌-◌, true, ◌==◌, List, [], ◌∷◌, ◌++◌, length, refl, ap, ap₂, ◌∙◌, arith, codes, inl, inr}
+use Rattle.std.proofs.Common.{◌≡◌, ℕ, true, ◌==◌, List, [], ◌∷◌, ◌++◌, refl, ap, ap₂, ◌∙◌, arith, codes, inl, inr}
 use Rattle.std.specs.Prelude.{Option, Some, None, unwrap_or, option_map, decimal}
 use Rattle.std.proofs.lemmas.Bool.{cond_both, and_from, and_parts, eqb-true, false≢true}
 use Rattle.omf_records.specs.Values.{Rec, GroupItem}

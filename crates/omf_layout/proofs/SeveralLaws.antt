@@ -5,6 +5,7 @@ pub mod LayingLaws
 pub mod OrderedLaws
 pub mod ApartLaws
 pub mod OnceLaws
+pub mod NamelessLaws
 pub mod LowLaws
 pub mod FoundLaws
 pub mod FitLaws

@@ -16,4 +16,4 @@ pub use gathering::gather;
 pub use laying::Lying;
 pub use placing::place_segments;
 pub use portion::{Classed, Combination, Portion, portions_of};
-pub use runs::{combined_by, runs_in};
+pub use runs::{combined_by, runs_of};

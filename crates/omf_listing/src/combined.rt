@@ -7,7 +7,7 @@ ghost use Rattle.omf_listing.specs.Combined.{by_start, combined_in, combined_seg
 ghost use Rattle.omf_listing.specs.Sorted.{AreSorted};
 
 use omf_check::Checked;
-use omf_layout::several::{Combination, Portion, combined_by, portions_of, runs_in};
+use omf_layout::several::{Combination, Portion, combined_by, runs_of};
 use omf_placement::{Placed, Placement};
 use std::alloc::{AllocError, Global};
 use std::cmp::Ordering;
@@ -195,7 +195,7 @@ fn all_segments<'a>(
     requires { length modules.now < 2 ^ 32 }
     ensures { IfOk result (λ v. v.items ≡ combined_segments (typed_modules modules.entry.now) placements.now) }
 {
-    let runs = runs_in(alloc, portions_of(alloc, modules)?)?;
+    let runs = runs_of(alloc, modules)?;
     segments_of(alloc, modules, placements, &runs)
 }
 

@@ -11,7 +11,7 @@ ghost use Rattle.omf_warnings.specs.Frames.{all_groups, differs, first_groups, f
 
 use crate::spans::name_at;
 use omf_check::Checked;
-use omf_layout::several::{Combination, Portion, combined_by, gather, portions_of, runs_in};
+use omf_layout::several::{Combination, Portion, combined_by, gather, runs_of};
 use omf_placement::{Frame, Placement};
 use omf_records::Rec;
 use omf_reloc::Kind;
@@ -147,7 +147,7 @@ fn first_parts(
     requires { length modules.now < 2 ^ 32 }
     ensures { IfOk result (λ o. o ≡ first_parts (typed_modules modules.now) placements.now) }
 {
-    let runs = runs_in(alloc, portions_of(alloc, modules)?)?;
+    let runs = runs_of(alloc, modules)?;
     in_runs(alloc, placements, &runs)
 }
 

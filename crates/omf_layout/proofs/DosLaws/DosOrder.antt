@@ -1,5 +1,5 @@
 -- With the module for DOS order in front, runs are in DOS order.
-use Rattle.std.proofs.Common.{◌≡◌, ℕ, ◌+◌, List, [], ◌∷◌, ◌++◌, Bool, true, false, refl, sym, ap, ap₂, ◌∙◌, inl, inr, append-nil, append_assoc, arith}
+use Rattle.std.proofs.Common.{◌≡◌, ℕ, ◌+◌, List, [], ◌∷◌, ◌++◌, Bool, true, false, refl, sym, ap, ap₂, ◌∙◌, subst, inl, inr, append-nil, append_assoc, arith}
 use Rattle.std.specs.Prelude.{map, flat_map, not, cond, ◌==◌, ⊤, Some, is_some, codes}
 use Rattle.std.specs.List.{filter, zip, enumerate_from}
 use Rattle.std.proofs.lemmas.Bool.{cond-true, cond-false, cases_Bool, eqb-true, false_from_ne_true, true≢false}
@@ -12,15 +12,15 @@ use Rattle.omf_layout.specs.declared.own.slots.DosPart.{DosPart}
 use Rattle.omf_layout.specs.declared.own.slots.DosPart.TheVariants as part
 use Rattle.omf_layout.specs.declared.several.portion.Portion.{Portion}
 use Rattle.omf_layout.specs.Several.Gathered.{of_name, value_of}
-use Rattle.omf_layout.specs.Several.Order.{runs, runs_in}
-use Rattle.omf_layout.specs.Several.Portions.{Named, Classed, classed, portions_in}
+use Rattle.omf_layout.specs.Several.Order.{is_named, nameless_last, runs, runs_in}
+use Rattle.omf_layout.specs.Several.Portions.{Named, Classed, classed, portions, portions_in}
 use Rattle.omf_layout.specs.Own.Communals.{are_grouped}
 use Rattle.omf_layout.specs.Own.Order.{bss_slots, data_slots, dgroup_classes, dos_slots, first_of, has_name, in_part, is_same_part, marker, order_records, part_of, slots}
 use Rattle.omf_layout.specs.Own.Ordered.{HasSegmentsOf, IsDosOrder, in_next_module, dos_parts, dos_runs, is_laid, is_run_in, without_first}
 use Rattle.omf_layout.proofs.SeveralLaws.ApartLaws.{Each, each-weaker}
 use Rattle.omf_layout.proofs.SeveralLaws.GatherLaws.{Name}
 use Rattle.omf_layout.proofs.SeveralLaws.OrderLaws.{of-name-seen, map-map}
-use Rattle.omf_layout.proofs.DosLaws.FrontLaws.{keys-in-front, slot_key}
+use Rattle.omf_layout.proofs.DosLaws.FrontLaws.{all, front-named, front-segments, keys-in-front, slot_key}
 use Rattle.omf_layout.proofs.DosLaws.KeyLaws.{In, Key, Tidy, append-known, apart, each-append, each-filtered, each-passes, filter-all, filter-none, in-left, in-right, insert, left-out, sorted, sorted-tidy, taken, tidy-both, tidy-filter, tidy-sorted}
 use Rattle.omf_layout.proofs.DosLaws.PartLaws.{each-run, good, in-its-part, is_in, keys-in-part, other-part, part_keys, parts-apart, ps, runs-of-part, same-itself, slot_keys}
 use Rattle.omf_layout.proofs.DosLaws.RunLaws.{key, run_of, runs-sorted}
@@ -271,9 +271,35 @@ laid-after (p ∷ run) = elim (cases_Bool (not (is_some p.segment.absolute))) [
       ∙ laid-after run ∙ sym (ap is_some (cond-false (not (is_some p.segment.absolute)) (Some p) (first_of run) n))
 ]
 
+-- Segments with names stay in front of others.
+named-front : (xs ys : List (Classed Portion)) → Each (λ (x : Classed Portion). is_named x.1.1 ≡ true) xs → nameless_last (xs ++ ys) ≡ xs ++ nameless_last ys
+named-front xs ys e =
+    let named : Classed Portion → Bool = λ x. is_named x.1.1 in
+    let other : Classed Portion → Bool = λ x. not (is_named x.1.1) in
+    ap₂ (λ us vs. us ++ vs)
+    (filter-append named xs ys ∙ ap (λ us. us ++ filter named ys) (filter-all named xs e))
+    (filter-append other xs ys ∙ ap (λ us. us ++ filter other ys) (filter-none other xs (each-weaker (λ x. named x ≡ true) (λ x. other x ≡ false) (λ x y. ap not y) xs e)))
+    ∙ append_assoc xs (filter named ys) (filter other ys)
+
+pub later-parted : (zs : List (Classed Portion)) → map later (nameless_last zs) ≡ nameless_last (map later zs)
+later-parted zs =
+    let named : Classed Portion → Bool = λ x. is_named x.1.1 in
+    let other : Classed Portion → Bool = λ x. not (is_named x.1.1) in
+    map-append later (filter named zs) (filter other zs)
+    ∙ ap₂ (λ us vs. us ++ vs) (sym (filter-through named later named (λ x. refl) zs)) (sym (filter-through other later other (λ x. refl) zs))
+
+-- A module in front whose segments all have names.
+pub named-in-front : (ms : List (List Rec)) (m : List Rec) → Each (λ (x : Classed Portion). is_named x.1.1 ≡ true) (portions_in (0, m))
+    → nameless_last (portions (m ∷ ms)) ≡ portions_in (0, m) ++ map later (ps ms)
+named-in-front ms m e =
+    ap (λ zs. nameless_last (portions_in (0, m) ++ zs)) (numbered 0 ms) ∙ named-front (portions_in (0, m)) (map later (portions ms)) e
+    ∙ ap (λ zs. portions_in (0, m) ++ zs) (sym (later-parted (portions ms)))
+
 -- All runs, and those in DOS order, by their keys.
-pub runs-all : (ms : List (List Rec)) (m : List Rec) → runs (m ∷ ms) ≡ map (run_of (portions_in (0, m) ++ map later (ps ms))) (sorted (map key (portions_in (0, m) ++ map later (ps ms))))
-runs-all ms m = ap (λ zs. runs_in (portions_in (0, m) ++ zs)) (numbered 0 ms) ∙ runs-sorted (portions_in (0, m) ++ map later (ps ms))
+pub runs-all : (ms : List (List Rec)) (m : List Rec) → HasSegmentsOf (order_records ms) m → runs (m ∷ ms) ≡ map (run_of (portions_in (0, m) ++ map later (ps ms))) (sorted (map key (portions_in (0, m) ++ map later (ps ms))))
+runs-all ms m h =
+    ap runs_in (named-in-front ms m (subst (Each (λ (x : Classed Portion). is_named x.1.1 ≡ true)) (sym (front-segments ms m h)) (front-named m 1 0 (all ms))))
+    ∙ runs-sorted (portions_in (0, m) ++ map later (ps ms))
 
 pub keys-parted : (ms : List (List Rec)) (m : List Rec) → HasSegmentsOf (order_records ms) m → filter (good ms) (sorted (map key (portions_in (0, m) ++ map later (ps ms)))) ≡ parted ms
 keys-parted ms m h =
@@ -289,7 +315,7 @@ dos-order ms m h =
     let whole = run_of (portions_in (0, m) ++ map later xs) in
     let all_keys = sorted (map key (portions_in (0, m) ++ map later xs)) in
     let run = λ (k : Key). map in_next_module (run_of xs k) in
-    ap (λ rs. filter is_laid (map without_first rs)) (runs-all ms m)
+    ap (λ rs. filter is_laid (map without_first rs)) (runs-all ms m h)
     ∙ ap (filter is_laid) (map-map without_first whole all_keys ∙ map-same (λ k. without_first (whole k)) run (run-without m xs) all_keys)
     ∙ filter-through is_laid run (good ms) (λ k. laid-after (run_of xs k)) all_keys
     ∙ ap (map run) (keys-parted ms m h) ∙ runs-parted ms

@@ -17,8 +17,8 @@ use Rattle.omf_layout.specs.declared.own.slots.DosPart.{DosPart}
 use Rattle.omf_layout.specs.declared.own.slots.DosPart.TheVariants as part
 use Rattle.omf_layout.specs.declared.own.slots.Slot.{Slot}
 use Rattle.omf_layout.specs.Several.Gathered.{of_name}
-use Rattle.omf_layout.specs.Several.Order.{runs}
-use Rattle.omf_layout.specs.Several.Portions.{Classed, classed, combination_named, portions_in}
+use Rattle.omf_layout.specs.Several.Order.{is_named, runs}
+use Rattle.omf_layout.specs.Several.Portions.{Classed, classed, combination_named, portions, portions_in}
 use Rattle.omf_layout.specs.Own.Communals.{are_grouped}
 use Rattle.omf_layout.specs.Own.Order.{alignment_bits, bss_names, bss_slots, combination_bits, data_names, data_slots, dos_slots, end_publics, first_of, has_name, in_part, is_block, is_same_part, marker, missing, order_group, order_records, slot, slots, slots_records}
 use Rattle.omf_layout.specs.Own.Written.{end_record, raisings}
@@ -27,7 +27,8 @@ use Rattle.omf_layout.proofs.SeveralLaws.ApartLaws.{Each, each-at}
 use Rattle.omf_layout.proofs.SeveralLaws.GatherLaws.{Name, same}
 use Rattle.omf_layout.proofs.DosLaws.FrontLaws.{all, flags, front, front-segments, info, infos, keys-in-front, order-raised, order-segments, slot_key}
 use Rattle.omf_layout.proofs.RaisedLaws.{AreRaisedFrom, all-raised}
-use Rattle.omf_layout.proofs.DosLaws.KeyLaws.{Key, each-append, each-filtered, left-out, sorted, taken}
+use Rattle.omf_layout.proofs.SeveralLaws.FoundLaws.{each-parted}
+use Rattle.omf_layout.proofs.DosLaws.KeyLaws.{Key, each-append, each-filtered, filter-none, left-out, sorted, taken}
 use Rattle.omf_layout.proofs.DosLaws.PartLaws.{each-run, first-key, ps}
 use Rattle.omf_layout.proofs.DosLaws.RunLaws.{key, run_of, runs-sorted}
 
@@ -147,6 +148,16 @@ module _ (ms : List (List Rec)) where
           ]
     ]
 
+    none-passes : (xs : List (Classed Portion)) → filter is_end xs ≡ [] → Each (λ x. is_end x ≡ false) xs
+    none-passes [] h = tt
+    none-passes (x ∷ xs) h = elim (cases_Bool (is_end x)) [
+      | inl y ↦ absurd (some-none x (filter is_end xs) (sym (taken is_end x xs y) ∙ h))
+      | inr n ↦ (n, none-passes xs (sym (left-out is_end x xs n) ∙ h))
+    ]
+
+    none-laid : filter is_end (ps ms) ≡ []
+    none-laid = filter-none is_end (ps ms) (each-parted (λ x. is_end x ≡ false) (λ x. is_named x.1.1) (portions ms) (none-passes (portions ms) none))
+
     mark-for : (c : Name) → run_of (ps ms) (c, c) ≡ [] → IsByteFor (first (c, c)) false 0x28
     mark-for c e = subst (λ o. IsByteFor o false 0x28) (sym (ap first_of e)) (byte-of align.Byte comb.Joined)
 
@@ -156,8 +167,8 @@ module _ (ms : List (List Rec)) where
 
     dos-all : (g : Bool) → Each IsSlot (dos_slots g (slots ms))
     dos-all g =
-        each-in-dos IsSlot (slots ms) all-slots g (marks g (codes "END OF DATA") (none-in (ps ms) none (codes "END OF DATA") refl))
-        (marks g (codes "END OF BSS") (none-in (ps ms) none (codes "END OF BSS") refl))
+        each-in-dos IsSlot (slots ms) all-slots g (marks g (codes "END OF DATA") (none-in (ps ms) none-laid (codes "END OF DATA") refl))
+        (marks g (codes "END OF BSS") (none-in (ps ms) none-laid (codes "END OF BSS") refl))
 
     -- Its segments.
     abbrev IsFront : Classed Portion → Type 0

@@ -1,7 +1,8 @@
 -- The segments of the module for DOS order.
-use Rattle.std.proofs.Common.{◌≡◌, ℕ, ◌+◌, ◌*◌, List, [], ◌∷◌, ◌++◌, length, Bool, true, false, refl, sym, ap, ap₂, ◌∙◌, append-nil, append_assoc, length-append, arith}
-use Rattle.std.specs.Prelude.{map, Some, None, slice_get, unwrap_or}
+use Rattle.std.proofs.Common.{◌≡◌, ℕ, ◌+◌, ◌*◌, List, [], ◌∷◌, ◌++◌, length, Bool, true, false, refl, sym, ap, ap₂, ◌∙◌, inl, inr, append-nil, append_assoc, length-append, arith}
+use Rattle.std.specs.Prelude.{map, not, ◌==◌, Some, None, slice_get, unwrap_or}
 use Rattle.std.specs.List.{zip, enumerate_from}
+use Rattle.std.proofs.lemmas.Bool.{cases_Bool, eqb-true}
 use Rattle.std.proofs.lemmas.Grind.{flat_map-append}
 use Rattle.omf_records.specs.Values.{Rec}
 use Rattle.omf_check.specs.Tables.{attributes, attributes_in, defined_names, defined_segments, entry, names, segment_length, segments}
@@ -9,6 +10,7 @@ use Rattle.omf_check.specs.declared.segment.SegInfo.{SegInfo}
 use Rattle.omf_placement.proofs.ListLaws.{entry-at}
 use Rattle.omf_layout.specs.declared.own.slots.Slot.{Slot}
 use Rattle.omf_layout.specs.declared.several.portion.Portion.{Portion}
+use Rattle.omf_layout.specs.Several.Order.{is_named}
 use Rattle.omf_layout.specs.Several.Portions.{Classed, classed, name_at, portions_in}
 use Rattle.omf_layout.specs.Own.Communals.{are_grouped}
 use Rattle.omf_layout.specs.Own.Order.{bss_names, bss_slots, data_names, data_slots, dos_slots, end_publics, missing, order_group, order_records, raise_records, slots, slots_records}
@@ -16,6 +18,7 @@ use Rattle.omf_layout.specs.Own.Ordered.{HasSegmentsOf}
 use Rattle.omf_layout.specs.Own.Written.{end_record, segment}
 use Rattle.omf_layout.specs.Wants.{raised, raised_by}
 use Rattle.omf_layout.proofs.RaisedLaws.{raised_from, raisings-attributes, raisings-raise, raisings-segments}
+use Rattle.omf_layout.proofs.SeveralLaws.ApartLaws.{Each}
 use Rattle.omf_layout.proofs.SeveralLaws.GatherLaws.{Name}
 use Rattle.omf_layout.proofs.DosLaws.KeyLaws.{Key}
 use Rattle.omf_layout.proofs.DosLaws.RunLaws.{key}
@@ -143,6 +146,17 @@ front-all m i j (s ∷ ss) = ap (λ xs. classed m 0 (i, (info j s, s.attribute))
 pub front-segments : (ms : List (List Rec)) (m : List Rec) → HasSegmentsOf (order_records ms) m → portions_in (0, m) ≡ front m 1 0 (all ms)
 front-segments ms m h =
     ap₂ (λ ss bs. map (classed m 0) (enumerate_from 1 (zip ss bs))) (h.segments ∙ order-segments ms) (h.attributes ∙ order-attributes ms) ∙ front-all m 1 0 (all ms)
+
+-- Each has a name.
+pub front-named : (m : List Rec) (i j : ℕ) (ss : List Slot) → Each (λ (x : Classed Portion). is_named x.1.1 ≡ true) (front m i j ss)
+front-named m i j [] = tt
+front-named m i j (s ∷ ss) = (
+  elim (cases_Bool (2 * j + 2 == 0)) [
+    | inl y ↦ absurd (let e = eqb-true (2 * j + 2) 0 y in omega (arith, e))
+    | inr n ↦ ap not n
+  ],
+  front-named m (i + 1) (j + 1) ss,
+)
 
 -- Their names.
 at-end : {A : Type 0} (xs : List A) (y : A) (ys : List A) → slice_get (xs ++ y ∷ ys) (length xs) ≡ Some y

@@ -62,6 +62,6 @@ module _ (frames : Frames) (ms : List (List Rec)) (m : List Rec) (h : HasSegment
 pub order-alone : IsOrderAlone
 order-alone o ms m l h none e =
     let ks = sorted (map key (portions_in (0, m) ++ map later (ps ms))) in
-    let k = keeps-all o.frames ms m h none o.base ks l (ap (runs_laid o.frames o.base) (sym (runs-all ms m)) ∙ e) in
+    let k = keeps-all o.frames ms m h none o.base ks l (ap (runs_laid o.frames o.base) (sym (runs-all ms m h)) ∙ e) in
     let same = ap (map (run ms)) (keys-parted ms m h) ∙ runs-parted ms in
     record { alone = k.alone; laid = ap (runs_laid o.frames o.base) (sym same) ∙ k.laid; places = k.places; free = k.free }

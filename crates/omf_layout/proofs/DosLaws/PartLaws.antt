@@ -12,11 +12,12 @@ use Rattle.omf_layout.specs.declared.own.slots.DosPart.{DosPart}
 use Rattle.omf_layout.specs.declared.own.slots.DosPart.TheVariants as part
 use Rattle.omf_layout.specs.declared.several.portion.Portion.{Portion}
 use Rattle.omf_layout.specs.Several.Gathered.{of_name}
-use Rattle.omf_layout.specs.Several.Order.{runs}
+use Rattle.omf_layout.specs.Several.Order.{is_named, nameless_last, runs}
 use Rattle.omf_layout.specs.Several.Portions.{Named, Classed, classed, name_at, portions, portions_in}
 use Rattle.omf_layout.specs.Own.Order.{dgroup_classes, first_of, in_part, is_same_part, module_at, part_of, slot, slots}
 use Rattle.omf_layout.specs.Own.Ordered.{is_laid, is_run_in}
 use Rattle.omf_layout.proofs.SeveralLaws.ApartLaws.{Each}
+use Rattle.omf_layout.proofs.SeveralLaws.FoundLaws.{each-parted}
 use Rattle.omf_layout.proofs.SeveralLaws.GatherLaws.{Name, same}
 use Rattle.omf_layout.proofs.DosLaws.FrontLaws.{slot_key}
 use Rattle.omf_layout.proofs.DosLaws.KeyLaws.{Key, In, apart, beside, each-append, in-filtered, in-left, in-right, left-out, sorted, taken}
@@ -118,14 +119,17 @@ each-found P t (y ∷ ys) x e h = elim (cases_Bool (t y)) [
 
 module _ (ms : List (List Rec)) where
   abbrev pub ps : List (Classed Portion)
-  ps = portions ms
+  ps = nameless_last (portions ms)
+
+  have-run-keys : Each (HasKey ms) ps
+  have-run-keys = each-parted (HasKey ms) (λ x. is_named x.1.1) (portions ms) (have-keys ms)
 
   -- A run has a segment that is not absolute.
   abbrev pub good : Key → Bool
   good k = is_laid (run_of ps k)
 
   pub first-key : (k : Key) (p : Portion) → first_of (run_of ps k) ≡ Some p → k ≡ slot_key (slot ms p)
-  first-key k p h = each-found (λ q. k ≡ slot_key (slot ms q)) (λ q. not (is_some q.segment.absolute)) (run_of ps k) p (each-run (HasKey ms) ps k (have-keys ms)) h
+  first-key k p h = each-found (λ q. k ≡ slot_key (slot ms q)) (λ q. not (is_some q.segment.absolute)) (run_of ps k) p (each-run (HasKey ms) ps k have-run-keys) h
 
   slots-of : (ks : List Key) → map slot_key (map (slot ms) (filter_map first_of (map (run_of ps) ks))) ≡ filter good ks
   slots-of [] = refl

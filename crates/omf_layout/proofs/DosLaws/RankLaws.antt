@@ -12,14 +12,15 @@ use Rattle.omf_layout.specs.declared.several.portion.Combination.TheVariants.{Jo
 use Rattle.omf_layout.specs.declared.several.portion.Portion.{Portion}
 use Rattle.omf_layout.specs.Several.Laws.{IsRelocatable}
 use Rattle.omf_layout.specs.Several.Laying.{Lying, laid, run_laid, runs_laid}
-use Rattle.omf_layout.specs.Several.Order.{combined_by, in_order}
+use Rattle.omf_layout.specs.Several.Order.{combined_by, in_order, is_named}
 use Rattle.omf_layout.specs.Several.Portions.{Classed, portions, portions_in}
 use Rattle.omf_layout.specs.Own.Order.{dgroup_classes, first_of, part_of, slot}
 use Rattle.omf_layout.specs.Own.Ordered.{ArePartsApart, in_next_module, dos_parts, is_moved, part_in, rank}
 use Rattle.omf_layout.proofs.FitLaws.{map_some}
 use Rattle.omf_layout.proofs.SeveralLaws.ApartLaws.{Each, LiesWell, each-at, each-weaker, run-well, runs-well}
 use Rattle.omf_layout.proofs.SeveralLaws.OrderedLaws.{those-in-run}
-use Rattle.omf_layout.proofs.DosLaws.DosOrder.{each-any, each-in, keys, keys-parted, later, numbered, of-first, parted, run-both, run-later, runs-all}
+use Rattle.omf_layout.proofs.SeveralLaws.FoundLaws.{each-parted}
+use Rattle.omf_layout.proofs.DosLaws.DosOrder.{each-any, each-in, keys, keys-parted, later, later-parted, numbered, of-first, parted, run-both, run-later, runs-all}
 use Rattle.omf_layout.proofs.DosLaws.FrontLaws.{slot_key}
 use Rattle.omf_layout.proofs.DosLaws.KeyLaws.{Key, each-append, each-filtered, left-out, sorted, taken}
 use Rattle.omf_layout.proofs.DosLaws.PartLaws.{each-run, good, have-keys, is_in, ps, same-part}
@@ -41,6 +42,10 @@ each-two : {A : Type 0} (P Q : A → Type 0) (R : A → A → Type 0) → ((x y 
 each-two P Q R w [] ys e f = tt
 each-two P Q R w (x ∷ xs) ys e f = (each-weaker Q (R x) (λ y q. w x y e.0 q) ys f, each-two P Q R w xs ys e.1 f)
 
+each-split : {A : Type 0} (P : A → Type 0) (xs ys : List A) → Each P (xs ++ ys) → Each P xs × Each P ys
+each-split P [] ys e = (tt, e)
+each-split P (x ∷ xs) ys e = let rest = each-split P xs ys e.1 in ((e.0, rest.0), rest.1)
+
 each-of-map : {A B : Type 0} (P : B → Type 0) (f : A → B) (xs : List A) → Each P (map f xs) → Each (λ x. P (f x)) xs
 each-of-map P f [] e = tt
 each-of-map P f (x ∷ xs) e = (e.0, each-of-map P f xs e.1)
@@ -61,11 +66,17 @@ module _ (ms : List (List Rec)) (m : List Rec) where
 
   -- ---- What is laid of a run is of the run's part
 
+  abbrev HasSlotKey : Classed Portion → Type 0
+  HasSlotKey x = key x ≡ slot_key (slot (m ∷ ms) x.1.1)
+
+  split : Each HasSlotKey (portions_in (0, m)) × Each HasSlotKey (map later (portions ms))
+  split = each-split HasSlotKey (portions_in (0, m)) (map later (portions ms)) (subst (Each HasSlotKey) (ap (λ zs. portions_in (0, m) ++ zs) (numbered 0 ms)) (have-keys (m ∷ ms)))
+
   ranks-of : (k : Key) → Each (λ p. of-key k ≡ rank (part_in ms m p)) (whole k)
   ranks-of k =
       each-weaker (λ p. k ≡ slot_key (slot (m ∷ ms) p)) (λ p. of-key k ≡ rank (part_in ms m p)) (λ p e. ap of-key e) (whole k)
-      (subst (λ xs. Each (λ p. k ≡ slot_key (slot (m ∷ ms) p)) (run_of xs k)) (ap (λ zs. portions_in (0, m) ++ zs) (numbered 0 ms))
-      (each-run (λ (x : Classed Portion). key x ≡ slot_key (slot (m ∷ ms) x.1.1)) (portions (m ∷ ms)) k (have-keys (m ∷ ms))))
+      (each-run HasSlotKey (portions_in (0, m) ++ map later (ps ms)) k (each-append HasSlotKey (portions_in (0, m)) (map later (ps ms)) split.0
+      (subst (Each HasSlotKey) (sym (later-parted (portions ms))) (each-parted HasSlotKey (λ x. is_named x.1.1) (map later (portions ms)) split.1))))
 
   abbrev moves : Portion → Bool
   moves p = not (p.«module» == 0) && not (is_some p.segment.absolute)
@@ -214,5 +225,5 @@ pub parts-lie-apart : ArePartsApart
 parts-lie-apart o ms m l h e i j x y ex ey mx my lt =
     let ks = sorted (map key (portions_in (0, m) ++ map later (ps ms))) in
     let ranked = subst (Ranked ms m o.frames) (sym (keys-parted ms m h)) (ranked-dos ms m o.frames) in
-    let all = all-after ms m o.frames ks o.base l ranked (ap (runs_laid o.frames o.base) (sym (runs-all ms m)) ∙ e) in
+    let all = all-after ms m o.frames ks o.base l ranked (ap (runs_laid o.frames o.base) (sym (runs-all ms m h)) ∙ e) in
     each-at (IsAfter ms m x) l.what (each-at (λ z. Each (IsAfter ms m z) l.what) l.what all i x ex) j y ey mx my lt

@@ -256,4 +256,4 @@ order-fits o ms m a h none e low =
     let ks = sorted (map key (portions_in (0, m) ++ map later (ps ms))) in
     let same = ap (map (run ms)) (keys-parted ms m h) ∙ runs-parted ms in
     let f = all-fit o.frames ms m h none ks o.base a (ap (runs_laid o.frames o.base) same ∙ e) low in
-    ap is_some (ap (runs_laid o.frames o.base) (runs-all ms m) ∙ f.is)
+    ap is_some (ap (runs_laid o.frames o.base) (runs-all ms m h) ∙ f.is)

@@ -1,6 +1,6 @@
 -- Each segment is found among those that are laid.
 use Rattle.std.proofs.Common.{◌≡◌, ℕ, zero, suc, ◌+◌, ◌<◌, ◌≤◌, List, [], ◌∷◌, ◌++◌, length, Bool, true, refl, sym, ap, ap₂, ◌∙◌, subst, inl, inr, get_or, arith}
-use Rattle.std.specs.Prelude.{map, flat_map, find, Some, None, option_map, slice_get, bytes_eq, ◌==◌, ◌&&◌}
+use Rattle.std.specs.Prelude.{map, flat_map, not, find, Some, None, option_map, slice_get, bytes_eq, ◌==◌, ◌&&◌}
 use Rattle.std.specs.List.{filter, zip, enumerate_from, cons_option}
 use Rattle.std.proofs.lemmas.Bool.{cond-true, cond-false, cases_Bool, eq-eqb, eqb-true, and_parts, and_from}
 use Rattle.std.proofs.lemmas.Option.{none-some, same_Some, slice_get-get_or}
@@ -17,7 +17,7 @@ use Rattle.omf_layout.specs.declared.several.portion.Portion.{Portion}
 use Rattle.omf_layout.specs.Several.Gathered.{distinct, of_name, names_in, gathered}
 use Rattle.omf_layout.specs.Several.Laws.{count, IsLaidAt, IsToldBy, SegmentsAreFound}
 use Rattle.omf_layout.specs.Several.Laying.{Lying, arranged}
-use Rattle.omf_layout.specs.Several.Order.{runs_in, runs, combined_by, in_order}
+use Rattle.omf_layout.specs.Several.Order.{runs_in, runs, is_named, nameless_last, combined_by, in_order}
 use Rattle.omf_layout.specs.Several.Placing.{is_of}
 use Rattle.omf_layout.specs.Several.Portions.{Named, Classed, classed, portion, portions_in, portions}
 use Rattle.omf_layout.proofs.SeveralLaws.ApartLaws.{Each, each-at, each-both}
@@ -89,6 +89,17 @@ portion-there ms j k m s e g =
     subst (λ n. 1 ≤ n) (sym (count-seen (is_this j (k + 1)) (λ x. x.1.1) (portions ms)))
     (counted-in (λ (x : Classed Portion). is_this j (k + 1) x.1.1) portions_in (enumerate_from 0 ms) j (j, m) there inside)
 
+-- What holds of all holds of those that pass a test, and of these with the others after them.
+each-passing : {A : Type 0} (Q : A → Type 0) (t : A → Bool) (xs : List A) → Each Q xs → Each Q (filter t xs)
+each-passing Q t [] e = tt
+each-passing Q t (x ∷ xs) e = elim (cases_Bool (t x)) [
+  | inl y ↦ subst (Each Q) (sym (cond-true (t x) (x ∷ filter t xs) (filter t xs) y)) (e.0, each-passing Q t xs e.1)
+  | inr n ↦ subst (Each Q) (sym (cond-false (t x) (x ∷ filter t xs) (filter t xs) n)) (each-passing Q t xs e.1)
+]
+
+pub each-parted : {A : Type 0} (Q : A → Type 0) (s : A → Bool) (xs : List A) → Each Q xs → Each Q (filter s xs ++ filter (λ x. not (s x)) xs)
+each-parted Q s xs e = each-both Q (filter s xs) (filter (λ x. not (s x)) xs) (each-passing Q s xs e) (each-passing Q (λ x. not (s x)) xs e)
+
 -- What holds of each segment also holds in the order.
 module _ (P : Portion → Type 0) where
   each-flat : {A B : Type 0} (Q : A → Type 0) (R : B → Type 0) (h : A → List B) → ((x : A) → Q x → Each R (h x)) → (xs : List A) → Each Q xs → Each R (flat_map h xs)
@@ -111,22 +122,17 @@ module _ (P : Portion → Type 0) where
   each-runs : (xs : List (Classed Portion)) → Each (λ (x : Classed Portion). P x.1.1) xs → Each (Each P) (runs_in xs)
   each-runs xs e = each-flat (Each (λ (y : Named Portion). P y.1)) (Each P) gathered (λ c q. each-gathered P c q) (gathered xs) (each-gathered (λ (y : Named Portion). P y.1) xs e)
 
-  each-kept : (t : Portion → Bool) (ps : List Portion) → Each P ps → Each P (filter t ps)
-  each-kept t [] e = tt
-  each-kept t (p ∷ ps) e = elim (cases_Bool (t p)) [
-    | inl y ↦ subst (Each P) (sym (cond-true (t p) (p ∷ filter t ps) (filter t ps) y)) (e.0, each-kept t ps e.1)
-    | inr n ↦ subst (Each P) (sym (cond-false (t p) (p ∷ filter t ps) (filter t ps) n)) (each-kept t ps e.1)
-  ]
-
   each-by : (c : Combination) (run : List Portion) → Each P run → Each P (combined_by c run)
-  each-by c run e = each-kept _ run e
+  each-by c run e = each-passing P _ run e
 
   each-run : (run : List Portion) → Each P run → Each P (in_order run)
   each-run run e = each-both P (combined_by Joined run) (combined_by Common run ++ combined_by Alone run) (each-by Joined run e)
       (each-both P (combined_by Common run) (combined_by Alone run) (each-by Common run e) (each-by Alone run e))
 
   each-in-order : (ms : List (List Rec)) → Each (λ (x : Classed Portion). P x.1.1) (portions ms) → Each P (flat_map in_order (runs ms))
-  each-in-order ms e = each-flat (Each P) P in_order each-run (runs ms) (each-runs (portions ms) e)
+  each-in-order ms e =
+      each-flat (Each P) P in_order each-run (runs ms) (each-runs (nameless_last (portions ms))
+      (each-parted (λ (x : Classed Portion). P x.1.1) (λ x. is_named x.1.1) (portions ms) e))
 
 -- Each is as its module's SEGDEF of its index defines it.
 module _ (ms : List (List Rec)) where

@@ -1,6 +1,6 @@
 -- Each segment is in the order as often as its module has it.
 use Rattle.std.proofs.Common.{◌≡◌, ℕ, ◌+◌, List, [], ◌∷◌, ◌++◌, length, Bool, true, false, refl, sym, ap, ap₂, ◌∙◌, subst, inl, inr, length-append, append_assoc, arith}
-use Rattle.std.specs.Prelude.{map, flat_map, Some, None, cond, bytes_eq, ◌||◌}
+use Rattle.std.specs.Prelude.{map, flat_map, not, Some, None, cond, bytes_eq, ◌||◌}
 use Rattle.std.specs.List.{filter, cons_option}
 use Rattle.std.proofs.lemmas.Bool.{cond-true, cond-false, cases_Bool, or_parts}
 use Rattle.std.proofs.lemmas.List.Elements.{filter-append}
@@ -9,7 +9,7 @@ use Rattle.omf_layout.specs.declared.several.portion.Combination.TheVariants.{Jo
 use Rattle.omf_layout.specs.declared.several.portion.Portion.{Portion}
 use Rattle.omf_layout.specs.Several.Gathered.{distinct, of_name, names_in, gathered}
 use Rattle.omf_layout.specs.Several.Laws.{count, OrderedOnce}
-use Rattle.omf_layout.specs.Several.Order.{runs_in, runs, lies_by, is_same_combination, combined_by, in_order}
+use Rattle.omf_layout.specs.Several.Order.{runs_in, runs, is_named, nameless_last, lies_by, is_same_combination, combined_by, in_order}
 use Rattle.omf_layout.specs.Several.Portions.{Named, Classed, portions}
 use Rattle.omf_layout.proofs.SeveralLaws.GatherLaws.{Name, has, other, same, itself, back, dropped, kept, has-self, has-distinct, Once, once-distinct, of-none}
 
@@ -23,6 +23,26 @@ count-seen t f (x ∷ xs) =
       one : (b : Bool) → length (cond b (f x ∷ []) []) ≡ length (cond b (x ∷ []) [])
       one true = refl
       one false = refl
+
+-- What passes a test, and then what does not.
+count-parted : {A : Type 0} (t s : A → Bool) (xs : List A) → count t (filter s xs ++ filter (λ x. not (s x)) xs) ≡ count t xs
+count-parted t s [] = refl
+count-parted {A} t s (x ∷ xs) =
+    let fails : A → Bool = λ y. not (s y) in
+    let rest = count-parted t s xs in
+    let all = count-both t (x ∷ []) xs in
+    let both = count-both t (filter s xs) (filter fails xs) in
+    elim (cases_Bool (s x)) [
+      | inl y ↦
+          let split = ap₂ (λ us vs. count t (us ++ vs)) (cond-true (s x) (x ∷ filter s xs) (filter s xs) y) (cond-false (fails x) (x ∷ filter fails xs) (filter fails xs) (ap not y)) in
+          let first = count-both t (x ∷ []) (filter s xs ++ filter fails xs) in
+          omega (arith, rest, all, split, first)
+      | inr n ↦
+          let split = ap₂ (λ us vs. count t (us ++ vs)) (cond-false (s x) (x ∷ filter s xs) (filter s xs) n) (cond-true (fails x) (x ∷ filter fails xs) (filter fails xs) (ap not n)) in
+          let first = count-both t (filter s xs) (x ∷ filter fails xs) in
+          let one = count-both t (x ∷ []) (filter fails xs) in
+          omega (arith, rest, all, both, split, first, one)
+    ]
 
 -- A name that does not appear is not filtered out.
 all-kept : (n : Name) (ns : List Name) → has n ns ≡ false → filter (other n) ns ≡ ns
@@ -126,4 +146,7 @@ module _ (t : Portion → Bool) where
   all-in-order (r ∷ rs) = count-both t (in_order r) (flat_map in_order rs) ∙ ap₂ (λ a b. a + b) (in-order r) (all-in-order rs) ∙ sym (count-both t r (flat_map (λ r. r) rs))
 
 pub ordered-once : OrderedOnce
-ordered-once ms t = all-in-order t (runs ms) ∙ runs-once t (portions ms)
+ordered-once ms t =
+    let portion : Classed Portion → Portion = λ x. x.1.1 in
+    all-in-order t (runs ms) ∙ runs-once t (nameless_last (portions ms)) ∙ count-seen t portion (nameless_last (portions ms))
+    ∙ count-parted (λ x. t (portion x)) (λ x. is_named (portion x)) (portions ms) ∙ sym (count-seen t portion (portions ms))

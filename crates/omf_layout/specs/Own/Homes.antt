@@ -1,5 +1,5 @@
 -- Where the near communals of a program are (this profile's rule).
-use Rattle.std.specs.Prelude.{ℕ, List, [], ◌∷◌, ◌==◌, ◌&&◌, find, Bool, true, false, Option, Some, None, option_and_then, option_map, unwrap_or, nat_le, codes, bytes_eq, if◌then◌else◌}
+use Rattle.std.specs.Prelude.{ℕ, List, [], ◌∷◌, ◌==◌, ◌&&◌, find, Bool, false, Option, Some, None, option_and_then, option_map, nat_le, codes, bytes_eq, if◌then◌else◌}
 use Rattle.std.specs.List.{list_any}
 use Rattle.std.specs.Option.{option_map_or, option_or}
 use Rattle.omf_frame.specs.Bytes.{last}

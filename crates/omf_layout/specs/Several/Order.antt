@@ -1,5 +1,5 @@
 -- The order in which the segments of several modules are laid (this profile's rule).
-use Rattle.std.specs.Prelude.{ℕ, List, ◌++◌, map, flat_map, Bool, true, false, Option, Some, None}
+use Rattle.std.specs.Prelude.{ℕ, List, ◌++◌, map, flat_map, not, ◌==◌, Bool, true, false, Option, Some, None}
 use Rattle.std.specs.List.{filter}
 use Rattle.omf_records.specs.Values.{Rec}
 use Rattle.omf_layout.specs.declared.several.portion.Combination.{Combination}
@@ -12,8 +12,15 @@ use Rattle.omf_layout.specs.Several.Portions.{Classed, portions}
 abbrev pub runs_in : {A : Type 0} → List (Classed A) → List (List A)
 runs_in xs = flat_map gathered (gathered xs)
 
+-- A segment whose name index is 0 has no name. Linkers leave segments out so: such a one takes no part in the order of classes and names, and comes last.
+abbrev pub is_named : Portion → Bool
+is_named p = not (p.segment.name == 0)
+
+abbrev pub nameless_last : {A B : Type 0} → List (A × (B × Portion)) → List (A × (B × Portion))
+nameless_last ps = filter (λ x. is_named x.1.1) ps ++ filter (λ x. not (is_named x.1.1)) ps
+
 abbrev pub runs : List (List Rec) → List (List Portion)
-runs ms = runs_in (portions ms)
+runs ms = runs_in (nameless_last (portions ms))
 
 -- An absolute segment is alone, whatever its C field.
 abbrev pub lies_by : Option (ℕ × ℕ) → Combination → Combination

@@ -8,8 +8,8 @@ ghost use Rattle.omf_layout.specs.Own.Order.{IsNameTable, alignment_bits, bss_sl
 
 use crate::Alignment;
 use crate::own::dgroup::{NameTable, dgroup_classes};
-use crate::several::portion::{Combination, Portion, portions_of};
-use crate::several::runs::runs_in;
+use crate::several::portion::{Combination, Portion};
+use crate::several::runs::runs_of;
 use omf_check::{Checked, is_code_class};
 use omf_frame::Name;
 use omf_names::NameKey;
@@ -168,7 +168,7 @@ pub(crate) fn slots_of<'a>(
     ensures { IfOk result (λ v. v.items ≡ slots (typed_modules modules.entry.now)) }
 {
     let inside = dgroup_classes(alloc, modules)?;
-    let runs = runs_in(alloc, portions_of(alloc, modules)?)?;
+    let runs = runs_of(alloc, modules)?;
     slots_in(alloc, modules, &inside, &runs)
 }
 

@@ -9,8 +9,8 @@ ghost use Rattle.omf_layout.specs.Several.Portions.{with_names};
 ghost use Rattle.omf_check.specs.Module.{typed_modules};
 
 use crate::several::laying::{Lying, lay_run};
-use crate::several::portion::{Classed, portions_of};
-use crate::several::runs::runs_in;
+use crate::several::portion::Classed;
+use crate::several::runs::{portions_in_order, runs_in};
 use crate::{Frames, LayoutFault, Options};
 use omf_check::Checked;
 use std::alloc::Global;
@@ -60,6 +60,6 @@ pub fn arrange(
     ensures low { IfOk result (λ r. r.1 ≤ 2 ^ 32) }
     ensures from { IfOk result (λ r. options.base ≤ r.1) }
 {
-    let portions = portions_of(alloc, modules)?;
+    let portions = portions_in_order(alloc, modules)?;
     lay_portions(alloc, options.frames, u64::from(options.base), portions)
 }

@@ -51,7 +51,7 @@ pub struct Portion {
 }
 
 impl Portion {
-    ghost use Rattle.omf_layout.specs.Several.Order.{lies_by};
+    ghost use Rattle.omf_layout.specs.Several.Order.{is_named, lies_by};
 
     /// Returns how it combines: an absolute segment is alone, whatever its SEGDEF's C field.
     pub fn lies(&self) -> Combination
@@ -61,6 +61,13 @@ impl Portion {
             Some(_) => Combination::Alone,
             None => self.combination,
         }
+    }
+
+    /// Whether it has a name: its name index is not 0.
+    pub(crate) fn is_named(&self) -> bool
+        ensures { result ≡ is_named self.now }
+    {
+        self.segment.name != 0
     }
 }
 
