@@ -1,13 +1,13 @@
 -- A module without some of its segments is well-formed.
-use Rattle.std.proofs.Common.{◌≡◌, ℕ, zero, suc, ◌+◌, ◌-◌, ◌%◌, ◌<◌, ◌≤◌, ◌⊎◌, inl, inr, List, [], ◌∷◌, ◌++◌, length, refl, sym, ◌∙◌, ap, ap₂, subst, Bool, true, false, cond, arith, append_assoc, append-nil, length-append}
-use Rattle.std.specs.Prelude.{⊤, All, map, filter, filter_map, flat_map, not, sum, slice_index, IsTrue, ◌==◌, max, Option, Some, None}
+use Rattle.std.proofs.Common.{◌≡◌, ℕ, zero, suc, ◌+◌, ◌%◌, ◌<◌, ◌≤◌, ◌⊎◌, inl, inr, List, [], ◌∷◌, ◌++◌, length, refl, sym, ◌∙◌, ap, ap₂, subst, Bool, true, false, arith, append_assoc, append-nil, length-append}
+use Rattle.std.specs.Prelude.{⊤, All, map, filter_map, flat_map, not, sum, slice_index, IsTrue, ◌==◌, max, Option, Some, None}
 use Rattle.std.specs.List.{AllByRecursion as Each}
 use Rattle.std.proofs.lemmas.Bool.{cond_both, eqb-true, eq-eqb, or_cases, true≢false}
 use Rattle.std.proofs.lemmas.List.{length-map, map-append}
 use Rattle.std.proofs.lemmas.List.Elements.{All-nil, All-cons, All-head, All-tail, All-append, All-filter}
 use Rattle.omf_frame.specs.Bytes.{is_one_of, with_before}
 use Rattle.omf_frame.specs.Fault.{Rule}
-use Rattle.omf_frame.specs.Framing.{Raw, raw_bytes, raw_of, checksum_of, IsRecord, IsFramed, is_taken, is_header, is_end}
+use Rattle.omf_frame.specs.Framing.{Raw, raw_bytes, raw_of, checksum_of, IsRecord, is_taken, is_header, is_end}
 use Rattle.omf_frame.specs.Inner.Names.{AreKept}
 use Rattle.omf_image.specs.declared.limits.Limits.{Limits}
 use Rattle.omf_records.specs.Inner.LawProofs.{are_typed}
@@ -21,18 +21,18 @@ use Rattle.omf_records.proofs.ValueLaws.{typed-values, values-typed}
 use Rattle.omf_check.specs.Module.{records_in}
 use Rattle.omf_check.specs.Rules.{contents_rules, item_limit, item_places, room, rules, subrecord_rules_at}
 use Rattle.omf_check.specs.Tables.{defined_segments, items_in, item_count, last_data, segments}
-use Rattle.omf_check.specs.Threads.{Setting, setting, setting_of}
-use Rattle.omf_check.specs.WellFormed.{HasTrees, IsWellFormed, recs}
+use Rattle.omf_check.specs.Threads.{Setting, setting_of}
+use Rattle.omf_check.specs.WellFormed.{HasTrees, recs}
 use Rattle.omf_check.specs.declared.profile.Profile.{Profile}
-use Rattle.omf_check.proofs.WellLaws.{IsWellRead, well-formed, well-read}
+use Rattle.omf_check.proofs.WellLaws.{well-formed, well-read}
 use Rattle.omf_lowering.proofs.StateLaws.{with_before-more}
 use Rattle.omf_lowering.proofs.SumLaws.{right_test}
-use Rattle.omf_trimming.specs.Without.{Left, Whole, Nothing, Anew, are_of, emptied, is_thread, left_after, left_by, left_publics, raws_left, records_without, recs_left, recs_without, rest_of, started, threads_alone, without, written}
+use Rattle.omf_trimming.specs.Without.{Left, Whole, Nothing, Anew, are_of, emptied, is_thread, left_after, left_by, left_publics, raws_left, records_without, recs_left, rest_of, started, threads_alone, without, written}
 use Rattle.omf_trimming.specs.WithoutLaws.{RestsAreTyped, RestsAreWellFormed}
 use Rattle.omf_trimming.specs.declared.without.LeftPublics.{LeftPublics}
-use Rattle.omf_trimming.specs.declared.without.LeftPublics.TheVariants.{AtStart, Gone}
-use Rattle.omf_trimming.proofs.AnewLaws.{IsAnew, NewPublics, NewSegment, anew}
-use Rattle.omf_trimming.proofs.LeftLaws.{AreTrue, Drops, IsLike, Mirrors, SameSizes, Stays, holds, items-bounded, items-room, kept-back, kept-both, kept-front, kept-true, like-itself, mirrors-drop, mirrors-more, mirrors-none, publics-true, rules-same, segment-true, true-kept}
+use Rattle.omf_trimming.specs.declared.without.LeftPublics.TheVariants.{AtStart, Gone, Nameless}
+use Rattle.omf_trimming.proofs.AnewLaws.{NewPublics, NewSegment, anew}
+use Rattle.omf_trimming.proofs.LeftLaws.{AreTrue, Drops, IsLike, Mirrors, SameSizes, Stays, holds, items-bounded, items-room, left-true, kept-back, kept-both, kept-front, kept-true, like-itself, mirrors-drop, mirrors-more, mirrors-none, publics-true, rules-same, true-kept}
 
 -- ---- checksums
 
@@ -276,11 +276,11 @@ module _ (profile : Profile) (limits : Limits) where
             ap (λ (t : Rec). alone t ∷ []) (sym is) ∙ ap (λ (y : Contents). T r.kind y ∷ []) same,
           )
 
-      anew-segment : (s : SegmentItem) → (typed r).contents ≡ Segment s → is_one_of gone (length (segments before) + 1) ≡ true → IsNext before done r (Anew (Segment (emptied s)))
+      anew-segment : (s : SegmentItem) → (typed r).contents ≡ Segment s → is_one_of gone (length (segments before) + 1) ≡ true → IsNext before done r (Anew (Segment (emptied p s)))
       anew-segment s e g =
-          let n : NewSegment (contents r.kind) r.kind r.body s = anew r.kind r.body (Segment s) (own-spelled (Segment s) e) in
-          renewed (Segment s) (Segment (emptied s)) (Segment n.value) e n.spelled n.short tt
-          (subst AreTrue (sym (segment-true gone before done m profile limits r.kind s n.value n.name n.class)) (own-rules (Segment s) e)) n.same
+          let n : NewSegment p (contents r.kind) r.kind r.body s = anew p r.kind r.body (Segment s) (own-spelled (Segment s) e) in
+          renewed (Segment s) (Segment (emptied p s)) (Segment n.value) e n.spelled n.short tt
+          (left-true gone before done m profile limits p r.kind s n.value n.name n.class (own-rules (Segment s) e)) n.same
           (record { like_names = refl; like_segments = refl; like_groups = refl; like_externals = refl; like_sizes = like-sizes s n.value g; like_settings = λ b k. refl; like_items = omega arith; like_data = refl })
         where
           like-sizes : (s v : SegmentItem) → is_one_of gone (length (segments before) + 1) ≡ true → SameSizes gone (length (segments before)) (defined_segments r.kind (Segment v)) (defined_segments r.kind (Segment s))
@@ -289,7 +289,7 @@ module _ (profile : Profile) (limits : Limits) where
 
       anew-publics : (q : PublicItems) → (typed r).contents ≡ Publics q → IsNext before done r (Anew (Publics (started q)))
       anew-publics q e =
-          let n : NewPublics (contents r.kind) r.kind r.body q = anew r.kind r.body (Publics q) (own-spelled (Publics q) e) in
+          let n : NewPublics (contents r.kind) r.kind r.body q = anew p r.kind r.body (Publics q) (own-spelled (Publics q) e) in
           renewed (Publics q) (Publics (started q)) (Publics n.value) e n.spelled n.short tt
           (subst AreTrue (sym (publics-true gone before done m profile limits r.kind q n.value n.group n.segment)) (own-rules (Publics q) e)) n.same
           (record { like_names = refl; like_segments = refl; like_groups = refl; like_externals = refl; like_sizes = λ j h. refl; like_settings = λ b k. refl; like_items = omega arith; like_data = refl })
@@ -324,11 +324,12 @@ module _ (profile : Profile) (limits : Limits) where
           at-most a b h = omega (arith, h)
 
       next : (c : Contents) → (typed r).contents ≡ c → IsNext before done r (left_after p gone before c)
-      next (Segment s) e = cond_both (is_one_of gone (length (segments before) + 1)) (Anew (Segment (emptied s))) Whole (IsNext before done r) (anew-segment s e) (λ g. stays (Segment s) e tt)
+      next (Segment s) e = cond_both (is_one_of gone (length (segments before) + 1)) (Anew (Segment (emptied p s))) Whole (IsNext before done r) (anew-segment s e) (λ g. stays (Segment s) e tt)
       next (Publics q) e = cond_both (is_one_of gone q.segment.item) (left_publics p q) Whole (IsNext before done r) (λ g. publics p) (λ g. stays (Publics q) e tt)
         where
           publics : (o : LeftPublics) → IsNext before done r (left_publics o q)
           publics Gone = dropped (Publics q) e tt
+          publics Nameless = dropped (Publics q) e tt
           publics AtStart = anew-publics q e
       next (Plain d) e = cond_both (is_one_of gone d.segment.item) Nothing Whole (IsNext before done r) (λ g. dropped (Plain d) e g) (λ g. stays (Plain d) e g)
       next (Iterated d) e = cond_both (is_one_of gone d.segment.item) Nothing Whole (IsNext before done r) (λ g. dropped (Iterated d) e g) (λ g. stays (Iterated d) e g)
@@ -420,13 +421,14 @@ module _ (p : LeftPublics) (gone : List ℕ) where
 
     left-publics : (o : LeftPublics) (q : PublicItems) → Of (raws_left r (left_publics o q))
     left-publics Gone q = none
+    left-publics Nameless q = none
     left-publics AtStart q = one (written r.kind (Publics (started q))) h
 
     abbrev OfLeft : Left → Type 0
     OfLeft l = Of (raws_left r l)
 
     left-kinds : (n : ℕ) (b : Bool) (c : Contents) → OfLeft (left_by p gone n b c)
-    left-kinds n b (Segment s) = cond_both (is_one_of gone n) (Anew (Segment (emptied s))) Whole OfLeft (λ e. one (written r.kind (Segment (emptied s))) h) (λ e. one r h)
+    left-kinds n b (Segment s) = cond_both (is_one_of gone n) (Anew (Segment (emptied p s))) Whole OfLeft (λ e. one (written r.kind (Segment (emptied p s))) h) (λ e. one r h)
     left-kinds n b (Publics q) = cond_both (is_one_of gone q.segment.item) (left_publics p q) Whole OfLeft (λ e. left-publics p q) (λ e. one r h)
     left-kinds n b (Plain d) = cond_both (is_one_of gone d.segment.item) Nothing Whole OfLeft (λ e. none) (λ e. one r h)
     left-kinds n b (Iterated d) = cond_both (is_one_of gone d.segment.item) Nothing Whole OfLeft (λ e. none) (λ e. one r h)

@@ -1,30 +1,31 @@
 -- The SEGDEFs and PUBDEFs that are written anew where segments are left out: their contents encode what is written, and are no longer than before.
-use Rattle.std.proofs.Common.{◌≡◌, ℕ, zero, suc, ◌+◌, ◌*◌, ◌^◌, ◌/◌, ◌%◌, ◌<◌, ◌≤◌, Bool, true, false, List, [], ◌∷◌, ◌++◌, length, map, flat_map, Option, Some, None, refl, sym, ap, ap₂, subst, ◌∙◌, arith, append-nil, length-append}
+use Rattle.std.proofs.Common.{◌≡◌, ℕ, ◌+◌, ◌*◌, ◌%◌, ◌<◌, ◌≤◌, Bool, true, false, List, [], ◌∷◌, ◌++◌, length, map, flat_map, Option, Some, None, refl, sym, ap, ap₂, subst, ◌∙◌, arith, append-nil, length-append}
 use Rattle.std.specs.Prelude.{⊤, ◌==◌, ◌||◌, not, nat_lt}
 use Rattle.byteorder.specs.Endian.{little_bytes}
-use Rattle.omf_frame.specs.Fields.{IsLittle, index_bytes, name_bytes}
+use Rattle.omf_frame.specs.Fields.{IsIndex, IsLittle, index_bytes, name_bytes}
 use Rattle.omf_frame.specs.Inner.FieldLaws.{little_fits, little_spelled}
 use Rattle.omf_frame.specs.Types.{type_of}
-use Rattle.omf_frame.specs.declared.fault.Reason.{Reason}
 use Rattle.omf_frame.specs.declared.fault.Reason.TheVariants as reason
 use Rattle.omf_frame.specs.declared.kinds.RecordType.{RecordType}
 use Rattle.omf_frame.specs.declared.kinds.RecordType.TheVariants.{Theadr, Lheadr, Coment, Lnames, Llnames, Segdef, Grpdef, Extdef, Lextdef, Pubdef, Lpubdef, Comdef, Lcomdef, Ledata, Lidata, Fixupp, Modend, Typdef, Linnum, Linsym, Alias, Vernum, Bakpat, Cextdef, Comdat, Nbkpat, Vendext, Library}
 use Rattle.omf_records.specs.Entries.{public_item, unless}
 use Rattle.omf_records.specs.Inner.Names.{communals, externs, fixups, names}
-use Rattle.omf_records.specs.Layout.{Layout, SpellsEach, called, le, when}
+use Rattle.omf_records.specs.Layout.{Layout, SpellsEach, called, index, le, when, with_place}
 use Rattle.omf_records.specs.Records.{absolute, carried, comment, contents, data_item, group, header, layout_if, layout_of, mod_end, publics, segment}
 use Rattle.omf_records.specs.Shortest.{contents_bytes, datum_bytes, option_bytes, public_bytes}
 use Rattle.omf_records.specs.Values.{At, Contents, Iterated, Plain, PublicItem, PublicItems, Publics, Segment, SegmentItem, alignment, combination, contents_alone, is_big, is_wide, nowhere, unplaced, width}
 use Rattle.omf_records.proofs.Shorter.{plain_index, plain_le, plain_name, plain_when, recast_index}
-use Rattle.omf_trimming.specs.Without.{at_start, emptied, started}
+use Rattle.omf_trimming.specs.Without.{at_start, emptied, left_field, started}
+use Rattle.omf_trimming.specs.declared.without.LeftPublics.{LeftPublics}
+use Rattle.omf_trimming.specs.declared.without.LeftPublics.TheVariants.{AtStart, Gone, Nameless}
 
-pub record NewSegment (p : Layout Contents) (kind : ℕ) (body : List ℕ) (s : SegmentItem) : Type 0 where
+pub record NewSegment (l : LeftPublics) (p : Layout Contents) (kind : ℕ) (body : List ℕ) (s : SegmentItem) : Type 0 where
   pub value : SegmentItem
-  pub spelled : p.Spells 3 (contents_bytes kind (Segment (emptied s))) (Segment value)
-  pub name : value.name.item ≡ s.name.item
-  pub class : value.class.item ≡ s.class.item
-  pub same : contents_alone (Segment value) ≡ contents_alone (Segment (emptied s))
-  pub short : length (contents_bytes kind (Segment (emptied s))) ≤ length body
+  pub spelled : p.Spells 3 (contents_bytes kind (Segment (emptied l s))) (Segment value)
+  pub name : value.name.item ≡ left_field l s.name.item
+  pub class : value.class.item ≡ left_field l s.class.item
+  pub same : contents_alone (Segment value) ≡ contents_alone (Segment (emptied l s))
+  pub short : length (contents_bytes kind (Segment (emptied l s))) ≤ length body
 
 pub record NewPublics (p : Layout Contents) (kind : ℕ) (body : List ℕ) (q : PublicItems) : Type 0 where
   pub value : PublicItems
@@ -34,10 +35,10 @@ pub record NewPublics (p : Layout Contents) (kind : ℕ) (body : List ℕ) (q : 
   pub same : contents_alone (Publics value) ≡ contents_alone (Publics (started q))
   pub short : length (contents_bytes kind (Publics (started q))) ≤ length body
 
-abbrev pub IsAnew : Layout Contents → ℕ → List ℕ → Contents → Type 0
-IsAnew p kind body (Segment s) = NewSegment p kind body s
-IsAnew p kind body (Publics q) = NewPublics p kind body q
-IsAnew p kind body _ = ⊤
+abbrev pub IsAnew : LeftPublics → Layout Contents → ℕ → List ℕ → Contents → Type 0
+IsAnew l p kind body (Segment s) = NewSegment l p kind body s
+IsAnew l p kind body (Publics q) = NewPublics p kind body q
+IsAnew l p kind body _ = ⊤
 
 item_same : (s t : At ℕ) → unplaced s ≡ unplaced t → s.item ≡ t.item
 item_same s t e = ap (λ (a : At ℕ). a.item) e
@@ -84,29 +85,62 @@ zero-spelled k z a h = let f = little_fits k z a h in little_spelled k 0 (omega 
 zero-fits : (k z : ℕ) (a : List ℕ) → IsLittle k z a → length (little_bytes k 0) ≤ length a
 zero-fits k z a h = let n = zero-spelled k z a h in let x = n.count in let y = h.count in omega (arith, x, y)
 
-new-segment : (kind at : ℕ) (body : List ℕ) (c : Contents) → (segment (is_wide kind)).Spells at body c → IsAnew (segment (is_wide kind)) kind body c
-new-segment kind at body c (f1, b1, a, p1, (s1, none1), (f2, b2, ab, p2, s2, (f3, b3, z, p3, (s3, none3), (f4, b4, n, p4, s4, (f5, b5, k, p5, s5, (f6, b6, o, p6, s6, (none, is))))))) =
-    let e = 0x20 + combination a * 4 + a % 2 in
+-- The index of a name, and an index with its place: as it was, or 0.
+small-left : (l : LeftPublics) (c : ℕ) → c < 8 → left_field l c < 8
+small-left Nameless c h = omega arith
+small-left Gone c h = h
+small-left AtStart c h = h
+
+some-index : (n : ℕ) (body : List ℕ) → IsIndex n body → 1 ≤ length body
+some-index n [] h = absurd h
+some-index n (a ∷ body) h = omega arith
+
+left-index : (l : LeftPublics) (at there : ℕ) (body : List ℕ) (n : ℕ) → index.Spells at body n
+    → index.Spells there (index_bytes (left_field l n)) (left_field l n) × (length (index_bytes (left_field l n)) ≤ length body)
+left-index Nameless at there body n h = ((omega arith, refl), some-index n body h)
+left-index Gone at there body n h = let q = plain_index at there body n h in (q.0, q.1.count)
+left-index AtStart at there body n h = let q = plain_index at there body n h in (q.0, q.1.count)
+
+abbrev left-at : LeftPublics → At ℕ → At ℕ
+left-at l n = record n { item = left_field l n.item }
+
+record NewIndex (l : LeftPublics) (there : ℕ) (body : List ℕ) (n : At ℕ) : Type 0 where
+  value : At ℕ
+  spelled : (with_place index).Spells there (datum_bytes (left-at l n)) value
+  named : value.item ≡ left_field l n.item
+  same : unplaced value ≡ unplaced (left-at l n)
+  short : length (datum_bytes (left-at l n)) ≤ length body
+
+new-index : (l : LeftPublics) (at there : ℕ) (body : List ℕ) (n : At ℕ) → (with_place index).Spells at body n → NewIndex l there body n
+new-index l at there body n (w, sp) =
+    let q = left-index l at there body n.item sp in
+    record { value = record { within = there; item = left_field l n.item }; spelled = (refl, q.0); named = refl; same = refl; short = q.1 }
+
+new-segment : (l : LeftPublics) (kind at : ℕ) (body : List ℕ) (c : Contents) → (segment (is_wide kind)).Spells at body c → IsAnew l (segment (is_wide kind)) kind body c
+new-segment l kind at body c (f1, b1, a, p1, (s1, none1), (f2, b2, ab, p2, s2, (f3, b3, z, p3, (s3, none3), (f4, b4, n, p4, s4, (f5, b5, k, p5, s5, (f6, b6, o, p6, s6, (none, is))))))) =
+    let d = left_field l (combination a) in
+    let low = small-left l (combination a) (small-combination a) in
+    let e = 0x20 + d * 4 + a % 2 in
     let Z = little_bytes (width kind) 0 in
-    let N = datum_bytes n in
-    let K = datum_bytes k in
-    let O = index_bytes o in
+    let N = datum_bytes (left-at l n) in
+    let K = datum_bytes (left-at l k) in
+    let O = index_bytes (left_field l o) in
     let t4 = 4 + length Z in
     let t5 = t4 + length N in
     let t6 = t5 + length K in
-    let qn = recast_index (at + length f1 + length f2 + length f3) t4 f4 n s4 in
-    let qk = recast_index (at + length f1 + length f2 + length f3 + length f4) t5 f5 k s5 in
-    let qo = plain_index (at + length f1 + length f2 + length f3 + length f4 + length f5) t6 f6 o s6 in
-    let al : alignment e ≡ 1 = aligned-of (combination a) (a % 2) (small-combination a) (small-width a) in
+    let qn = new-index l (at + length f1 + length f2 + length f3) t4 f4 n s4 in
+    let qk = new-index l (at + length f1 + length f2 + length f3 + length f4) t5 f5 k s5 in
+    let qo = left-index l (at + length f1 + length f2 + length f3 + length f4 + length f5) t6 f6 o s6 in
+    let al : alignment e ≡ 1 = aligned-of d (a % 2) low (small-width a) in
     let first : 1 ≤ length f1 = one-byte f1 a s1.1 in
     rw is (record {
-      value = record { attribute = e; absolute = None; size = 0; name = qn.value; class = qk.value; overlay = o };
+      value = record { attribute = e; absolute = None; size = 0; name = qn.value; class = qk.value; overlay = left_field l o };
       spelled = (
         e ∷ [],
         Z ++ (N ++ (K ++ O)),
         e,
         refl,
-        ((low-of (combination a) (a % 2) (small-combination a) (small-width a), refl), ap (λ (x : ℕ). unless (nat_lt x 6) reason.Alignment) al),
+        ((low-of d (a % 2) low (small-width a), refl), ap (λ (x : ℕ). unless (nat_lt x 6) reason.Alignment) al),
         (
           [],
           Z ++ (N ++ (K ++ O)),
@@ -131,20 +165,20 @@ new-segment kind at body c (f1, b1, a, p1, (s1, none1), (f2, b2, ab, p2, s2, (f3
                 qk.value,
                 refl,
                 qk.spelled,
-                (O, [], o, sym (append-nil O), qo.0, (refl, refl)),
+                (O, [], left_field l o, sym (append-nil O), qo.0, (refl, refl)),
               ),
             ),
           ),
         ),
       );
-      name = item_same qn.value n qn.same;
-      class = item_same qk.value k qk.same;
-      same = segment-same e o qn.value n qk.value k qn.same qk.same;
+      name = qn.named;
+      class = qk.named;
+      same = segment-same e (left_field l o) qn.value (left-at l n) qk.value (left-at l k) qn.same qk.same;
       short = longer body f1 b1 (e ∷ []) (Z ++ (N ++ (K ++ O))) p1 first
           (longer b1 f2 b2 [] (Z ++ (N ++ (K ++ O))) p2 (omega arith)
           (longer b2 f3 b3 Z (N ++ (K ++ O)) p3 (zero-fits (width kind) z f3 s3)
-          (longer b3 f4 b4 N (K ++ O) p4 qn.shorter.count
-          (longer b4 f5 b5 K O p5 qk.shorter.count (last-fits b5 f6 b6 O p6 qo.1.count)))));
+          (longer b3 f4 b4 N (K ++ O) p4 qn.short
+          (longer b4 f5 b5 K O p5 qk.short (last-fits b5 f6 b6 O p6 qo.1)))));
     })
   where
     one-byte : (f : List ℕ) (a : ℕ) → f ≡ a ∷ [] → 1 ≤ length f
@@ -190,8 +224,8 @@ new-items kind at there body (x ∷ xs) (front, back, parts, w, sp, more) =
       short = longer body front back B (new_bytes kind xs) parts q.1 t.short;
     }
 
-new-publics : (kind at : ℕ) (body : List ℕ) (c : Contents) → (publics (is_wide kind)).Spells at body c → IsAnew (publics (is_wide kind)) kind body c
-new-publics kind at body c (f1, b1, g, p1, s1, (f2, b2, s, p2, s2, (f3, b3, f, p3, s3, (ps, sp, is)))) =
+new-publics : (l : LeftPublics) (kind at : ℕ) (body : List ℕ) (c : Contents) → (publics (is_wide kind)).Spells at body c → IsAnew l (publics (is_wide kind)) kind body c
+new-publics l kind at body c (f1, b1, g, p1, s1, (f2, b2, s, p2, s2, (f3, b3, f, p3, s3, (ps, sp, is)))) =
     let G = datum_bytes g in
     let S = datum_bytes s in
     let F = option_bytes (little_bytes 2) f in
@@ -215,12 +249,12 @@ new-publics kind at body c (f1, b1, g, p1, s1, (f2, b2, s, p2, s2, (f3, b3, f, p
 
 -- ---- by the type
 
-module _ (kind : ℕ) where
+module _ (l : LeftPublics) (kind : ℕ) where
   abbrev Makes : Layout Contents → Type 0
-  Makes p = (at : ℕ) (body : List ℕ) (c : Contents) → p.Spells at body c → IsAnew p kind body c
+  Makes p = (at : ℕ) (body : List ℕ) (c : Contents) → p.Spells at body c → IsAnew l p kind body c
 
-  by : (p : Layout Contents) (body : List ℕ) (c d : Contents) → c ≡ d → IsAnew p kind body d → IsAnew p kind body c
-  by p body c d e h = subst (IsAnew p kind body) (sym e) h
+  by : (p : Layout Contents) (body : List ℕ) (c d : Contents) → c ≡ d → IsAnew l p kind body d → IsAnew l p kind body c
+  by p body c d e h = subst (IsAnew l p kind body) (sym e) h
 
   of-header : Makes header
   of-header at body c (f, b, x, p, s, (none, e)) = by header body c _ e tt
@@ -261,12 +295,12 @@ module _ (kind : ℕ) where
   by-type Coment = of-comment
   by-type Lnames = of-names
   by-type Llnames = of-names
-  by-type Segdef = new-segment kind
+  by-type Segdef = new-segment l kind
   by-type Grpdef = of-group
   by-type Extdef = of-externs
   by-type Lextdef = of-externs
-  by-type Pubdef = new-publics kind
-  by-type Lpubdef = new-publics kind
+  by-type Pubdef = new-publics l kind
+  by-type Lpubdef = new-publics l kind
   by-type Comdef = of-communals
   by-type Lcomdef = of-communals
   by-type Ledata = of-plain
@@ -289,5 +323,5 @@ module _ (kind : ℕ) where
   by-option (Some t) = by-type t
   by-option None = of-carried
 
-  pub anew : (body : List ℕ) (c : Contents) → (contents kind).Spells 3 body c → IsAnew (contents kind) kind body c
+  pub anew : (body : List ℕ) (c : Contents) → (contents kind).Spells 3 body c → IsAnew l (contents kind) kind body c
   anew = by-option (type_of kind) 3

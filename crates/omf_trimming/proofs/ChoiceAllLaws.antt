@@ -1,24 +1,15 @@
 -- The modules of a link without the instances that are left out.
-use Rattle.std.proofs.Common.{◌≡◌, ℕ, zero, suc, ◌+◌, ◌<◌, List, [], ◌∷◌, ◌++◌, length, length-append, drop, take, get_or, refl, sym, ap, ap₂, ◌∙◌, subst, arith, append_assoc, append-nil, inl, inr}
-use Rattle.std.specs.Prelude.{Result, Ok, Err, filter, flat_map, map}
+use Rattle.std.proofs.Common.{◌≡◌, ℕ, zero, suc, ◌+◌, ◌<◌, List, [], ◌∷◌, ◌++◌, length, drop, take, get_or, refl, sym, ap, ap₂, ◌∙◌, subst, arith, append_assoc, append-nil, inl, inr}
+use Rattle.std.specs.Prelude.{filter, flat_map, map}
 use Rattle.std.specs.List.{AllZip}
 use Rattle.std.proofs.Math.Seq.{drop-cons}
 use Rattle.std.proofs.lemmas.Bool.{cases_Bool, cond-true, cond-false}
 use Rattle.std.proofs.lemmas.Grind.{flat_map-append}
-use Rattle.std.proofs.lemmas.List.{nil_from_length}
 use Rattle.omf_frame.specs.Bytes.{with_before}
-use Rattle.omf_frame.specs.declared.fault.Place.{Place}
-use Rattle.omf_frame.specs.declared.fault.Reason.{Reason}
-use Rattle.omf_image.specs.Limits.{profile_limits}
-use Rattle.omf_check.specs.Checking.{Decides}
 use Rattle.omf_check.specs.Module.{Module, recs_of}
-use Rattle.omf_check.specs.Refusal.{IsRefused}
-use Rattle.omf_check.specs.declared.fault.CheckFault.{CheckFault}
-use Rattle.omf_check.specs.declared.fault.CheckFault.TheVariants as check_fault
-use Rattle.omf_check.specs.declared.profile.Profile.{Profile}
 use Rattle.omf_trimming.specs.Choice.{AreChosen, IsChosen, Marked, all_left_out, instances, is_left_out, left_out, with_left_out}
 use Rattle.omf_trimming.specs.Without.{IsWithout}
-use Rattle.omf_trimming.specs.declared.without.LeftPublics.TheVariants.{Gone}
+use Rattle.omf_trimming.specs.declared.without.LeftPublics.TheVariants.{Nameless}
 use Rattle.omf_trimming.specs.Inner.Choosing.{segment_if}
 
 -- The segments that are left out, one by one.
@@ -96,7 +87,7 @@ choice-starts ms left gone all e f g = record {
       subst (λ (xs : List Module). AllZip IsChosen (with_left_out ms) (xs ++ later)) (sym g) (subst (λ (ps : List (Module × List ℕ)). AllZip IsChosen ps later) pairs h);
 }
 
-pub choice-more : (ms left rest : List Module) (gone more : List (List ℕ)) (all new : List Module) (m o : Module) (g : List ℕ) → left ≡ m ∷ rest → gone ≡ g ∷ more → new ≡ all ++ o ∷ [] → IsWithout Gone g m o
+pub choice-more : (ms left rest : List Module) (gone more : List (List ℕ)) (all new : List Module) (m o : Module) (g : List ℕ) → left ≡ m ∷ rest → gone ≡ g ∷ more → new ≡ all ++ o ∷ [] → IsWithout Nameless g m o
     → AreChosenSoFar ms left gone all → AreChosenSoFar ms rest more new
 choice-more ms left rest gone more all new m o g e f added is a = record {
   held = λ later h.

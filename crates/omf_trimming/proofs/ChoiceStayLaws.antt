@@ -1,5 +1,5 @@
 -- Modules that stay as they are.
-use Rattle.std.proofs.Common.{◌≡◌, ℕ, suc, ◌+◌, ◌<◌, List, [], ◌∷◌, ◌++◌, length, refl, sym, ap, ap₂, ◌∙◌, subst, arith}
+use Rattle.std.proofs.Common.{◌≡◌, ℕ, suc, ◌+◌, ◌<◌, List, [], ◌∷◌, ◌++◌, length, refl, ap, ap₂, ◌∙◌, subst, arith}
 use Rattle.std.specs.Prelude.{All, Option, Some, None, filter, map}
 use Rattle.std.specs.List.{AllZip}
 use Rattle.omf_frame.specs.Bytes.{with_before}
@@ -7,9 +7,9 @@ use Rattle.omf_records.specs.Values.{Contents, Rec, Segment}
 use Rattle.omf_check.specs.Module.{Module, recs_of}
 use Rattle.omf_check.specs.Tables.{segment_length}
 use Rattle.omf_lowering.specs.Marks.{selection_by}
-use Rattle.omf_trimming.specs.Choice.{AreChosen, IsChosen, Marked, instances, is_left_out, left_out, marked_after, marked_at, marked_from, marked_if, name_by}
+use Rattle.omf_trimming.specs.Choice.{IsChosen, Marked, instances, is_left_out, left_out, marked_after, marked_at, marked_from, marked_if, name_by}
 use Rattle.omf_trimming.specs.Without.{IsWithout, count_after}
-use Rattle.omf_trimming.specs.declared.without.LeftPublics.TheVariants.{Gone}
+use Rattle.omf_trimming.specs.declared.without.LeftPublics.TheVariants.{Nameless}
 use Rattle.omf_trimming.specs.ChoiceLaws.{FirstStays, HasNoMark, UnmarkedStay}
 use Rattle.omf_trimming.proofs.ChoiceAllLaws.{all_instances}
 
@@ -41,8 +41,8 @@ unmarked-from m count (r ∷ rs) h =
 none-out : (before : List Module) (m : Module) → HasNoMark m → left_out before m ≡ []
 none-out before m h = ap (λ (is : List Marked). map (λ i. i.segment) (filter (is_left_out (all_instances before)) is)) (unmarked-from (recs_of m.bytes) 0 (recs_of m.bytes) h)
 
-stays : (gone : List ℕ) (m o : Module) → gone ≡ [] → IsWithout Gone gone m o → o ≡ m
-stays gone m o e h = let w : IsWithout Gone [] m o = subst (λ (g : List ℕ). IsWithout Gone g m o) e h in w
+stays : (gone : List ℕ) (m o : Module) → gone ≡ [] → IsWithout Nameless gone m o → o ≡ m
+stays gone m o e h = let w : IsWithout Nameless [] m o = subst (λ (g : List ℕ). IsWithout Nameless g m o) e h in w
 
 all-stay : (before ms out : List Module) → All HasNoMark ms → AllZip IsChosen (with_before (λ b m. (m, left_out b m) ∷ []) before ms) out → out ≡ ms
 all-stay before [] [] h z = refl

@@ -1,5 +1,5 @@
 -- The instances of one name in the modules that are chosen.
-use Rattle.std.proofs.Common.{◌≡◌, ℕ, ◌+◌, ◌≤◌, List, [], ◌∷◌, ◌++◌, length, refl, sym, ap, ap₂, ◌∙◌, Bool, true, false, cond, arith, append-nil}
+use Rattle.std.proofs.Common.{◌≡◌, ℕ, ◌≤◌, List, [], ◌∷◌, ◌++◌, length, refl, sym, ap, ap₂, ◌∙◌, Bool, true, false, cond, arith, append-nil}
 use Rattle.std.specs.Prelude.{All, bytes_eq, filter, flat_map, map, not, Option, Some, None}
 use Rattle.std.specs.List.{AllZip}
 use Rattle.std.proofs.lemmas.Bool.{cond-false}
@@ -17,7 +17,7 @@ use Rattle.omf_check.proofs.SessionLaws.{records_of}
 use Rattle.omf_trimming.specs.Choice.{IsChosen, Marked, agree, agrees_with, first_named, instances, is_left_out, left_out}
 use Rattle.omf_trimming.specs.ChoiceLaws.{ChosenAreTyped, FirstsAreKept, IsByInstance, IsWellFormedModule, OneIsKept, definitions, first_and_others, of_name}
 use Rattle.omf_trimming.specs.Without.{Anew, IsWithout, Whole, are_of, left_after, recs_left, recs_without, records_without, threads_alone, without}
-use Rattle.omf_trimming.specs.declared.without.LeftPublics.TheVariants.{Gone}
+use Rattle.omf_trimming.specs.declared.without.LeftPublics.TheVariants.{Nameless}
 use Rattle.omf_trimming.proofs.AcceptedLaws.{typed-rest, well-formed-rest}
 use Rattle.omf_trimming.proofs.OnceLaws.{by-instance-alone, module-left, same-instances}
 
@@ -29,11 +29,11 @@ are-none (Some (Plain d)) = refl
 are-none (Some (Iterated d)) = refl
 are-none (Some _) = refl
 
-whole-by : (before : List Rec) (t : Rec) (c : Contents) → recs_left t (left_after Gone [] before c) ≡ t ∷ []
+whole-by : (before : List Rec) (t : Rec) (c : Contents) → recs_left t (left_after Nameless [] before c) ≡ t ∷ []
 whole-by before t (Fixups subs) = ap (λ (b : Bool). recs_left t (cond b (Anew (Fixups (threads_alone subs))) Whole)) (are-none (last_data before))
 whole-by before t _ = refl
 
-whole-from : (before m : List Rec) → with_before (λ b t. recs_left t (left_after Gone [] b t.contents)) before m ≡ m
+whole-from : (before m : List Rec) → with_before (λ b t. recs_left t (left_after Nameless [] b t.contents)) before m ≡ m
 whole-from before [] = refl
 whole-from before (t ∷ m) = ap₂ (λ (xs ys : List Rec). xs ++ ys) (whole-by before t t.contents) (whole-from (before ++ t ∷ []) m)
 
@@ -83,17 +83,17 @@ all_of ms = flat_map (λ k. instances (recs_of k.bytes)) ms
 abbrev with_out : List Module → Module → List (Module × List ℕ)
 with_out before m = (m, left_out before m) ∷ []
 
-without-typed : (gone : List ℕ) (m o : Module) → IsWellFormedModule m → IsWithout Gone gone m o → map alone (recs_of o.bytes) ≡ map alone (recs_without Gone gone (recs_of m.bytes))
+without-typed : (gone : List ℕ) (m o : Module) → IsWellFormedModule m → IsWithout Nameless gone m o → map alone (recs_of o.bytes) ≡ map alone (recs_without Nameless gone (recs_of m.bytes))
 without-typed [] m o h e = ap (λ (x : Module). map alone (recs_of x.bytes)) e ∙ ap (map alone) (sym (whole-from [] (recs_of m.bytes)))
 without-typed (s ∷ ss) m o h e =
     let gone = s ∷ ss in
-    let w = well-formed-rest Gone gone m.profile profile_limits m.bytes h in
+    let w = well-formed-rest Nameless gone m.profile profile_limits m.bytes h in
     ap (λ (x : Module). map alone (recs_of x.bytes)) e
-    ∙ ap (λ rs. map alone (recs rs)) (records_of (without Gone gone m.bytes) (records_without Gone gone (records_in m.bytes)) w.framed)
-    ∙ typed-rest Gone gone m.profile profile_limits m.bytes h
+    ∙ ap (λ rs. map alone (recs rs)) (records_of (without Nameless gone m.bytes) (records_without Nameless gone (records_in m.bytes)) w.framed)
+    ∙ typed-rest Nameless gone m.profile profile_limits m.bytes h
 
 abbrev IsTypedRest : Module × List ℕ → Module → Type 0
-IsTypedRest c o = map alone (recs_of o.bytes) ≡ map alone (recs_without Gone c.1 (recs_of c.0.bytes))
+IsTypedRest c o = map alone (recs_of o.bytes) ≡ map alone (recs_without Nameless c.1 (recs_of c.0.bytes))
 
 all-typed : (before ms out : List Module) → All IsWellFormedModule ms → AllZip IsChosen (with_before with_out before ms) out → AllZip IsTypedRest (with_before with_out before ms) out
 all-typed before [] [] h z = tt
@@ -140,9 +140,9 @@ module _ (name : List ℕ) where
       let left = module-left name (is_left_out (all_of before)) whole own in
       let alike = without-typed (left_out before m) m o (All-head IsWellFormedModule m ms h) w in
       let later = all-kept (before ++ m ∷ []) ms out (All-tail IsWellFormedModule m ms h) (All-tail (IsByInstance name) whole (typed_modules ms) b) z in (
-        All-cons (IsByInstance name) (recs_of o.bytes) (typed_modules out) (by-instance-alone name (recs_without Gone (left_out before m) whole) (recs_of o.bytes) (sym alike) left.0) later.0,
+        All-cons (IsByInstance name) (recs_of o.bytes) (typed_modules out) (by-instance-alone name (recs_without Nameless (left_out before m) whole) (recs_of o.bytes) (sym alike) left.0) later.0,
         named-more o out
-            ∙ ap₂ (λ (xs ys : List Marked). xs ++ ys) (ap (of_name name) (same-instances (recs_of o.bytes) (recs_without Gone (left_out before m) whole) alike) ∙ left.1)
+            ∙ ap₂ (λ (xs ys : List Marked). xs ++ ys) (ap (of_name name) (same-instances (recs_of o.bytes) (recs_without Nameless (left_out before m) whole) alike) ∙ left.1)
             (later.1 ∙ ap (λ (p : Option Marked). kept_after p (named ms)) (first-more before m))
             ∙ some-after name (all_of before) (of_name name (instances whole)) (named ms) (few whole own) (filter_passes (λ (i : Marked). bytes_eq i.name name) (instances whole))
             ∙ ap₂ (λ (p : Option Marked) (is : List Marked). kept_after p is) (sym (head-named name (all_of before))) (sym (named-more m ms)),

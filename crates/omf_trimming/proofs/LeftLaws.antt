@@ -14,11 +14,11 @@ use Rattle.omf_frame.specs.declared.fault.Reason.TheVariants as reason
 use Rattle.omf_image.specs.Blocks.{blocks_size}
 use Rattle.omf_image.specs.Inner.Expanding.{blocks_of}
 use Rattle.omf_image.specs.declared.limits.Limits.{Limits}
-use Rattle.omf_records.specs.Values.{At, Comment, Communals, Contents, DataItem, Externs, Fixup, Fixups, Group, Iterated, ModEnd, Names, Plain, PublicItems, Publics, Rec, Reference, Segment, SegmentItem, Subrecord, Thread, frame_bits, frame_by_thread, target_bits, target_by_thread, width}
+use Rattle.omf_records.specs.Values.{At, Communals, Contents, DataItem, Externs, Fixup, Fixups, Group, Iterated, ModEnd, Names, Plain, PublicItems, Publics, Rec, Reference, Segment, SegmentItem, Subrecord, Thread, frame_bits, frame_by_thread, nowhere, target_bits, target_by_thread, width}
 use Rattle.omf_records.specs.declared.method.Kind.{Kind}
 use Rattle.omf_records.specs.declared.method.Kind.TheVariants as kinds
 use Rattle.omf_check.specs.Inner.Names.{frame_from, target_from}
-use Rattle.omf_check.specs.Rules.{contents_rules, frame_rules, is_location_frame, item_places, judged_at, length_of_segment, location_rule, names_entry, names_entry_or_none, places, reference_rules, room, rules, start_rules, subrecord_rules_at, table_limit, target_rules, undefined}
+use Rattle.omf_check.specs.Rules.{contents_rules, frame_rules, is_location_frame, item_places, judged_at, length_of_segment, location_rule, names_entry, names_entry_or_none, places, reference_rules, room, start_rules, subrecord_rules_at, table_limit, target_rules, undefined}
 use Rattle.omf_check.specs.Tables.{data_in, defined_externals, defined_groups, defined_names, defined_segments, entries, entry, externals, groups, is_defined, is_none_or_defined, item_count, items_in, last_data, names, segments, subrecords, subrecords_in}
 use Rattle.omf_check.specs.Threads.{Setting, frame_of, setting, setting_of, target_of, thread}
 use Rattle.omf_check.specs.declared.method.FrameMethod.{FrameMethod}
@@ -26,7 +26,9 @@ use Rattle.omf_check.specs.declared.method.FrameMethod.TheVariants.{Of, Location
 use Rattle.omf_check.specs.declared.method.TargetMethod.{TargetMethod}
 use Rattle.omf_check.specs.declared.profile.Profile.{Profile}
 use Rattle.omf_check.specs.declared.segment.SegInfo.{SegInfo}
-use Rattle.omf_trimming.specs.Without.{are_of}
+use Rattle.omf_trimming.specs.Without.{are_of, left_field}
+use Rattle.omf_trimming.specs.declared.without.LeftPublics.{LeftPublics}
+use Rattle.omf_trimming.specs.declared.without.LeftPublics.TheVariants.{AtStart, Gone, Nameless}
 
 -- ---- rules that hold
 
@@ -316,6 +318,15 @@ module _ (gone : List ℕ) (before done : List Rec) (m : Mirrors gone before don
   segment-true profile limits kind s v e f =
       ap holds (rules-same profile limits kind (Segment v) tt)
       ∙ ap₂ (λ (x y : ℕ). nat_lt (length (segments before) + 0) table_limit ∷ is_none_or_defined (length (names before)) x ∷ is_none_or_defined (length (names before)) y ∷ []) e f
+
+  -- So does the SEGDEF of a segment that is left out, if its rules hold.
+  pub left-true : (profile : Profile) (limits : Limits) (l : LeftPublics) (kind : ℕ) (s v : SegmentItem) → v.name.item ≡ left_field l s.name.item → v.class.item ≡ left_field l s.class.item
+      → AreTrue (holds (contents_rules profile limits before kind (Segment s))) → AreTrue (holds (contents_rules profile limits done kind (Segment v)))
+  left-true profile limits AtStart kind s v e f h = subst AreTrue (sym (segment-true profile limits kind s v e f)) h
+  left-true profile limits Gone kind s v e f h = subst AreTrue (sym (segment-true profile limits kind s v e f)) h
+  left-true profile limits Nameless kind s v e f h =
+      let none = le-leb 0 (length (names before)) (omega arith) in
+      subst AreTrue (sym (segment-true profile limits kind (record s { name = nowhere 0; class = nowhere 0 }) v e f)) (h.0, (none, (none, tt)))
 
   pub publics-true : (profile : Profile) (limits : Limits) (kind : ℕ) (p v : PublicItems) → v.group.item ≡ p.group.item → v.segment.item ≡ p.segment.item
       → holds (contents_rules profile limits done kind (Publics v)) ≡ holds (contents_rules profile limits before kind (Publics p))

@@ -1,7 +1,6 @@
 -- Marks of the segments of a program.
-use Rattle.std.proofs.Common.{◌≡◌, ℕ, zero, suc, ◌+◌, ◌<◌, ◌≤◌, ◌⊎◌, Bool, true, false, List, [], ◌∷◌, ◌++◌, length, set, refl, sym, ap, ap₂, ◌∙◌, subst, arith, inl, inr}
-use Rattle.std.specs.Prelude.{map, not, replicate, slice_get, Option, Some, None}
-use Rattle.std.proofs.lemmas.Bool.{cases_Bool}
+use Rattle.std.proofs.Common.{◌≡◌, ℕ, zero, suc, ◌+◌, ◌<◌, ◌⊎◌, Bool, true, false, List, [], ◌∷◌, length, set, refl, ap, ap₂, ◌∙◌, arith, inl, inr}
+use Rattle.std.specs.Prelude.{map, replicate, slice_get, Option, Some, None}
 use Rattle.std.proofs.lemmas.List.{length-replicate, length-set}
 use Rattle.omf_trimming.specs.Reaching.{Node}
 use Rattle.omf_trimming.specs.Inner.Reaching.{HasMark, Marks, is_marked, is_open, is_open_in, is_set, left_in, left_open, marked_in, open_of, set_of, size_of, with_bit, with_mark, with_marks}

@@ -16,7 +16,7 @@ use Rattle.omf_trimming.specs.Choice.{Marked, data_by, data_of, instances, marke
 use Rattle.omf_trimming.specs.ChoiceLaws.{IsByInstance, IsInstance, definitions, definitions_by, of_name}
 use Rattle.omf_trimming.specs.Without.{Left, Whole, Nothing, Anew, are_of, count_after, emptied, left_after, recs_left, recs_without, threads_alone}
 use Rattle.omf_trimming.specs.WithoutLaws.{left_segment}
-use Rattle.omf_trimming.specs.declared.without.LeftPublics.TheVariants.{Gone}
+use Rattle.omf_trimming.specs.declared.without.LeftPublics.TheVariants.{Nameless}
 use Rattle.omf_trimming.proofs.RecLaws.{all-left, has-the-rest}
 use Rattle.omf_trimming.proofs.TripleLaws.{instances-are-triples}
 
@@ -345,8 +345,8 @@ module _ (name gone : List ℕ) where
   none-either t true l k e h = e
   none-either t false l k e h = h
 
-  kept-by : (before : List Rec) (kind : ℕ) (c : Contents) → flat_map own (recs_left (T kind c) (left_after Gone gone before c)) ≡ filter keeps (own (T kind c))
-  kept-by before kind (Segment s) = none-either (T kind (Segment s)) (is_one_of gone (length (segments before) + 1)) (Anew (Segment (emptied s))) Whole refl refl
+  kept-by : (before : List Rec) (kind : ℕ) (c : Contents) → flat_map own (recs_left (T kind c) (left_after Nameless gone before c)) ≡ filter keeps (own (T kind c))
+  kept-by before kind (Segment s) = none-either (T kind (Segment s)) (is_one_of gone (length (segments before) + 1)) (Anew (Segment (emptied Nameless s))) Whole refl refl
   kept-by before kind (Publics q) = publics-kept kind q (is_one_of gone q.segment.item) refl
   kept-by before kind (Plain d) = none-either (T kind (Plain d)) (is_one_of gone d.segment.item) Nothing Whole refl refl
   kept-by before kind (Iterated d) = none-either (T kind (Iterated d)) (is_one_of gone d.segment.item) Nothing Whole refl refl
@@ -364,8 +364,8 @@ module _ (name gone : List ℕ) where
   all-filtered [] = refl
   all-filtered (t ∷ m) = ap (λ xs. filter keeps (own t) ++ xs) (all-filtered m) ∙ sym (filter-append keeps (own t) (definitions name m))
 
-  definitions-left : (m : List Rec) → definitions name (recs_without Gone gone m) ≡ filter keeps (definitions name m)
-  definitions-left m = all-left Gone gone own (λ t. filter keeps (own t)) (λ before t. kept-by before t.kind t.contents) [] m ∙ all-filtered m
+  definitions-left : (m : List Rec) → definitions name (recs_without Nameless gone m) ≡ filter keeps (definitions name m)
+  definitions-left m = all-left Nameless gone own (λ t. filter keeps (own t)) (λ before t. kept-by before t.kind t.contents) [] m ∙ all-filtered m
 
 -- ---- an instance that is not left out stays
 
@@ -380,30 +380,30 @@ none-number a e = absurd cc
 
 module _ (gone : List ℕ) where
   abbrev left_of : List Rec → Rec → List Rec
-  left_of before t = recs_left t (left_after Gone gone before t.contents)
+  left_of before t = recs_left t (left_after Nameless gone before t.contents)
 
   segment-stays : (before : List Rec) (r : Rec) (item : SegmentItem) → r.contents ≡ Segment item → is_one_of gone (length (segments before) + 1) ≡ false → left_of before r ≡ r ∷ []
   segment-stays before r item e h =
-      ap (λ (c : Contents). recs_left r (left_after Gone gone before c)) e ∙ ap (recs_left r) (cond-false (is_one_of gone (length (segments before) + 1)) (Anew (Segment (emptied item))) Whole h)
+      ap (λ (c : Contents). recs_left r (left_after Nameless gone before c)) e ∙ ap (recs_left r) (cond-false (is_one_of gone (length (segments before) + 1)) (Anew (Segment (emptied Nameless item))) Whole h)
 
   public-stays : (before : List Rec) (r : Rec) (n : ℕ) (name : List ℕ) → IsOnePublic n r.kind r.contents name → is_one_of gone n ≡ false → left_of before r ≡ r ∷ []
   public-stays before r n name p h =
-      ap (λ (c : Contents). recs_left r (left_after Gone gone before c)) p.is ∙ ap (recs_left r) (cond-false (is_one_of gone p.q.segment.item) Nothing Whole (ap (is_one_of gone) p.segment_is ∙ h))
+      ap (λ (c : Contents). recs_left r (left_after Nameless gone before c)) p.is ∙ ap (recs_left r) (cond-false (is_one_of gone p.q.segment.item) Nothing Whole (ap (is_one_of gone) p.segment_is ∙ h))
 
-  mark-stays : (before : List Rec) (r : Rec) (c : Contents) (k : ℕ) → selection_by c ≡ Some k → recs_left r (left_after Gone gone before c) ≡ r ∷ []
+  mark-stays : (before : List Rec) (r : Rec) (c : Contents) (k : ℕ) → selection_by c ≡ Some k → recs_left r (left_after Nameless gone before c) ≡ r ∷ []
   mark-stays before r (Comment a b t) k h = refl
   mark-stays before r _ k h = none-number k h
 
-  stays : (m : List Rec) (i : Marked) → IsInstance m i → is_one_of gone i.segment ≡ false → IsInstance (recs_without Gone gone m) i
+  stays : (m : List Rec) (i : Marked) → IsInstance m i → is_one_of gone i.segment ≡ false → IsInstance (recs_without Nameless gone m) i
   stays m i w h =
-      let front = recs_without Gone gone w.before in
+      let front = recs_without Nameless gone w.before in
       let second = w.before ++ w.segdef ∷ [] in
       let third = second ++ w.pubdef ∷ [] in
       let back = with_before left_of (third ++ w.mark ∷ []) w.after in
-      let rest = has-the-rest Gone gone w.before in
-      let whole = has-the-rest Gone gone m in
+      let rest = has-the-rest Nameless gone w.before in
+      let whole = has-the-rest Nameless gone m in
       let same : length (segments front) ≡ length (segments w.before) =
-      ap (λ (xs : List SegInfo). length xs) rest.left_segments ∙ length-map {B = SegInfo} (enumerate_from 1 (segments w.before)) (left_segment gone) ∙ length-enumerate_from 1 (segments w.before) in
+      ap (λ (xs : List SegInfo). length xs) rest.left_segments ∙ length-map {B = SegInfo} (enumerate_from 1 (segments w.before)) (left_segment Nameless gone) ∙ length-enumerate_from 1 (segments w.before) in
       let index = w.index_is in
       record {
         before = front;
@@ -412,7 +412,7 @@ module _ (gone : List ℕ) where
         mark = w.mark;
         after = back;
         split =
-            ap (recs_without Gone gone) w.split ∙ with-more left_of [] w.before (w.segdef ∷ w.pubdef ∷ w.mark ∷ w.after)
+            ap (recs_without Nameless gone) w.split ∙ with-more left_of [] w.before (w.segdef ∷ w.pubdef ∷ w.mark ∷ w.after)
             ∙ ap (λ (rs : List Rec). front ++ rs)
             (ap₂ (λ (xs ys : List Rec). xs ++ ys) (segment-stays w.before w.segdef w.item w.segment_is (ap (is_one_of gone) (sym w.index_is) ∙ h))
             (ap₂ (λ (xs ys : List Rec). xs ++ ys) (public-stays second w.pubdef i.segment i.name (one-public i.segment w.pubdef.kind w.pubdef.contents i.name w.named) h)
@@ -454,7 +454,7 @@ module _ (name : List ℕ) (f : Marked → Bool) (m : List Rec) where
   named i = bytes_eq i.name name
 
   abbrev pub rest_of_module : List Rec
-  rest_of_module = recs_without Gone (passing f (instances m)) m
+  rest_of_module = recs_without Nameless (passing f (instances m)) m
 
   abbrev pub IsLeft : List Marked → Type 0
   IsLeft is = IsByInstance name rest_of_module × (of_name name (instances rest_of_module) ≡ is)

@@ -1,6 +1,6 @@
 -- The modules of a program by their numbers.
-use Rattle.std.proofs.Common.{◌≡◌, ℕ, zero, suc, ◌+◌, ◌<◌, ◌≤◌, List, [], ◌∷◌, ◌++◌, length, get_or, refl, sym, ap, ◌∙◌, subst, arith, append-nil}
-use Rattle.std.specs.Prelude.{flat_map, map, slice_get, Option, Some, None, option_to_list}
+use Rattle.std.proofs.Common.{◌≡◌, ℕ, zero, suc, ◌+◌, ◌<◌, List, [], ◌∷◌, length, get_or, refl, sym, ap, ◌∙◌, subst, arith, append-nil}
+use Rattle.std.specs.Prelude.{flat_map, slice_get, Some, None, option_to_list}
 use Rattle.std.proofs.lemmas.Option.{none-some, same_Some}
 use Rattle.omf_records.specs.Values.{Rec}
 use Rattle.omf_check.specs.Tables.{segments}
@@ -8,7 +8,6 @@ use Rattle.omf_check.specs.declared.method.TargetMethod.{TargetMethod}
 use Rattle.omf_placement.specs.Inner.Linkage.{linkage}
 use Rattle.omf_trimming.specs.Reaching.{IsNode, Node, means, next, next_in, targets_of, uses}
 use Rattle.omf_trimming.specs.Inner.Reaching.{AreOf, IsOf, IsProgram}
-use Rattle.omf_trimming.specs.Inner.Uses.{module_uses}
 use Rattle.omf_trimming.specs.declared.reaching.program.Program.{Program}
 use Rattle.omf_trimming.specs.declared.reaching.program.ProgramModule.{ProgramModule}
 use Rattle.omf_trimming.proofs.UseLaws.{module-bucket}

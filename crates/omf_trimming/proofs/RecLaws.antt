@@ -1,21 +1,20 @@
 -- What the typed records define that are left of a module.
-use Rattle.std.proofs.Common.{◌≡◌, inl, inr, ℕ, ◌+◌, ◌*◌, ◌/◌, ◌%◌, ◌^◌, ◌<◌, List, [], ◌∷◌, ◌++◌, length, refl, sym, ap, ap₂, ◌∙◌, subst, Bool, true, false, cond, arith, append-nil, length-append}
+use Rattle.std.proofs.Common.{◌≡◌, inl, inr, ℕ, ◌+◌, ◌*◌, ◌/◌, ◌%◌, ◌^◌, ◌<◌, List, [], ◌∷◌, ◌++◌, length, refl, sym, ap, ap₂, ◌∙◌, Bool, true, false, cond, arith, append-nil, length-append}
 use Rattle.std.specs.Prelude.{◌==◌, filter, flat_map, map, not, None}
 use Rattle.std.specs.List.{enumerate_from}
-use Rattle.std.proofs.lemmas.Bool.{cases_Bool, cond_both, cond-true, cond-false, eqb-true, true≢false}
+use Rattle.std.proofs.lemmas.Bool.{cases_Bool, cond-true, cond-false, eqb-true, true≢false}
 use Rattle.std.proofs.lemmas.Grind.{flat_map-append}
-use Rattle.std.proofs.lemmas.List.{map-append}
 use Rattle.std.proofs.lemmas.List.Elements.{filter-append}
-use Rattle.omf_frame.specs.Bytes.{has_bit, is_one_of, with_before}
+use Rattle.omf_frame.specs.Bytes.{is_one_of, with_before}
 use Rattle.omf_frame.specs.Types.{is_local}
 use Rattle.omf_records.specs.Values.{At, Carried, Comment, Communals, Contents, DataItem, Externs, Fixups, Group, Header, Iterated, ModEnd, Names, Plain, PublicItems, Publics, Rec, Segment, SegmentItem, Subrecord, combination, is_big, width}
 use Rattle.omf_check.specs.Tables.{defined_externals, defined_groups, defined_names, defined_segments, last_data, segment_length, segments}
 use Rattle.omf_check.specs.declared.segment.SegInfo.{SegInfo}
 use Rattle.omf_trimming.specs.Choice.{data_by, data_if, data_of}
-use Rattle.omf_trimming.specs.Without.{Left, Whole, Nothing, Anew, are_of, emptied, left_after, left_publics, recs_left, started, threads_alone}
+use Rattle.omf_trimming.specs.Without.{Left, Whole, Nothing, Anew, are_of, emptied, left_after, left_field, left_publics, recs_left, started, threads_alone}
 use Rattle.omf_trimming.specs.WithoutLaws.{PublicsAreLeftOut, RestsHaveTheRest, left_segment, public_records, publics_by}
 use Rattle.omf_trimming.specs.declared.without.LeftPublics.{LeftPublics}
-use Rattle.omf_trimming.specs.declared.without.LeftPublics.TheVariants.{AtStart, Gone}
+use Rattle.omf_trimming.specs.declared.without.LeftPublics.TheVariants.{AtStart, Gone, Nameless}
 
 abbrev T : ℕ → Contents → Rec
 T kind c = record { kind = kind; contents = c }
@@ -55,11 +54,12 @@ module _ (p : LeftPublics) (gone : List ℕ) where
 
     none-publics : (o : LeftPublics) (kind : ℕ) (q : PublicItems) → flat_map given (recs_left (T kind (Publics q)) (left_publics o q)) ≡ []
     none-publics Gone kind q = refl
+    none-publics Nameless kind q = refl
     none-publics AtStart kind q = none-whole kind (Publics (started q)) (n.none_publics kind (started q))
 
     same-by : (before : List Rec) (kind : ℕ) (c : Contents) → flat_map given (recs_left (T kind c) (left_after p gone before c)) ≡ f kind c
-    same-by before kind (Segment s) = either (is_one_of gone (length (segments before) + 1)) kind (Segment s) (Anew (Segment (emptied s))) Whole (n.none_segment kind s)
-        (none-whole kind (Segment (emptied s)) (n.none_segment kind (emptied s))) (none-whole kind (Segment s) (n.none_segment kind s))
+    same-by before kind (Segment s) = either (is_one_of gone (length (segments before) + 1)) kind (Segment s) (Anew (Segment (emptied p s))) Whole (n.none_segment kind s)
+        (none-whole kind (Segment (emptied p s)) (n.none_segment kind (emptied p s))) (none-whole kind (Segment s) (n.none_segment kind s))
     same-by before kind (Publics q) = either (is_one_of gone q.segment.item) kind (Publics q) (left_publics p q) Whole (n.none_publics kind q) (none-publics p kind q) (none-whole kind (Publics q) (n.none_publics kind q))
     same-by before kind (Plain d) = either (is_one_of gone d.segment.item) kind (Plain d) Nothing Whole (n.none_plain kind d) refl (none-whole kind (Plain d) (n.none_plain kind d))
     same-by before kind (Iterated d) = either (is_one_of gone d.segment.item) kind (Iterated d) Nothing Whole (n.none_iterated kind d) refl (none-whole kind (Iterated d) (n.none_iterated kind d))
@@ -119,10 +119,11 @@ module _ (p : LeftPublics) (gone : List ℕ) where
 
   publics-data : (s kind : ℕ) (q : PublicItems) (o : LeftPublics) → flat_map (own_data s) (recs_left (T kind (Publics q)) (left_publics o q)) ≡ []
   publics-data s kind q Gone = refl
+  publics-data s kind q Nameless = refl
   publics-data s kind q AtStart = refl
 
   data-by : (s : ℕ) (before : List Rec) (kind : ℕ) (c : Contents) → flat_map (own_data s) (recs_left (T kind c) (left_after p gone before c)) ≡ kept_data s (T kind c)
-  data-by s before kind (Segment x) = left-cond s (T kind (Segment x)) (is_one_of gone (length (segments before) + 1)) (Anew (Segment (emptied x))) Whole [] [] refl refl ∙ same-cond (is_one_of gone (length (segments before) + 1)) [] ∙ nothing-kept (is_one_of gone s)
+  data-by s before kind (Segment x) = left-cond s (T kind (Segment x)) (is_one_of gone (length (segments before) + 1)) (Anew (Segment (emptied p x))) Whole [] [] refl refl ∙ same-cond (is_one_of gone (length (segments before) + 1)) [] ∙ nothing-kept (is_one_of gone s)
   data-by s before kind (Publics q) = left-cond s (T kind (Publics q)) (is_one_of gone q.segment.item) (left_publics p q) Whole [] [] (publics-data s kind q p) refl ∙ same-cond (is_one_of gone q.segment.item) [] ∙ nothing-kept (is_one_of gone s)
   data-by s before kind (Plain d) =
       left-cond s (T kind (Plain d)) (is_one_of gone d.segment.item) Nothing Whole [] (own_data s (T kind (Plain d)) ++ []) refl refl
@@ -151,36 +152,44 @@ module _ (p : LeftPublics) (gone : List ℕ) where
 
   -- ---- segments
 
-  no-big : (a : ℕ) → is_big (0x20 + combination a * 4 + a % 2) ≡ false
-  no-big a = ap (λ n. n == 1) (bit (combination a) (a % 2) (omega arith) (omega arith))
+  small-left : (o : LeftPublics) (c : ℕ) → c < 8 → left_field o c < 8
+  small-left Nameless c h = omega arith
+  small-left Gone c h = h
+  small-left AtStart c h = h
+
+  no-big : (o : LeftPublics) (a : ℕ) → is_big (0x20 + left_field o (combination a) * 4 + a % 2) ≡ false
+  no-big o a = ap (λ n. n == 1) (bit (left_field o (combination a)) (a % 2) (small-left o (combination a) (omega arith)) (omega arith))
     where
       bit : (c l : ℕ) → c < 8 → l < 2 → (0x20 + c * 4 + l) / 2 ^ 1 % 2 ^ 1 ≡ 0
       bit c l h k = omega (arith, h, k)
 
-  empty-length : (kind : ℕ) (s : SegmentItem) → segment_length kind (emptied s) ≡ 0
-  empty-length kind s = cond-false (is_big (emptied s).attribute) (2 ^ (8 * width kind)) 0 (no-big s.attribute)
+  empty-length : (kind : ℕ) (s : SegmentItem) → segment_length kind (emptied p s) ≡ 0
+  empty-length kind s = cond-false (is_big (emptied p s).attribute) (2 ^ (8 * width kind)) 0 (no-big p s.attribute)
 
   abbrev own_segments : Rec → List SegInfo
   own_segments t = defined_segments t.kind t.contents
 
   abbrev left_from : ℕ → List SegInfo → List SegInfo
-  left_from n xs = map (left_segment gone) (enumerate_from n xs)
+  left_from n xs = map (left_segment p gone) (enumerate_from n xs)
 
   left-append : (n : ℕ) (xs ys : List SegInfo) → left_from n (xs ++ ys) ≡ left_from n xs ++ left_from (n + length xs) ys
   left-append n [] ys = let e : n ≡ n + 0 = omega arith in ap (λ k. left_from k ys) e
   left-append n (x ∷ xs) ys =
       let e : n + 1 + length xs ≡ n + length (x ∷ xs) = omega arith in
-      ap (λ zs. left_segment gone (n, x) ∷ zs) (left-append (n + 1) xs ys ∙ ap (λ k. left_from (n + 1) xs ++ left_from k ys) e)
+      ap (λ zs. left_segment p gone (n, x) ∷ zs) (left-append (n + 1) xs ys ∙ ap (λ k. left_from (n + 1) xs ++ left_from k ys) e)
+
+  abbrev without-bytes : SegInfo → SegInfo
+  without-bytes i = record { length = 0; absolute = None; name = left_field p i.name; class = left_field p i.class }
 
   segment-left : (before : List Rec) (kind : ℕ) (s : SegmentItem) (b : Bool) → is_one_of gone (length (segments before) + 1) ≡ b
-      → flat_map own_segments (recs_left (T kind (Segment s)) (cond b (Anew (Segment (emptied s))) Whole)) ≡ left_from (length (segments before) + 1) (own_segments (T kind (Segment s)))
+      → flat_map own_segments (recs_left (T kind (Segment s)) (cond b (Anew (Segment (emptied p s))) Whole)) ≡ left_from (length (segments before) + 1) (own_segments (T kind (Segment s)))
   segment-left before kind s true e =
       let info : SegInfo = record { length = segment_length kind s; absolute = s.absolute; name = s.name.item; class = s.class.item } in
-      ap (λ (n : ℕ). (let i : SegInfo = record { length = n; absolute = None; name = s.name.item; class = s.class.item } in i) ∷ []) (empty-length kind s)
-      ∙ sym (ap (λ (i : SegInfo). i ∷ []) (cond-true (is_one_of gone (length (segments before) + 1)) (record info { length = 0; absolute = None }) info e))
+      ap (λ (n : ℕ). (let i : SegInfo = record { length = n; absolute = None; name = left_field p s.name.item; class = left_field p s.class.item } in i) ∷ []) (empty-length kind s)
+      ∙ sym (ap (λ (i : SegInfo). i ∷ []) (cond-true (is_one_of gone (length (segments before) + 1)) (without-bytes info) info e))
   segment-left before kind s false e =
       let info : SegInfo = record { length = segment_length kind s; absolute = s.absolute; name = s.name.item; class = s.class.item } in
-      sym (ap (λ (i : SegInfo). i ∷ []) (cond-false (is_one_of gone (length (segments before) + 1)) (record info { length = 0; absolute = None }) info e))
+      sym (ap (λ (i : SegInfo). i ∷ []) (cond-false (is_one_of gone (length (segments before) + 1)) (without-bytes info) info e))
 
   none-cond : (t : Rec) (b : Bool) (l k : Left) → flat_map own_segments (recs_left t l) ≡ [] → flat_map own_segments (recs_left t k) ≡ [] → flat_map own_segments (recs_left t (cond b l k)) ≡ []
   none-cond t true l k e h = e
@@ -188,6 +197,7 @@ module _ (p : LeftPublics) (gone : List ℕ) where
 
   publics-segments : (kind : ℕ) (q : PublicItems) (o : LeftPublics) → flat_map own_segments (recs_left (T kind (Publics q)) (left_publics o q)) ≡ []
   publics-segments kind q Gone = refl
+  publics-segments kind q Nameless = refl
   publics-segments kind q AtStart = refl
 
   segments-by : (before : List Rec) (kind : ℕ) (c : Contents) → flat_map own_segments (recs_left (T kind c) (left_after p gone before c)) ≡ left_from (length (segments before) + 1) (own_segments (T kind c))
@@ -249,7 +259,7 @@ module _ (gone : List ℕ) where
   one-left kind q false e = sym (cond-true (is_left q) (q ∷ []) [] (ap not e))
 
   publics-by : (before : List Rec) (kind : ℕ) (c : Contents) → flat_map own_publics (recs_left (T kind c) (left_after Gone gone before c)) ≡ left_publics_of (T kind c)
-  publics-by before kind (Segment s) = none-either (T kind (Segment s)) (is_one_of gone (length (segments before) + 1)) (Anew (Segment (emptied s))) Whole refl refl
+  publics-by before kind (Segment s) = none-either (T kind (Segment s)) (is_one_of gone (length (segments before) + 1)) (Anew (Segment (emptied Gone s))) Whole refl refl
   publics-by before kind (Publics q) = one-left kind q (is_one_of gone q.segment.item) refl
   publics-by before kind (Plain d) = none-either (T kind (Plain d)) (is_one_of gone d.segment.item) Nothing Whole refl refl
   publics-by before kind (Iterated d) = none-either (T kind (Iterated d)) (is_one_of gone d.segment.item) Nothing Whole refl refl

@@ -1,6 +1,6 @@
 -- What is left of a module's records where segments are left out.
-use Rattle.std.proofs.Common.{◌≡◌, ℕ, suc, ◌+◌, ◌-◌, ◌≤◌, ◌<◌, List, [], ◌∷◌, ◌++◌, length, length-append, take, refl, sym, ap, ap₂, ◌∙◌, subst, arith, append_assoc, append-nil, true, false, cond, Bool}
-use Rattle.std.specs.Prelude.{All, flat_map, Option, Some, None, Result, Ok}
+use Rattle.std.proofs.Common.{◌≡◌, ℕ, suc, ◌+◌, ◌-◌, ◌≤◌, ◌<◌, List, [], ◌∷◌, ◌++◌, length, length-append, take, refl, sym, ap, ◌∙◌, subst, arith, append_assoc, append-nil, true, false, cond, Bool}
+use Rattle.std.specs.Prelude.{All, flat_map, Option, Result, Ok}
 use Rattle.std.specs.List.{last_or}
 use Rattle.std.proofs.lemmas.Grind.{flat_map-append}
 use Rattle.std.proofs.lemmas.List.{map-append, nil_from_length}
@@ -22,7 +22,7 @@ use Rattle.omf_check.proofs.WellLaws.{well-read}
 use Rattle.omf_trimming.specs.Without.{Left, Whole, Nothing, Anew, are_of, count_after, emptied, left_by, left_publics, raws_left, rest_of, threads_alone, without, written}
 use Rattle.omf_trimming.specs.Inner.Rest.{RestSoFar, bytes_by, gone_after, publics_left, rest_after}
 use Rattle.omf_trimming.specs.declared.without.LeftPublics.{LeftPublics}
-use Rattle.omf_trimming.specs.declared.without.LeftPublics.TheVariants.{AtStart, Gone}
+use Rattle.omf_trimming.specs.declared.without.LeftPublics.TheVariants.{AtStart, Gone, Nameless}
 use Rattle.omf_trimming.proofs.LeftLaws.{data-more}
 
 -- What is left of the records so far, this many, and the records to come make the module without these segments.
@@ -98,10 +98,11 @@ itself r = sym (append-nil (raw_bytes r))
 
 publics-bytes : (p : LeftPublics) (r : Raw) (q : PublicItems) → publics_left p r.kind q ≡ left_bytes r (left_publics p q)
 publics-bytes Gone r q = refl
+publics-bytes Nameless r q = refl
 publics-bytes AtStart r q = sym (append-nil (publics_left AtStart r.kind q))
 
 bytes-left : (p : LeftPublics) (gone : List ℕ) (n : ℕ) (b : Bool) (r : Raw) (c : Contents) → bytes_by p gone n b (raw_bytes r) r.kind c ≡ left_bytes r (left_by p gone n b c)
-bytes-left p gone n b r (Segment s) = bytes-if r (is_one_of gone n) _ _ (Anew (Segment (emptied s))) Whole (itself (written r.kind (Segment (emptied s)))) (itself r)
+bytes-left p gone n b r (Segment s) = bytes-if r (is_one_of gone n) _ _ (Anew (Segment (emptied p s))) Whole (itself (written r.kind (Segment (emptied p s)))) (itself r)
 bytes-left p gone n b r (Publics q) = bytes-if r (is_one_of gone q.segment.item) _ _ (left_publics p q) Whole (publics-bytes p r q) (itself r)
 bytes-left p gone n b r (Plain d) = bytes-if r (is_one_of gone d.segment.item) _ _ Nothing Whole refl (itself r)
 bytes-left p gone n b r (Iterated d) = bytes-if r (is_one_of gone d.segment.item) _ _ Nothing Whole refl (itself r)

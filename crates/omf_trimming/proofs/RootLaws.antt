@@ -1,7 +1,6 @@
 -- The segments that stay, one after another.
 use Rattle.std.proofs.Common.{◌≡◌, ℕ, zero, suc, ◌+◌, ◌<◌, List, [], ◌∷◌, ◌++◌, length, refl, sym, ap, ◌∙◌, arith, append_assoc, inl, inr}
-use Rattle.std.specs.Prelude.{flat_map, filter, map, slice_get, Option, Some, None, if◌then◌else◌}
-use Rattle.std.specs.List.{enumerate_from}
+use Rattle.std.specs.Prelude.{flat_map, filter, map, slice_get, Option, None}
 use Rattle.std.proofs.lemmas.Bool.{cases_Bool, cond-true, cond-false}
 use Rattle.omf_check.specs.Tables.{entry}
 use Rattle.omf_check.specs.declared.segment.SegInfo.{SegInfo}

@@ -1,11 +1,11 @@
 -- The instances of a module are its SEGDEFs that are followed by a PUBDEF of one name and a mark.
-use Rattle.std.proofs.Common.{◌≡◌, inl, inr, ℕ, zero, suc, ◌+◌, ◌<◌, List, [], ◌∷◌, ◌++◌, length, refl, sym, ap, ap₂, ◌∙◌, subst, arith, append_assoc, append-nil}
+use Rattle.std.proofs.Common.{◌≡◌, inl, inr, ℕ, zero, suc, ◌+◌, List, [], ◌∷◌, ◌++◌, length, refl, sym, ap, ap₂, ◌∙◌, subst, arith, append_assoc, append-nil}
 use Rattle.std.specs.Prelude.{Contains, Option, Some, None}
 use Rattle.std.proofs.lemmas.List.Elements.{Contains-append_cases, Contains-append_left, Contains-append_right}
 use Rattle.omf_records.specs.Values.{Contents, Rec, Segment, SegmentItem}
 use Rattle.omf_check.specs.Tables.{segment_length, segments}
 use Rattle.omf_lowering.specs.Marks.{selection_by}
-use Rattle.omf_trimming.specs.Choice.{Marked, data_of, instances, marked_at, marked_from, marked_if, name_by}
+use Rattle.omf_trimming.specs.Choice.{Marked, data_of, marked_at, marked_from, marked_if, name_by}
 use Rattle.omf_trimming.specs.ChoiceLaws.{InstancesAreTriples, IsInstance}
 use Rattle.omf_trimming.specs.Without.{count_after}
 use Rattle.omf_trimming.proofs.RestLaws.{count-is, segments-more}

@@ -1,15 +1,15 @@
 -- The segments that are not reached, by their marks.
-use Rattle.std.proofs.Common.{◌≡◌, ℕ, zero, suc, ◌+◌, ◌<◌, ◌≤◌, ◌⊎◌, Bool, true, false, List, [], ◌∷◌, ◌++◌, length, get_or, refl, sym, ap, ap₂, ◌∙◌, subst, arith, inl, inr, append_assoc, append-nil}
+use Rattle.std.proofs.Common.{◌≡◌, ℕ, zero, suc, ◌+◌, ◌<◌, Bool, true, false, List, [], ◌∷◌, ◌++◌, length, refl, sym, ap, ap₂, ◌∙◌, subst, arith, inl, inr, append_assoc, append-nil}
 use Rattle.std.specs.Global.{Global}
-use Rattle.std.specs.Prelude.{Result, Ok, Err, IfOk, Vec, map, filter, not, nat_lt, slice_get, Option, Some, None, if◌then◌else◌, ◌==◌, ◌&&◌, ◌||◌, All, Contains}
+use Rattle.std.specs.Prelude.{Result, Ok, Err, IfOk, Vec, map, filter, not, nat_lt, slice_get, ◌==◌, ◌&&◌, ◌||◌, Contains}
 use Rattle.std.specs.List.{AllZip, enumerate_from}
 use Rattle.std.proofs.lemmas.Bool.{cases_Bool, cond-true, cond-false, eqb-true, eq-eqb}
 use Rattle.std.proofs.lemmas.List.Elements.{All-contains}
 use Rattle.omf_records.specs.Values.{Rec}
 use Rattle.omf_check.specs.Module.{Module, typed_modules}
 use Rattle.omf_check.specs.Tables.{segments}
-use Rattle.omf_trimming.specs.Reaching.{AreReached, AreWithoutUnreached, IsNode, IsWithoutUnreached, Node, is_among, unreached}
-use Rattle.omf_trimming.specs.Inner.Reaching.{HasMark, IsWalk, IsWalked, Marks, AreUnreached, is_marked, is_set, set_of, size_of, unmarked_from}
+use Rattle.omf_trimming.specs.Reaching.{AreReached, AreWithoutUnreached, IsWithoutUnreached, Node, is_among, unreached}
+use Rattle.omf_trimming.specs.Inner.Reaching.{IsWalk, IsWalked, Marks, AreUnreached, is_marked, is_set, set_of, size_of, unmarked_from}
 use Rattle.omf_trimming.specs.Without.{IsWithout}
 use Rattle.omf_trimming.specs.declared.without.LeftPublics.{LeftPublics}
 use Rattle.omf_trimming.proofs.ChoiceAllLaws.{paired}

@@ -1,6 +1,6 @@
 -- The choice among the COMDATs of one name in several modules, in the order of a link (TIS OMF 1.1, "COMDAT": a linker takes one instance, and leaves the others out
 -- with their fixups; the selection criteria).
-use Rattle.std.specs.Prelude.{ℕ, ◌+◌, List, [], ◌∷◌, ◌++◌, map, flat_map, filter, bytes_eq, Bool, true, false, not, ◌==◌, ◌&&◌, ◌||◌, Option, Some, None, if◌then◌else◌}
+use Rattle.std.specs.Prelude.{ℕ, ◌+◌, List, [], ◌∷◌, ◌++◌, map, flat_map, filter, bytes_eq, Bool, false, not, ◌==◌, ◌&&◌, ◌||◌, Option, Some, None, if◌then◌else◌}
 use Rattle.std.specs.List.{AllZip}
 use Rattle.std.specs.Cmp.Lexicographic.{pointwise}
 use Rattle.omf_frame.specs.Bytes.{with_before}
@@ -10,7 +10,7 @@ use Rattle.omf_check.specs.Module.{Module, recs_of}
 use Rattle.omf_check.specs.Tables.{segment_length}
 use Rattle.omf_lowering.specs.Marks.{selection_by}
 use Rattle.omf_trimming.specs.Without.{IsWithout, count_after}
-use Rattle.omf_trimming.specs.declared.without.LeftPublics.TheVariants.{Gone}
+use Rattle.omf_trimming.specs.declared.without.LeftPublics.TheVariants.{Nameless}
 
 -- The data of a segment: of each LEDATA and LIDATA of it the type, the offset and the bytes, as one list.
 abbrev pub data_if : Bool → ℕ → DataItem → List (List ℕ)
@@ -95,7 +95,7 @@ all_left_out ms = with_before (λ before m. left_out before m ∷ []) [] ms
 
 -- Each module without its instances that are left out after the modules before it.
 abbrev pub IsChosen : Module × List ℕ → Module → Type 0
-IsChosen c out = IsWithout Gone c.1 c.0 out
+IsChosen c out = IsWithout Nameless c.1 c.0 out
 
 abbrev pub with_left_out : List Module → List (Module × List ℕ)
 with_left_out ms = with_before (λ before m. (m, left_out before m) ∷ []) [] ms

@@ -10,7 +10,7 @@ use Rattle.omf_check.specs.WellFormed.{IsWellFormed}
 use Rattle.omf_lowering.specs.Marks.{selection_by}
 use Rattle.omf_trimming.specs.Choice.{AreChosen, Marked, agree, data_of, instances, name_by, with_left_out}
 use Rattle.omf_trimming.specs.Without.{recs_without}
-use Rattle.omf_trimming.specs.declared.without.LeftPublics.TheVariants.{Gone}
+use Rattle.omf_trimming.specs.declared.without.LeftPublics.TheVariants.{Nameless}
 
 -- No record of a module is a mark.
 abbrev pub HasNoMark : Module → Type 0
@@ -50,7 +50,7 @@ IsWellFormedModule m = IsWellFormed m.profile profile_limits m.bytes (records_in
 
 -- Each module has its records without the instances that are left out, but for their places. The laws rests_have_the_rest and publics_are_left_out show what that is.
 abbrev pub ChosenAreTyped : Type 0
-ChosenAreTyped = (ms out : List Module) → All IsWellFormedModule ms → AreChosen ms out → AllZip (λ c o. map alone (recs_of o.bytes) ≡ map alone (recs_without Gone c.1 (recs_of c.0.bytes))) (with_left_out ms) out
+ChosenAreTyped = (ms out : List Module) → All IsWellFormedModule ms → AreChosen ms out → AllZip (λ c o. map alone (recs_of o.bytes) ≡ map alone (recs_without Nameless c.1 (recs_of c.0.bytes))) (with_left_out ms) out
 
 -- The segments in which the PUBDEFs of a module define a name.
 abbrev pub definitions_by : List ℕ → ℕ → Contents → List ℕ

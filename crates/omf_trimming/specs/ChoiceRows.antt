@@ -1,10 +1,9 @@
 -- Modules of the worked examples of the choice.
-use Rattle.std.specs.Prelude.{◌≡◌, ℕ, List, [], ◌∷◌, ◌++◌, codes}
+use Rattle.std.specs.Prelude.{ℕ, List, [], ◌∷◌, ◌++◌, codes}
 use Rattle.omf_frame.specs.Rows.{hex}
-use Rattle.omf_check.specs.Module.{Module, recs_of}
+use Rattle.omf_check.specs.Module.{Module}
 use Rattle.omf_check.specs.Rows.{F, L, M, any}
-use Rattle.omf_trimming.specs.Choice.{Marked, instances, left_out}
-use Rattle.omf_trimming.specs.Without.{without}
+use Rattle.omf_trimming.specs.Choice.{left_out}
 use Rattle.omf_lowering.specs.Rows.{base, f_data, f_public, f_segment}
 
 -- marks: no match, pick any, same size, exact match

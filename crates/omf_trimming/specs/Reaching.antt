@@ -1,6 +1,6 @@
 -- The segments of a program that its starts and its data reach, and the modules without those of the others that may be left out: debug information, which a linker lays in
 -- no memory, and code (this profile's rule; as Open Watcom's OPTION ELIMINATE, which leaves out code alone).
-use Rattle.std.specs.Prelude.{◌≡◌, ℕ, ◌+◌, ◌≤◌, List, [], ◌∷◌, ◌++◌, length, map, flat_map, filter, codes, bytes_eq, All, Contains, Bool, true, false, not, ◌==◌, ◌&&◌, ◌||◌, Option, Some, None, is_some, option_to_list, slice_get, if◌then◌else◌}
+use Rattle.std.specs.Prelude.{◌≡◌, ℕ, ◌≤◌, List, [], ◌∷◌, length, map, flat_map, filter, codes, bytes_eq, All, Contains, Bool, false, not, ◌==◌, ◌&&◌, ◌||◌, Option, Some, None, is_some, option_to_list, slice_get, if◌then◌else◌}
 use Rattle.std.specs.List.{AllZip, enumerate_from, list_any}
 use Rattle.omf_frame.specs.Bytes.{with_before}
 use Rattle.omf_records.specs.Values.{Contents, GroupItem, Iterated, Plain, Rec}
@@ -19,7 +19,7 @@ use Rattle.omf_placement.specs.Inner.Linkage.{definer_at, linkage}
 use Rattle.omf_placement.specs.Weak.{weak_pairs}
 use Rattle.omf_placement.specs.declared.several.pairs.WeakPair.{WeakPair}
 use Rattle.omf_placement.specs.declared.several.sources.Definer.{Definer}
-use Rattle.omf_placement.specs.declared.several.sources.Definer.TheVariants.{Only, Several}
+use Rattle.omf_placement.specs.declared.several.sources.Definer.TheVariants.{Only}
 use Rattle.omf_reloc.specs.Plain.{End, Fixed, Kept, Piece, piece_of}
 use Rattle.omf_trimming.specs.Without.{IsWithout}
 use Rattle.omf_trimming.specs.declared.optional.LeftOut.{LeftOut}

@@ -10,16 +10,29 @@ use Rattle.omf_check.specs.Module.{Module, records_in}
 use Rattle.omf_check.specs.Tables.{last_data, segments}
 use Rattle.omf_check.specs.WellFormed.{recs}
 use Rattle.omf_trimming.specs.declared.without.LeftPublics.{LeftPublics}
-use Rattle.omf_trimming.specs.declared.without.LeftPublics.TheVariants.{AtStart, Gone}
+use Rattle.omf_trimming.specs.declared.without.LeftPublics.TheVariants.{AtStart, Gone, Nameless}
 
 -- The number of SEGDEFs after a record with these contents.
 abbrev pub count_after : ℕ → Contents → ℕ
 count_after count (Segment s) = count + 1
 count_after count _ = count
 
+-- A SEGDEF without names, which combines with none, takes no part in the order of segments (`runs` of omf_layout).
+abbrev pub left_field : LeftPublics → ℕ → ℕ
+left_field Nameless n = 0
+left_field Gone n = n
+left_field AtStart n = n
+
 -- The SEGDEF of a segment that is left out: the length is 0, the alignment 1, bytes, and it is not big, so that a linker adds nothing for it.
-abbrev pub emptied : SegmentItem → SegmentItem
-emptied s = record s { attribute = 0x20 + combination s.attribute * 4 + s.attribute % 2; absolute = None; size = 0 }
+abbrev pub emptied : LeftPublics → SegmentItem → SegmentItem
+emptied publics s = record s {
+  attribute = 0x20 + left_field publics (combination s.attribute) * 4 + s.attribute % 2;
+  absolute = None;
+  size = 0;
+  name = record s.name { item = left_field publics s.name.item };
+  class = record s.class { item = left_field publics s.class.item };
+  overlay = left_field publics s.overlay;
+}
 
 -- A FIXUPP without its FIXUPs.
 abbrev pub is_thread : Subrecord → Bool
@@ -52,10 +65,11 @@ pub data Left : Type 0 where
 -- of them nothing, or its publics at the start of the segment; of data in one nothing; of a FIXUPP after such data the THREADs. Every other record stays.
 abbrev pub left_publics : LeftPublics → PublicItems → Left
 left_publics Gone p = Nothing
+left_publics Nameless p = Nothing
 left_publics AtStart p = Anew (Publics (started p))
 
 abbrev pub left_by : LeftPublics → List ℕ → ℕ → Bool → Contents → Left
-left_by publics gone segment after_gone (Segment s) = if is_one_of gone segment then Anew (Segment (emptied s)) else Whole
+left_by publics gone segment after_gone (Segment s) = if is_one_of gone segment then Anew (Segment (emptied publics s)) else Whole
 left_by publics gone segment after_gone (Publics p) = if is_one_of gone p.segment.item then left_publics publics p else Whole
 left_by publics gone segment after_gone (Plain d) = if is_one_of gone d.segment.item then Nothing else Whole
 left_by publics gone segment after_gone (Iterated d) = if is_one_of gone d.segment.item then Nothing else Whole

@@ -10,7 +10,7 @@ use Rattle.omf_check.specs.WellFormed.{IsWellFormed, recs}
 use Rattle.omf_check.specs.declared.profile.Profile.{Profile}
 use Rattle.omf_check.specs.declared.segment.SegInfo.{SegInfo}
 use Rattle.omf_trimming.specs.Choice.{data_of}
-use Rattle.omf_trimming.specs.Without.{records_without, recs_without, without}
+use Rattle.omf_trimming.specs.Without.{left_field, records_without, recs_without, without}
 use Rattle.omf_trimming.specs.declared.without.LeftPublics.{LeftPublics}
 use Rattle.omf_trimming.specs.declared.without.LeftPublics.TheVariants.{Gone}
 
@@ -32,21 +32,22 @@ publics_by _ = []
 abbrev pub public_records : List Rec → List PublicItems
 public_records m = flat_map (λ t. publics_by t.contents) m
 
--- A segment with its index: one of those that are left out has no bytes and no address.
-abbrev pub left_segment : List ℕ → ℕ × SegInfo → SegInfo
-left_segment gone s = if is_one_of gone s.0 then record s.1 { length = 0; absolute = None } else s.1
+-- A segment with its index: one of those that are left out has no bytes and no address, and no name where its names are left out too.
+abbrev pub left_segment : LeftPublics → List ℕ → ℕ × SegInfo → SegInfo
+left_segment publics gone s =
+    if is_one_of gone s.0 then record { length = 0; absolute = None; name = left_field publics s.1.name; class = left_field publics s.1.class } else s.1
 
 -- What a module has without these segments: all its names, groups and externals, as many segments, and the data of the others.
-pub record HasTheRest (gone : List ℕ) (m out : List Rec) : Type 0 where
+pub record HasTheRest (publics : LeftPublics) (gone : List ℕ) (m out : List Rec) : Type 0 where
   pub same_names : names out ≡ names m
   pub same_groups : groups out ≡ groups m
   pub same_externals : externals out ≡ externals m
   pub same_locals : locals out ≡ locals m
-  pub left_segments : segments out ≡ map (left_segment gone) (enumerate_from 1 (segments m))
+  pub left_segments : segments out ≡ map (left_segment publics gone) (enumerate_from 1 (segments m))
   pub left_data : (segment : ℕ) → data_of segment out ≡ (if is_one_of gone segment then [] else data_of segment m)
 
 abbrev pub RestsHaveTheRest : Type 0
-RestsHaveTheRest = (publics : LeftPublics) (gone : List ℕ) (m : List Rec) → HasTheRest gone m (recs_without publics gone m)
+RestsHaveTheRest = (publics : LeftPublics) (gone : List ℕ) (m : List Rec) → HasTheRest publics gone m (recs_without publics gone m)
 
 -- Where publics go too, it has exactly those of the other segments.
 abbrev pub PublicsAreLeftOut : Type 0

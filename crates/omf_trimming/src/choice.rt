@@ -46,7 +46,7 @@ pub fn chosen(alloc: Global, modules: Vec<Checked>) -> Result<Vec<Checked>, Allo
         let Some(gone) = left.next() else {
             return Err(AllocError);
         };
-        all.push(without(alloc, module, LeftPublics::Gone, &gone)?)?;
+        all.push(without(alloc, module, LeftPublics::Nameless, &gone)?)?;
     }
     Ok(all)
 }

@@ -19,6 +19,8 @@ use std::alloc::{AllocError, Global};
 pub enum LeftPublics {
     /// They are left out too.
     Gone,
+    /// They are left out too, and so are the segment's names: it takes no part in the order of segments.
+    Nameless,
     /// They are at the start of their segment, so that externals that nothing uses any more have a public.
     AtStart,
 }

@@ -7,7 +7,7 @@ use Rattle.omf_records.specs.Values.{Contents, Fixups, Iterated, Plain, PublicIt
 use Rattle.omf_check.specs.declared.contents.Publics.{Publics as CodePublics}
 use Rattle.omf_trimming.specs.Without.{count_after, emptied, is_thread, started, threads_alone, written}
 use Rattle.omf_trimming.specs.declared.without.LeftPublics.{LeftPublics}
-use Rattle.omf_trimming.specs.declared.without.LeftPublics.TheVariants.{AtStart, Gone}
+use Rattle.omf_trimming.specs.declared.without.LeftPublics.TheVariants.{AtStart, Gone, Nameless}
 
 -- A subrecord that is a THREAD.
 abbrev pub thread_bytes : ℕ → Subrecord → List ℕ
@@ -19,10 +19,11 @@ bytes_of kind c = raw_bytes (written kind c)
 
 abbrev pub publics_left : LeftPublics → ℕ → PublicItems → List ℕ
 publics_left Gone kind p = []
+publics_left Nameless kind p = []
 publics_left AtStart kind p = bytes_of kind (Publics (started p))
 
 abbrev pub bytes_by : LeftPublics → List ℕ → ℕ → Bool → List ℕ → ℕ → Contents → List ℕ
-bytes_by publics gone segment after_gone bytes kind (Segment s) = if is_one_of gone segment then bytes_of kind (Segment (emptied s)) else bytes
+bytes_by publics gone segment after_gone bytes kind (Segment s) = if is_one_of gone segment then bytes_of kind (Segment (emptied publics s)) else bytes
 bytes_by publics gone segment after_gone bytes kind (Publics p) = if is_one_of gone p.segment.item then publics_left publics kind p else bytes
 bytes_by publics gone segment after_gone bytes kind (Plain d) = if is_one_of gone d.segment.item then [] else bytes
 bytes_by publics gone segment after_gone bytes kind (Iterated d) = if is_one_of gone d.segment.item then [] else bytes

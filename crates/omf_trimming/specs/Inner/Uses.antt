@@ -3,7 +3,7 @@ use Rattle.std.specs.Prelude.{ℕ, ◌+◌, List, [], ◌∷◌, ◌++◌, lengt
 use Rattle.omf_records.specs.Values.{Contents, Iterated, Plain, Rec}
 use Rattle.omf_check.specs.Tables.{segments}
 use Rattle.omf_check.specs.declared.method.TargetMethod.{TargetMethod}
-use Rattle.omf_reloc.specs.Plain.{End, Fixed, Kept, Piece}
+use Rattle.omf_reloc.specs.Plain.{Kept, Piece}
 use Rattle.omf_trimming.specs.Reaching.{piece_uses, uses}
 
 -- The segment of the last data after a record.

@@ -6,7 +6,7 @@ ghost use Rattle.omf_check.specs.Rows.{F, L, M};
 ghost use Rattle.omf_frame.specs.Rows.{hex};
 ghost use Rattle.omf_trimming.specs.Choice.{instances, left_out};
 ghost use Rattle.omf_trimming.specs.Without.{without};
-ghost use Rattle.omf_trimming.specs.declared.without.LeftPublics.TheVariants.{AtStart, Gone};
+ghost use Rattle.omf_trimming.specs.declared.without.LeftPublics.TheVariants.{AtStart, Gone, Nameless};
 ghost use Rattle.omf_trimming.specs.Clashes.{clashes};
 ghost use Rattle.omf_trimming.specs.ChoiceRows.{exact_match, in_module, left_out_after, no_match, pick_any, same_size, with_mark, with_other_data, with_other_size};
 ghost use Rattle.omf_lowering.specs.Rows.{base, f_data, f_public, f_segment};
@@ -42,10 +42,12 @@ pub fn clashes_of_modules()
     ensures none { clashes (in_module (with_mark pick_any) ∷ in_module (with_other_size pick_any) ∷ []) ≡ [] }
 {}
 
-/// What is left of a module: the SEGDEF with the length 0 and byte alignment, the mark, and the THREADs of the data; the rest is as it was.
+/// What is left of a module: the SEGDEF with the length 0 and byte alignment, with its names or without, the mark, and the THREADs of the data; the rest is as it was.
 pub fn modules_without()
     ensures left { without Gone (2 ∷ []) (with_mark pick_any)
         ≡ base ++ hex (codes "99 09 00 28 00 00 00 00 02 01 01 32") ++ pick_any ++ hex (codes "9C 03 00 00 01 60") ++ L ++ F ++ M }
+    ensures nameless { without Nameless (2 ∷ []) (with_mark pick_any)
+        ≡ base ++ hex (codes "99 09 00 20 00 00 00 00 00 00 00 3E") ++ pick_any ++ hex (codes "9C 03 00 00 01 60") ++ L ++ F ++ M }
     ensures started { without AtStart (2 ∷ []) (with_mark pick_any)
         ≡ base ++ hex (codes "99 09 00 28 00 00 00 00 02 01 01 32") ++ f_public ++ pick_any ++ hex (codes "9C 03 00 00 01 60") ++ L ++ F ++ M }
     ensures nothing { without Gone [] (with_mark pick_any) ≡ with_mark pick_any }

@@ -3,16 +3,17 @@
 ghost use Rattle.std.specs.Prelude.{◌≡◌, ◌<◌, ◌≤◌, ◌+◌, ◌++◌, [], IfOk, OnOk, false, if◌then◌else◌};
 ghost use Rattle.byteorder.specs.Endian.{little_bytes};
 ghost use Rattle.omf_frame.specs.Bytes.{is_one_of};
+ghost use Rattle.omf_frame.specs.Fields.{index_bytes};
 ghost use Rattle.omf_frame.specs.Framing.{raw_bytes, raw_of};
 ghost use Rattle.omf_records.specs.Inner.Seen.{contents_seen, kind_seen};
 ghost use Rattle.omf_records.specs.Shortest.{contents_bytes, option_bytes, public_bytes};
-ghost use Rattle.omf_records.specs.Values.{Fixups, Publics as PublicsContents, Segment as SegmentContents, width};
-ghost use Rattle.omf_trimming.specs.Without.{at_start, emptied, started, threads_alone};
+ghost use Rattle.omf_records.specs.Values.{Fixups, Publics as PublicsContents, Segment as SegmentContents, combination, width};
+ghost use Rattle.omf_trimming.specs.Without.{at_start, emptied, left_field, started, threads_alone};
 ghost use Rattle.omf_trimming.specs.Inner.Rest.{bytes_of, public_items, publics_left, rest_after, thread_bytes, with_bytes};
 
 use crate::without::LeftPublics;
 use omf_check::Publics;
-use omf_frame::{Field, Le16, Le32, Name};
+use omf_frame::{Field, Index, Le16, Le32, Name};
 use omf_lowering::Record;
 use omf_records::{Item, Items, Part, Public, Rec, Segment, Subrecord};
 use std::alloc::{AllocError, Global};
@@ -42,22 +43,44 @@ fn put_zero(out: &mut Vec<u8>, kind: u8) -> Result<(), AllocError>
     }
 }
 
+/// How a segment that is left out combines, by its attribute byte.
+fn left_combination(publics: LeftPublics, attribute: u8) -> u8
+    ensures value { result ≡ left_field publics (combination attribute) }
+    ensures low { result < 8 }
+{
+    match publics {
+        LeftPublics::Nameless => 0,
+        LeftPublics::Gone | LeftPublics::AtStart => attribute / 4 % 8,
+    }
+}
+
+/// Appends the index of a name of a segment that is left out.
+fn put_left(out: &mut Vec<u8>, publics: LeftPublics, index: &Index) -> Result<(), AllocError>
+    ensures { OnOk result (out.new.items ≡ out.old.items ++ index_bytes (left_field publics index.now)) }
+{
+    match publics {
+        LeftPublics::Nameless => Index(0).put(out),
+        LeftPublics::Gone | LeftPublics::AtStart => index.put(out),
+    }
+}
+
 /// Appends the SEGDEF of a segment that is left out.
 fn put_emptied(
     alloc: Global,
     out: &mut Vec<u8>,
     kind: u8,
     segment: &Segment,
+    publics: LeftPublics,
 ) -> Result<(), AllocError>
-    ensures { OnOk result (out.new.items ≡ out.old.items ++ bytes_of kind (SegmentContents (emptied segment.now))) }
+    ensures { OnOk result (out.new.items ≡ out.old.items ++ bytes_of kind (SegmentContents (emptied publics segment.now))) }
 {
     let attribute = segment.attribute.byte();
     let mut body = Vec::new(alloc);
-    body.push(0x20 + attribute / 4 % 8 * 4 + attribute % 2)?;
+    body.push(0x20 + left_combination(publics, attribute) * 4 + attribute % 2)?;
     put_zero(&mut body, kind)?;
-    segment.name.item.put(&mut body)?;
-    segment.class.item.put(&mut body)?;
-    segment.overlay.put(&mut body)?;
+    put_left(&mut body, publics, &segment.name.item)?;
+    put_left(&mut body, publics, &segment.class.item)?;
+    put_left(&mut body, publics, &segment.overlay)?;
     put_record(out, kind, body)
 }
 
@@ -187,7 +210,7 @@ impl<'a> Rest<'a> {
             return self.out.extend_from_slice(bytes);
         }
         match self.publics {
-            LeftPublics::Gone => Ok(()),
+            LeftPublics::Gone | LeftPublics::Nameless => Ok(()),
             LeftPublics::AtStart => put_record(&mut self.out, kind, started(alloc, kind, publics)?),
         }
     }
@@ -209,12 +232,12 @@ impl<'a> Rest<'a> {
         bytes: &[u8],
     ) -> Result<(), AllocError>
         requires { self.old.segments < 4294967296 }
-        ensures { OnOk result (self.new ≡ with_bytes (record self.old { segments = self.old.segments + 1 }) (if is_one_of self.old.gone (self.old.segments + 1) then bytes_of kind (SegmentContents (emptied segment.now)) else bytes.now)) }
+        ensures { OnOk result (self.new ≡ with_bytes (record self.old { segments = self.old.segments + 1 }) (if is_one_of self.old.gone (self.old.segments + 1) then bytes_of kind (SegmentContents (emptied self.old.publics segment.now)) else bytes.now)) }
     {
         let number = self.segments + 1;
         self.segments = number;
         if self.is_gone(number) {
-            put_emptied(alloc, &mut self.out, kind, segment)
+            put_emptied(alloc, &mut self.out, kind, segment, self.publics)
         } else {
             self.out.extend_from_slice(bytes)
         }

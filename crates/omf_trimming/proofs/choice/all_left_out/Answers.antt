@@ -1,5 +1,5 @@
 use Rattle.std.proofs.Common.{◌≡◌, ◌∙◌, ◌++◌, ◌∷◌, [], ◌+◌, List, ℕ, ap, sym, subst, take}
-use Rattle.std.specs.Prelude.{flat_map, map, Vec}
+use Rattle.std.specs.Prelude.{flat_map, map}
 use Rattle.std.proofs.lemmas.List.{map-append}
 use Rattle.omf_check.specs.Module.{Module, recs_of}
 use Rattle.omf_trimming.specs.Choice.{Marked, instances, left_out}

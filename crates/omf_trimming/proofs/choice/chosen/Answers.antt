@@ -1,11 +1,10 @@
-use Rattle.std.proofs.Common.{◌≡◌, ◌∙◌, ◌++◌, ◌∷◌, [], List, ℕ, ap, sym, subst, arith, length, rules}
+use Rattle.std.proofs.Common.{◌≡◌, ◌∙◌, ◌∷◌, [], List, ℕ, ap, sym, subst, arith, length, rules}
 use Rattle.std.specs.Prelude.{map}
 use Rattle.std.specs.Vec.Iter.{into_iter_items}
 use Rattle.std.proofs.lemmas.List.{nil_from_length}
-use Rattle.omf_check.specs.Module.{Module}
 use Rattle.omf_trimming.specs.Choice.{all_left_out}
 use Rattle.omf_trimming.specs.Without.{IsWithout}
-use Rattle.omf_trimming.specs.declared.without.LeftPublics.TheVariants.{Gone}
+use Rattle.omf_trimming.specs.declared.without.LeftPublics.TheVariants.{Nameless}
 use Rattle.omf_trimming.proofs.ChoiceAllLaws.{choice-ends, choice-more, choice-starts}
 use Rattle.omf_trimming.proofs.choice.chosen.Goals as goal
 
@@ -26,7 +25,7 @@ loop-module-preserved c =
     let drops = c.in-Some.ensures.steps.1 in
     let g : List ℕ = c.in-Some-next.gone.items in
     let gone : into_iter_items c.loop-module.left ≡ c.in-Some-next.gone ∷ into_iter_items c.next-in-loop-module.new.self = search rules in
-    let is : IsWithout Gone g c.in-Some.module c.in_ok-without.field-0 = subst (λ (xs : List ℕ). IsWithout Gone xs c.in-Some.module c.in_ok-without.field-0) c.deref-in-loop-module.ensures.value c.in_ok-without.ensures in
+    let is : IsWithout Nameless g c.in-Some.module c.in_ok-without.field-0 = subst (λ (xs : List ℕ). IsWithout Nameless xs c.in-Some.module c.in_ok-without.field-0) c.deref-in-loop-module.ensures.value c.in_ok-without.ensures in
     record {
       size = omega (arith, ap length steps, drops, c.loop-module.invariant.size);
       so_far = choice-more c.args.modules.items left (into_iter_items c.next.new.self) (map (λ v. v.items) (into_iter_items c.loop-module.left)) (map (λ v. v.items) (into_iter_items c.next-in-loop-module.new.self)) c.loop-module.all.items

@@ -1,6 +1,6 @@
 use Rattle.std.proofs.Common.{◌∙◌, ap, map, refl}
 use Rattle.omf_check.specs.Module.{typed_modules}
-use Rattle.omf_trimming.specs.Inner.Reaching.{AreUnreached, unmarked_from}
+use Rattle.omf_trimming.specs.Inner.Reaching.{unmarked_from}
 use Rattle.omf_trimming.proofs.UnreachedLaws.{are-unreached, if-ok}
 use Rattle.omf_trimming.proofs.reaching.all_unreached.Goals as goal
 

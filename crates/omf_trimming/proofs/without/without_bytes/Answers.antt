@@ -1,5 +1,5 @@
 use Rattle.std.proofs.Common.{◌∙◌, List, ℕ, ap, subst, sym}
-use Rattle.omf_frame.specs.Framing.{Raw, front_record, present, raw_bytes}
+use Rattle.omf_frame.specs.Framing.{Raw, front_record, present}
 use Rattle.omf_image.specs.Limits.{profile_limits}
 use Rattle.omf_records.specs.Inner.Reading.{typed}
 use Rattle.omf_records.specs.Inner.Seen.{contents_seen, kind_seen}

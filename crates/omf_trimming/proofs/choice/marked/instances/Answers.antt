@@ -1,8 +1,8 @@
-use Rattle.std.proofs.Common.{rules, ◌≡◌, ◌∙◌, sym, ap, ◌≤◌, ◌++◌, arith}
+use Rattle.std.proofs.Common.{◌∙◌, sym, ap, ◌++◌, arith}
 use Rattle.omf_frame.specs.declared.fault.Place.{Place}
 use Rattle.omf_records.specs.Values.{Rec}
 use Rattle.omf_check.specs.Module.{recs_of}
-use Rattle.omf_trimming.proofs.ChoiceLaws.{IsWalked, next-listed, other-walks, segment-walks, walk-ends}
+use Rattle.omf_trimming.proofs.ChoiceLaws.{next-listed, other-walks, segment-walks, walk-ends}
 use Rattle.omf_trimming.proofs.choice.marked.instances.Goals as goal
 
 pub with_one-segments-requires : goal.with_one-segments-requires

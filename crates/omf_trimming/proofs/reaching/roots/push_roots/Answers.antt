@@ -4,7 +4,6 @@ use Rattle.std.specs.List.{enumerate_from}
 use Rattle.omf_check.specs.Module.{records_in}
 use Rattle.omf_check.specs.Tables.{entry, names, segments}
 use Rattle.omf_check.specs.WellFormed.{recs}
-use Rattle.omf_trimming.specs.Reaching.{roots_of}
 use Rattle.omf_trimming.specs.Inner.Reaching.{root_if}
 use Rattle.omf_placement.proofs.StepLaws.{next_entry}
 use Rattle.omf_trimming.proofs.SegmentLaws.{all_taken, one_more}

@@ -1,4 +1,4 @@
-use Rattle.std.proofs.Common.{◌≡◌, ◌∙◌, sym, ap, subst, rules, true, false, List, ℕ}
+use Rattle.std.proofs.Common.{◌≡◌, ◌∙◌, sym, ap, subst, false, List, ℕ}
 use Rattle.std.specs.Prelude.{Some, is_some}
 use Rattle.omf_names.proofs.NameTables.{IsUpdated, at_name, is_there, is_updated}
 use Rattle.omf_trimming.specs.Choice.{Marked}

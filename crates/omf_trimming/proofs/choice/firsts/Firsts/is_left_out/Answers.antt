@@ -1,4 +1,4 @@
-use Rattle.std.proofs.Common.{◌≡◌, ◌∙◌, List, ℕ, sym, ap, subst}
+use Rattle.std.proofs.Common.{◌≡◌, ◌∙◌, ap, subst}
 use Rattle.std.specs.Prelude.{IfOk, Option, Some}
 use Rattle.omf_names.proofs.NameTables.{at_name, was_at}
 use Rattle.omf_trimming.specs.Choice.{Marked, agrees_with, first_named}

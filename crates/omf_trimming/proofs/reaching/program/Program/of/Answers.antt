@@ -1,4 +1,4 @@
-use Rattle.std.proofs.Common.{◌++◌, [], ap, sym, subst, append-nil, drop}
+use Rattle.std.proofs.Common.{[], sym, subst, append-nil}
 use Rattle.omf_check.specs.Module.{typed_modules}
 use Rattle.omf_placement.proofs.WeakLaws.{none_left}
 use Rattle.omf_trimming.specs.Inner.Reaching.{AreOf}

@@ -1,5 +1,5 @@
-use Rattle.std.proofs.Common.{◌≡◌, ◌<◌, ◌≤◌, ◌∙◌, ◌++◌, List, ap, length, refl, sym, subst, get_or, rules}
-use Rattle.std.specs.Prelude.{OnOk, Option, Some, None, slice_get}
+use Rattle.std.proofs.Common.{◌≡◌, ◌<◌, ◌≤◌, ◌∙◌, ◌++◌, List, length, refl, sym, subst, get_or, rules}
+use Rattle.std.specs.Prelude.{OnOk}
 use Rattle.std.proofs.lemmas.Option.{none-some, slice_get_past, slice_get_read}
 use Rattle.omf_trimming.specs.Reaching.{IsNode, Node, next}
 use Rattle.omf_trimming.proofs.ProgramLaws.{next-is, of-none}

@@ -1,4 +1,4 @@
-use Rattle.std.proofs.Common.{◌≡◌, ◌∙◌, ap, sym, subst}
+use Rattle.std.proofs.Common.{◌∙◌, ap, sym, subst}
 use Rattle.std.specs.Prelude.{All}
 use Rattle.omf_trimming.specs.Inner.Reaching.{IsCalled, IsTaken}
 use Rattle.omf_trimming.proofs.ReachLaws.{marks-start, no_marks, roots-called, walk-starts}

@@ -1,4 +1,4 @@
-use Rattle.std.proofs.Common.{◌+◌, ◌-◌, ◌<◌, ◌≤◌, List, ℕ, length, get_or}
+use Rattle.std.proofs.Common.{◌+◌, ◌-◌, ◌<◌, List, ℕ, length, get_or}
 use Rattle.std.specs.Prelude.{All}
 use Rattle.omf_records.specs.Values.{Rec}
 use Rattle.omf_trimming.specs.Reaching.{Node, roots}

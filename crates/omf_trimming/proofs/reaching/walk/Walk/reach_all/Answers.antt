@@ -1,4 +1,4 @@
-use Rattle.std.proofs.Common.{◌≡◌, ◌+◌, ◌≤◌, ◌∷◌, ◌∙◌, [], length, sym, subst, take, rules}
+use Rattle.std.proofs.Common.{◌+◌, ◌≤◌, ◌∷◌, ◌∙◌, [], length, sym, subst, take, rules}
 use Rattle.std.proofs.lemmas.List.{take_all}
 use Rattle.omf_trimming.specs.Inner.Reaching.{IsCalled, IsGrown}
 use Rattle.omf_trimming.proofs.ChoiceAllLaws.{take-more}
