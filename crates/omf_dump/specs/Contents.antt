@@ -1,7 +1,7 @@
 -- What is shown of the contents of each record: their fields by the names of the standard (TIS OMF 1.1, the page of each record).
 use Rattle.omf_records.specs.Methods.{frame_code, kind_of}
 use Rattle.std.specs.Prelude.{ℕ, ◌+◌, ◌-◌, ◌*◌, ◌^◌, List, [], ◌∷◌, ◌++◌, length, map, take, drop, not, Option, Some, None, option_map, unwrap_or, Result, Ok, Err, nat_le, codes, if◌then◌else◌}
-use Rattle.omf_frame.specs.Bytes.{has_bit, bits}
+use Rattle.omf_frame.specs.Bytes.{bits}
 use Rattle.omf_records.specs.Location.{row_of}
 use Rattle.omf_records.specs.Values.{At, SegmentItem, ExternalItem, PublicItem, CommunalSize, Near, Far, CommunalItem, Reference, Subrecord, Thread, Fixup, Contents, Header, Comment, Names, Segment, Group, Externs, Publics, Communals, Plain, Iterated, Fixups, ModEnd, Carried, is_big, thread_is_frame, thread_method, is_segment_relative, location_type, location_offset, frame_by_thread, target_by_thread, target_bits}
 use Rattle.omf_frame.specs.Types.{width_bytes, width_of}
@@ -19,9 +19,9 @@ use Rattle.omf_dump.specs.Blocks.{blocks_from}
 use Rattle.omf_dump.specs.Comments.{class_fields, class_items}
 use Rattle.omf_dump.specs.Fields.{Entry, Value, Number, Hex, Word, Characters, Marked, Named, Method, Flag, Field, field, Item, item, Shown, only_fields, with_items, with_block}
 use Rattle.omf_dump.specs.Known.{Data, Tables, name_entry, segment_entry, group_entry, external_entry}
-use Rattle.omf_dump.specs.Raw.{attribute_fields, raw_shown}
+use Rattle.omf_dump.specs.Raw.{attribute_fields, comment_class, comment_flags, end_flags, raw_shown}
 use Rattle.omf_dump.specs.Render.{digits}
-use Rattle.omf_dump.specs.Words.{location_word, class_word}
+use Rattle.omf_dump.specs.Words.{location_word}
 
 -- THEADR, LHEADR.
 abbrev pub header_fields : List ℕ → List Field
@@ -29,8 +29,7 @@ header_fields name = field (codes "name") (Characters name) ∷ []
 
 -- COMENT: class, its name, the bits of the type byte, the fields of the class, the text.
 abbrev pub comment_fields : ℕ → ℕ → List ℕ → List Field
-comment_fields byte class text = field (codes "class") (Hex 2 class) ∷ field (codes "meaning") (Word (class_word class)) ∷ field (codes "flags") (Hex 2 byte)
-    ∷ field (codes "no-purge") (Flag (has_bit byte 7)) ∷ field (codes "no-list") (Flag (has_bit byte 6)) ∷ (class_fields class text ++ field (codes "text") (Characters text) ∷ [])
+comment_fields byte class text = comment_class class ++ (comment_flags byte ++ (class_fields class text ++ field (codes "text") (Characters text) ∷ []))
 
 -- SEGDEF: the index that it defines; name, class and overlay; attributes; the place of an absolute segment; the length in bytes.
 abbrev pub segment_names : Tables → ℕ → SegmentItem → List Field
@@ -181,10 +180,6 @@ abbrev pub subrecord_fields : Tables → Option Data → Width → List Subrecor
 subrecord_fields t fixed width earlier (Thread byte datum) = thread_fields t byte datum
 subrecord_fields t fixed width earlier (Fixup locat r) = location_fields fixed width locat ++ reference_fields t width (frame_of earlier r) (target_of earlier r) r
 
--- MODEND: its module type byte; whether it is a main module; the start.
-abbrev pub end_fields : ℕ → List Field
-end_fields byte = field (codes "flags") (Hex 2 byte) ∷ field (codes "main") (Flag (has_bit byte 7)) ∷ field (codes "has-start") (Flag (has_bit byte 6)) ∷ []
-
 -- Items in their order, each by the number that it has, and by the subrecords before it.
 abbrev pub numbered : {A : Type 0} → (ℕ → A → List Field) → ℕ → List (At A) → List Item
 numbered fields i [] = []
@@ -219,7 +214,7 @@ shown_with subrecords starts t width kind (Communals items) = with_items [] (num
 shown_with subrecords starts t width kind (Plain d) = with_block (place_fields width (segment_entry t d.segment.item) d.offset.item ++ length_field width (length d.bytes)) d.offset.item d.bytes
 shown_with subrecords starts t width kind (Iterated d) = with_items (place_fields width (segment_entry t d.segment.item) d.offset.item ++ expanded_if width d.bytes) (blocks_from width (d.offset.within + width_bytes width) [] 0 d.bytes)
 shown_with subrecords starts t width kind (Fixups subs) = with_items [] (subrecords subs)
-shown_with subrecords starts t width kind (ModEnd byte start) = with_items (end_fields byte) (starts start)
+shown_with subrecords starts t width kind (ModEnd byte start) = with_items (end_flags byte) (starts start)
 shown_with subrecords starts t width kind (Carried bytes) = raw_shown t kind bytes
 
 -- The same after records with these tables, this data and these subrecords.

@@ -7,7 +7,7 @@ ghost use Rattle.omf_dump.specs.Render.{fields_text, items_text};
 
 use crate::field::{bytes, depth, number};
 use crate::format::Format;
-use crate::item::{close_item, open_item_at};
+use crate::item::{close_item, open_item};
 use omf_frame::Width;
 use omf_records::Blocks;
 use std::alloc::AllocError;
@@ -165,7 +165,7 @@ pub(crate) fn put_blocks(
     let mut rest = blocks.bytes;
     while let Some(front) = block_front(width, rest) {
         end_blocks(&mut around);
-        open_item_at(text, format, is_first, at)?;
+        open_item(text, format, is_first, at)?;
         put_block(text, format, around.len(), &front)?;
         close_item(text, format)?;
         count_one(&mut around);

@@ -27,19 +27,15 @@ pub(crate) fn counted(bytes: &[u8]) -> Option<(&[u8], &[u8])>
     }
 }
 
-/// A number of two bytes, little-endian.
-fn word_of(low: u8, high: u8) -> u64
-    ensures { result ≡ low + 256 * high }
-{
-    u64::from(low) + 256 * u64::from(high)
-}
-
 /// An ordinal.
 fn put_ordinal(text: &mut Vec<u8>, format: Format, bytes: &[u8]) -> Result<(), AllocError>
     ensures { AddsText result text.old.items text.new.items (fields_text format (ordinal_fields bytes.now)) }
 {
     match bytes {
-        [low, high, ..] => number(text, format, "ordinal", word_of(*low, *high)),
+        [low, high, ..] => {
+            let ordinal = u64::from(*low) + 256 * u64::from(*high);
+            number(text, format, "ordinal", ordinal)
+        }
         _ => Ok(()),
     }
 }

@@ -1,52 +1,22 @@
 //! The fields of records other than FIXUPPs.
 
-ghost use Rattle.std.specs.Prelude.{◌≡◌, ◌+◌, ◌++◌, codes, length};
-ghost use Rattle.omf_frame.specs.Bytes.{AddsText, has_bit};
+ghost use Rattle.std.specs.Prelude.{◌≡◌, ◌+◌, length};
+ghost use Rattle.omf_frame.specs.Bytes.{AddsText};
 ghost use Rattle.omf_records.specs.Inner.Sizes.{size_seen};
-ghost use Rattle.omf_dump.specs.Contents.{absolute_if, base_fields, comment_fields, communal_fields, end_fields, expanded_if, external_fields, group_fields, header_fields, indexed_fields, length_field, length_if, length_of, member_fields, name_fields, place_fields, public_fields, segment_fields, segment_names, size_fields};
-ghost use Rattle.omf_dump.specs.Fields.{Flag, Hex, Word};
+ghost use Rattle.omf_dump.specs.Contents.{absolute_if, base_fields, comment_fields, communal_fields, expanded_if, external_fields, group_fields, indexed_fields, length_field, length_if, length_of, member_fields, name_fields, place_fields, public_fields, segment_fields, segment_names, size_fields};
 ghost use Rattle.omf_dump.specs.Raw.{attribute_fields};
-ghost use Rattle.omf_dump.specs.Render.{fields_text, value_text};
-ghost use Rattle.omf_dump.specs.Words.{class_word};
+ghost use Rattle.omf_dump.specs.Render.{fields_text};
 
 use crate::comment::put_class_fields;
 use crate::entry::Entry;
-use crate::field::{characters, flag, hexadecimal, named, number, small, word};
+use crate::field::{characters, hexadecimal, named, number, small, word};
+use crate::flags::{self, put_comment_class, put_comment_flags};
 use crate::format::Format;
 use crate::known::Tables;
-use crate::words::{alignment_word, class_word, combination_word};
 use omf_frame::{Index, Name, Width};
 use omf_image::{Limits, expanded_len};
 use omf_records::{Acbp, At, Blocks, Communal, CommunalSize, Extern, LayoutFault, Public, Segment};
 use std::alloc::AllocError;
-
-/// THEADR, LHEADR.
-pub(crate) fn put_header(
-    text: &mut Vec<u8>,
-    format: Format,
-    name: &Name<'_>,
-) -> Result<(), AllocError>
-    ensures { AddsText result text.old.items text.new.items (fields_text format (header_fields name.now)) }
-{
-    characters(text, format, "name", name.0)
-}
-
-/// The class of a comment, and its name.
-fn put_class(text: &mut Vec<u8>, format: Format, class: u8) -> Result<(), AllocError>
-    ensures { AddsText result text.old.items text.new.items (value_text format (codes "class") (Hex 2 class) ++ value_text format (codes "meaning") (Word (class_word class))) }
-{
-    small(text, format, "class", class)?;
-    word(text, format, "meaning", class_word(class))
-}
-
-/// The type byte of a comment.
-fn put_comment_flags(text: &mut Vec<u8>, format: Format, type_byte: u8) -> Result<(), AllocError>
-    ensures { AddsText result text.old.items text.new.items (value_text format (codes "flags") (Hex 2 type_byte) ++ (value_text format (codes "no-purge") (Flag (has_bit type_byte 7)) ++ value_text format (codes "no-list") (Flag (has_bit type_byte 6)))) }
-{
-    small(text, format, "flags", type_byte)?;
-    flag(text, format, "no-purge", type_byte / 128 % 2 == 1)?;
-    flag(text, format, "no-list", type_byte / 64 % 2 == 1)
-}
 
 /// COMENT.
 pub(crate) fn put_comment(
@@ -58,7 +28,7 @@ pub(crate) fn put_comment(
 ) -> Result<(), AllocError>
     ensures { AddsText result text.old.items text.new.items (fields_text format (comment_fields type_byte class comment.now)) }
 {
-    put_class(text, format, class)?;
+    put_comment_class(text, format, class)?;
     put_comment_flags(text, format, type_byte)?;
     put_class_fields(text, format, class, comment)?;
     characters(text, format, "text", comment)
@@ -73,7 +43,7 @@ fn put_segment_names(
 ) -> Result<(), AllocError>
     ensures { AddsText result text.old.items text.new.items (fields_text format (segment_names tables.now (length tables.now.segments + 1) segment.now)) }
 {
-    number(text, format, "segment", tables.next_segment())?;
+    number(text, format, "segment", tables.segments.len() as u64 + 1)?;
     named(text, format, "name", tables.name(segment.name.item.0))?;
     named(text, format, "class", tables.name(segment.class.item.0))?;
     named(text, format, "overlay", tables.name(segment.overlay.0))
@@ -83,16 +53,7 @@ fn put_segment_names(
 fn put_attributes(text: &mut Vec<u8>, format: Format, attribute: Acbp) -> Result<(), AllocError>
     ensures { AddsText result text.old.items text.new.items (fields_text format (attribute_fields attribute)) }
 {
-    let bits = if attribute.is_use32() { 32 } else { 16 };
-    word(text, format, "align", alignment_word(attribute.alignment()))?;
-    word(
-        text,
-        format,
-        "combine",
-        combination_word(attribute.combination()),
-    )?;
-    number(text, format, "use", bits)?;
-    flag(text, format, "big", attribute.is_big())
+    flags::put_attributes(text, format, attribute.byte())
 }
 
 /// The place of an absolute segment.
@@ -122,7 +83,7 @@ fn length_of(width: Width, segment: &Segment) -> u64
 }
 
 /// A length in bytes.
-pub(crate) fn put_length(
+fn put_length(
     text: &mut Vec<u8>,
     format: Format,
     width: Width,
@@ -158,7 +119,7 @@ pub(crate) fn put_group(
 ) -> Result<(), AllocError>
     ensures { AddsText result text.old.items text.new.items (fields_text format (group_fields tables.now (length tables.now.groups + 1) name.now)) }
 {
-    number(text, format, "group", tables.next_group())?;
+    number(text, format, "group", tables.groups.len() as u64 + 1)?;
     named(text, format, "name", tables.name(name.item.0))
 }
 
@@ -300,7 +261,7 @@ fn put_length_if(
     ensures { AddsText result text.old.items text.new.items (fields_text format (length_if width length.now)) }
 {
     match length {
-        Ok(length) => put_length(text, format, width, u64::from(*length)),
+        Ok(length) => hexadecimal(text, format, "length", width, u64::from(*length)),
         Err(_) => Ok(()),
     }
 }
@@ -319,13 +280,4 @@ pub(crate) fn put_expanded(
     let width = blocks.width;
     let length = expanded_len(blocks, Limits::profile());
     put_length_if(text, format, width, &length)
-}
-
-/// The module type byte of a MODEND.
-pub(crate) fn put_end(text: &mut Vec<u8>, format: Format, type_byte: u8) -> Result<(), AllocError>
-    ensures { AddsText result text.old.items text.new.items (fields_text format (end_fields type_byte)) }
-{
-    small(text, format, "flags", type_byte)?;
-    flag(text, format, "main", type_byte / 128 % 2 == 1)?;
-    flag(text, format, "has-start", type_byte / 64 % 2 == 1)
 }

@@ -7,7 +7,7 @@ ghost use Rattle.omf_frame.specs.Bytes.{is_one_of};
 ghost use Rattle.omf_check.specs.Inner.Contents.{data_seen};
 ghost use Rattle.omf_check.specs.Module.{recs_of};
 ghost use Rattle.omf_check.specs.Tables.{externals};
-ghost use Rattle.omf_dump.specs.Names.{data_segment, data_segments, external_sort, is_code, name_of_segment, public_sort, segment_name, segment_sort, weak_externals, weak_in, weak_of};
+ghost use Rattle.omf_dump.specs.Names.{data_segment, data_segments, external_sort, is_code, public_sort, segment_name, segment_sort, weak_externals, weak_in, weak_of};
 ghost use Rattle.omf_placement.specs.Inner.Pairing.{pairs_after};
 ghost use Rattle.omf_placement.specs.Weak.{indices, paired};
 
@@ -153,16 +153,6 @@ fn is_code(module: &Checked, segment: Option<SegInfo>) -> bool
     }
 }
 
-/// The name of a segment.
-fn name_of_segment(module: &Checked, segment: Option<SegInfo>) -> Option<Name<'_>>
-    ensures { result ≡ name_of_segment (recs_of «module».now.bytes) segment }
-{
-    match segment {
-        Some(segment) => module.name(segment.name),
-        None => None,
-    }
-}
-
 impl<'a> Facts<'a> {
     /// What the records of a module give.
     pub(crate) fn of(alloc: Global, module: &'a Checked) -> Result<Facts<'a>, AllocError>
@@ -238,6 +228,9 @@ impl<'a> Facts<'a> {
     pub(crate) fn segment_name(&self, segment: u16) -> Option<Name<'a>>
         ensures { result ≡ segment_name self.now segment }
     {
-        name_of_segment(self.module, self.module.segment(segment))
+        match self.module.segment(segment) {
+            Some(segment) => self.module.name(segment.name),
+            None => None,
+        }
     }
 }

@@ -1,7 +1,7 @@
 //! Why an input is not shown.
 
 /// Why an input is not shown to its end.
-#[derive(Clone, Copy, Debug, PartialEq, Eq)]
+#[derive(Clone, Copy)]
 pub enum DumpFault {
     /// Memory ran out.
     Memory,

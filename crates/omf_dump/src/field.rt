@@ -9,11 +9,10 @@ use crate::entry::Entry;
 use crate::format::Format;
 use crate::item::put_spaces;
 use crate::value::{
-    put_list, put_marked, put_method, put_named, put_number, put_quoted, put_signed, put_small,
-    put_word,
+    put_bracketed, put_entry, put_list, put_members, put_method_entry, put_number, put_quoted,
 };
 use omf_frame::Width;
-use omf_host::put_decimal;
+use omf_host::{put_byte, put_decimal};
 use std::alloc::AllocError;
 
 /// Appends the name of a field, up to its value.
@@ -58,7 +57,13 @@ pub(crate) fn signed(
     ensures { AddsText result text.old.items text.new.items (value_text format name.now (Signed number)) }
 {
     open(text, format, name)?;
-    put_signed(text, number)
+    let number = u64::from(number);
+    if number < 0x8000 {
+        put_decimal(text, number)
+    } else {
+        text.push(b'-')?;
+        put_decimal(text, 0x1_0000 - number)
+    }
 }
 
 /// Appends a number of a 16-bit or a 32-bit field, in text in at least four or eight hexadecimal digits.
@@ -85,7 +90,10 @@ pub(crate) fn small(
     ensures { AddsText result text.old.items text.new.items (value_text format name.now (Hex 2 byte)) }
 {
     open(text, format, name)?;
-    put_small(text, format, byte)
+    match format {
+        Format::Text => put_byte(text, byte),
+        Format::Json => put_decimal(text, u64::from(byte)),
+    }
 }
 
 /// Appends a word.
@@ -98,7 +106,15 @@ pub(crate) fn word(
     ensures { AddsText result text.old.items text.new.items (value_text format name.now (Word word.now)) }
 {
     open(text, format, name)?;
-    put_word(text, format, word)
+    match format {
+        Format::Text => text.extend_from_slice(word.as_bytes()),
+        Format::Json => {
+            text.push(b'"')?;
+            text.extend_from_slice(word.as_bytes())?;
+            text.push(b'"')?;
+            Ok(())
+        }
+    }
 }
 
 /// Appends bytes as characters.
@@ -138,7 +154,10 @@ pub(crate) fn marked(
     ensures { AddsText result text.old.items text.new.items (value_text format (codes "bytes") (Marked before.now bytes.now after.now)) }
 {
     open(text, format, "bytes")?;
-    put_marked(text, format, before, bytes, after)
+    match format {
+        Format::Text => put_bracketed(text, before, bytes, after),
+        Format::Json => put_members(text, before, bytes, after),
+    }
 }
 
 /// Appends an entry of a table.
@@ -151,7 +170,15 @@ pub(crate) fn named(
     ensures { AddsText result text.old.items text.new.items (value_text format name.now (Named entry.entry)) }
 {
     open(text, format, name)?;
-    put_named(text, format, entry)
+    match format {
+        Format::Text => put_entry(text, format, entry),
+        Format::Json => {
+            text.push(b'{')?;
+            put_entry(text, format, entry)?;
+            text.push(b'}')?;
+            Ok(())
+        }
+    }
 }
 
 /// Appends a frame or target method, with its entry if it has one.
@@ -165,7 +192,20 @@ pub(crate) fn method(
     ensures { AddsText result text.old.items text.new.items (value_text format name.now (Method method.now entry.entry)) }
 {
     open(text, format, name)?;
-    put_method(text, format, method, entry)
+    match format {
+        Format::Text => {
+            text.extend_from_slice(method.as_bytes())?;
+            put_method_entry(text, format, entry)
+        }
+        Format::Json => {
+            text.extend_from_slice(b"{\"method\":\"")?;
+            text.extend_from_slice(method.as_bytes())?;
+            text.push(b'"')?;
+            put_method_entry(text, format, entry)?;
+            text.push(b'}')?;
+            Ok(())
+        }
+    }
 }
 
 /// Appends how deep something is nested: in text two spaces for each level.

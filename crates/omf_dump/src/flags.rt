@@ -102,7 +102,7 @@ fn method_word(code: u8) -> &'static str
 }
 
 /// The word for a location type.
-fn locat_word(code: u8) -> &'static str
+pub(crate) fn locat_word(code: u8) -> &'static str
     ensures { result.now ≡ location_word code }
 {
     match code {

@@ -3,7 +3,7 @@
 use omf_check::Profile;
 
 /// The two renderings.
-#[derive(Clone, Copy, Debug, PartialEq, Eq)]
+#[derive(Clone, Copy)]
 pub enum Format {
     /// Lines of text: one for each record and each of its items, and one for each 16 bytes of data.
     Text,
@@ -12,7 +12,7 @@ pub enum Format {
 }
 
 /// How records are rendered.
-#[derive(Clone, Copy, Debug, PartialEq, Eq)]
+#[derive(Clone, Copy)]
 pub struct Style {
     pub format: Format,
     /// The most bytes of data that are shown of a record.
@@ -20,14 +20,14 @@ pub struct Style {
 }
 
 /// How modules are judged, and how their records are rendered.
-#[derive(Clone, Copy, Debug, PartialEq, Eq)]
+#[derive(Clone, Copy)]
 pub struct Mode {
     pub profile: Profile,
     pub style: Style,
 }
 
 /// The renderings of a list, which has a line for each module or for each name.
-#[derive(Clone, Copy, Debug, PartialEq, Eq)]
+#[derive(Clone, Copy)]
 pub enum Shape {
     Text,
     /// Each line is an object of JSON.
@@ -37,7 +37,7 @@ pub enum Shape {
 }
 
 /// The names that are listed.
-#[derive(Clone, Copy, Debug, PartialEq, Eq)]
+#[derive(Clone, Copy)]
 pub enum Which {
     All,
     /// Those that the module defines.
@@ -47,7 +47,7 @@ pub enum Which {
 }
 
 /// What a list has a line for.
-#[derive(Clone, Copy, Debug, PartialEq, Eq)]
+#[derive(Clone, Copy)]
 pub enum Subject {
     /// Each module.
     Verdicts,
@@ -56,7 +56,7 @@ pub enum Subject {
 }
 
 /// How modules are judged, and what list of them is written.
-#[derive(Clone, Copy, Debug, PartialEq, Eq)]
+#[derive(Clone, Copy)]
 pub struct Listing {
     pub profile: Profile,
     pub shape: Shape,

@@ -6,7 +6,6 @@ ghost use Rattle.omf_dump.specs.Gives.{after_head, after_item, after_steps, are_
 ghost use Rattle.omf_dump.specs.Inner.Keeping.{with_contents};
 ghost use Rattle.omf_dump.specs.Inner.Showing.{Keeps};
 ghost use Rattle.omf_dump.specs.Raw.{comdat_offset};
-ghost use Rattle.omf_dump.specs.declared.step.Step.TheVariants as step;
 
 use crate::encoded::{
     after_first, first_of, index_of, index_size, is_near, is_there, left_by, name_size, size_of,
@@ -26,13 +25,6 @@ fn is_count(byte: u8) -> bool
     byte <= 0x80 || byte == 0x81 || byte == 0x84 || byte == 0x88
 }
 
-/// Whether fix data have a frame thread, or a frame method that is not reserved.
-fn is_clear_fix(byte: u8) -> bool
-    ensures { result ≡ is_clear step.Fix byte }
-{
-    byte / 128 % 2 == 1 || byte / 16 % 8 < 6
-}
-
 /// Whether the first byte of a field leaves no doubt about the bytes after it.
 fn is_clear(step: Step, byte: u8) -> bool
     ensures { result ≡ is_clear step byte }
@@ -40,7 +32,7 @@ fn is_clear(step: Step, byte: u8) -> bool
     match step {
         Step::Communal => is_near(u16::from(byte)) || byte == 0x61,
         Step::NearLength | Step::FarCount | Step::FarSize => is_count(byte),
-        Step::Fix => is_clear_fix(byte),
+        Step::Fix => byte / 128 % 2 == 1 || byte / 16 % 8 < 6,
         _ => true,
     }
 }
@@ -366,7 +358,7 @@ fn are_fixups(tables: &Tables<'_>, width: Width, body: &[u8]) -> bool
 }
 
 /// What records of a type define or change.
-#[derive(Clone, Copy, Debug, PartialEq, Eq)]
+#[derive(Clone, Copy)]
 pub enum Effect {
     /// A segment.
     Segment,

@@ -131,14 +131,6 @@ fn title(alloc: Global, format: Format, name: &str) -> Result<Vec<u8>, AllocErro
     }
 }
 
-/// Writes the title of one of several inputs. Returns the status.
-fn show_title<K: Sink>(alloc: Global, output: &mut K, format: Format, name: &str) -> Status {
-    match title(alloc, format, name) {
-        Ok(text) => put(output, &text),
-        Err(AllocError) => Status::Failed,
-    }
-}
-
 /// Shows one input, after its title if it has one. A text has no title of an input that could not be read. Returns the status.
 fn show_input<K: Sink, E: Sink>(
     rt: &HostRuntime,
@@ -150,8 +142,11 @@ fn show_input<K: Sink, E: Sink>(
     let format = asked.mode.style.format;
     let input = read_input(rt, name);
     let mut status = Status::Done;
-    if is_titled && (input.is_ok() || format == Format::Json) {
-        status = show_title(rt.alloc(), &mut streams.output, format, name);
+    if is_titled && (input.is_ok() || matches!(format, Format::Json)) {
+        status = match title(rt.alloc(), format, name) {
+            Ok(text) => put(&mut streams.output, &text),
+            Err(AllocError) => Status::Failed,
+        };
     }
     match input {
         Ok(bytes) => status.worst(show_bytes(rt, asked, name, &bytes, streams)),
@@ -172,7 +167,7 @@ fn show_inputs<K: Sink, E: Sink>(
     if names.is_empty() {
         return show_input(rt, asked, "-", false, streams);
     }
-    let is_titled = names.len() > 1 && asked.task == Task::Records;
+    let is_titled = names.len() > 1 && matches!(asked.task, Task::Records);
     let mut status = Status::Done;
     let mut progress = Progress::new(rt);
     for (at, name) in names.iter().enumerate() {
@@ -181,14 +176,6 @@ fn show_inputs<K: Sink, E: Sink>(
     }
     progress.end(streams);
     status
-}
-
-/// Writes what comes before all inputs. Returns the status.
-fn begin<K: Sink>(asked: &Asked, writer: &mut K) -> Status {
-    match asked.task {
-        Task::Records => Status::Done,
-        Task::Lines(subject) => put(writer, header_line(asked.listing(subject))),
-    }
 }
 
 /// Does what the arguments ask for. Returns the status.
@@ -204,7 +191,12 @@ fn act<K: Sink, E: Sink>(
         return explain(rt.alloc(), &mut streams.output, question, &ABOUT);
     }
     if let Some(asked) = read_arguments(rt.alloc(), words)? {
-        let begun = begin(&asked, &mut streams.output);
+        let begun = match asked.task {
+            Task::Records => Status::Done,
+            Task::Lines(subject) => {
+                put(&mut streams.output, header_line(asked.listing(subject)))
+            }
+        };
         return Ok(begun.worst(show_inputs(rt, &asked, streams)));
     }
     misused_by(rt, streams, &ABOUT)

@@ -3,14 +3,14 @@
 ghost use Rattle.std.specs.Prelude.{◌≡◌, ◌+◌, ◌++◌, ◌<◌, ◌≤◌, ◌^◌, ◌∷◌, [], Some, codes, length, map, replicate};
 ghost use Rattle.omf_frame.specs.Bytes.{AddsText};
 ghost use Rattle.omf_dump.specs.Words.{type_word};
-ghost use Rattle.omf_dump.specs.Render.{block_text, bytes_block, framed_head, head_text, is_shown, item_end, item_start, kind_head, left_out, line_end, list_end, list_start, many_bytes, more_bytes, place_head, record_end, row, rows, shown_byte, some_left_out};
+ghost use Rattle.omf_dump.specs.Render.{block_text, bytes_block, framed_head, head_text, is_shown, item_end, item_start, kind_head, left_out, line_end, many_bytes, more_bytes, place_head, record_end, row, rows, shown_byte, some_left_out};
 
 use crate::field::small;
 use crate::format::{Format, Style};
 use crate::part::first;
 use crate::value::{put_after_spaces, put_bytes};
 use crate::words::type_word;
-use omf_frame::{Place, RawRecord};
+use omf_frame::RawRecord;
 use omf_host::{put_byte, put_decimal, put_eight};
 use std::alloc::AllocError;
 
@@ -39,17 +39,6 @@ pub(crate) fn put_number_head(
             put_decimal(text, start)
         }
     }
-}
-
-/// Begins a record by the number and the offset of a place.
-pub(crate) fn put_place_head(
-    text: &mut Vec<u8>,
-    format: Format,
-    place: Place,
-) -> Result<(), AllocError>
-    ensures { AddsText result text.old.items text.new.items (place_head format place.number place.start) }
-{
-    put_number_head(text, format, u64::from(place.number), place.start)
 }
 
 /// Appends the type name of a record, as in an object of JSON.
@@ -139,41 +128,8 @@ pub(crate) fn close_record(text: &mut Vec<u8>, format: Format) -> Result<(), All
     }
 }
 
-/// Begins the items of a record, in JSON a list.
-pub(crate) fn open_list(text: &mut Vec<u8>, format: Format) -> Result<(), AllocError>
-    ensures { AddsText result text.old.items text.new.items (list_start format) }
-{
-    match format {
-        Format::Text => Ok(()),
-        Format::Json => text.extend_from_slice(b",\"items\":["),
-    }
-}
-
-/// Ends the items of a record.
-pub(crate) fn close_list(text: &mut Vec<u8>, format: Format) -> Result<(), AllocError>
-    ensures { AddsText result text.old.items text.new.items (list_end format) }
-{
-    match format {
-        Format::Text => {}
-        Format::Json => text.push(b']')?,
-    }
-    Ok(())
-}
-
 /// Begins an item with its offset in the record.
 pub(crate) fn open_item(
-    text: &mut Vec<u8>,
-    format: Format,
-    is_first: bool,
-    within: u32,
-) -> Result<(), AllocError>
-    ensures { AddsText result text.old.items text.new.items (item_start format is_first within) }
-{
-    open_item_at(text, format, is_first, u64::from(within))
-}
-
-/// Begins an item with its offset in the record, which may be a large one.
-pub(crate) fn open_item_at(
     text: &mut Vec<u8>,
     format: Format,
     is_first: bool,

@@ -25,7 +25,7 @@ pub(crate) fn put_names<'a>(
 {
     let mut is_first = true;
     for name in items {
-        open_item(text, format, is_first, name.within)?;
+        open_item(text, format, is_first, u64::from(name.within))?;
         put_name(text, format, names.len() as u64 + 1, &name.item)?;
         close_item(text, format)?;
         names.push(name.item)?;
@@ -45,7 +45,7 @@ pub(crate) fn put_members(
 {
     let mut is_first = true;
     for member in members {
-        open_item(text, format, is_first, member.within)?;
+        open_item(text, format, is_first, u64::from(member.within))?;
         put_member(text, format, tables, &member.item.segment)?;
         close_item(text, format)?;
         is_first = false;
@@ -79,7 +79,7 @@ pub(crate) fn put_externals<'a>(
 {
     let mut is_first = true;
     for external in items {
-        open_item(text, format, is_first, external.within)?;
+        open_item(text, format, is_first, u64::from(external.within))?;
         put_extern(text, format, externals.len() as u64 + 1, &external.item)?;
         close_item(text, format)?;
         externals.push(external_name(&external.item))?;
@@ -100,7 +100,7 @@ pub(crate) fn put_communals<'a>(
 {
     let mut is_first = true;
     for communal in items {
-        open_item(text, format, is_first, communal.within)?;
+        open_item(text, format, is_first, u64::from(communal.within))?;
         put_communal(text, format, externals.len() as u64 + 1, &communal.item)?;
         close_item(text, format)?;
         externals.push(communal_name(&communal.item))?;
@@ -120,7 +120,7 @@ pub(crate) fn put_publics(
 {
     let mut is_first = true;
     for public in publics {
-        open_item(text, format, is_first, public.within)?;
+        open_item(text, format, is_first, u64::from(public.within))?;
         put_public(text, format, width, &public.item)?;
         close_item(text, format)?;
         is_first = false;

@@ -1,6 +1,6 @@
 //! What is kept of the records so far to show the next one.
 
-ghost use Rattle.std.specs.Prelude.{◌≡◌, ◌+◌, length};
+ghost use Rattle.std.specs.Prelude.{◌≡◌};
 ghost use Rattle.omf_check.specs.Tables.{entry};
 ghost use Rattle.omf_dump.specs.Inner.Keeping.{no_tables};
 ghost use Rattle.omf_dump.specs.Known.{external_entry, group_entry, name_entry, segment_entry};
@@ -72,20 +72,6 @@ impl<'a> Tables<'a> {
             groups: Vec::new(alloc),
             externals: Vec::new(alloc),
         }
-    }
-
-    /// The index of the next segment.
-    pub(crate) fn next_segment(&self) -> u64
-        ensures { result ≡ length self.now.segments + 1 }
-    {
-        self.segments.len() as u64 + 1
-    }
-
-    /// The index of the next group.
-    pub(crate) fn next_group(&self) -> u64
-        ensures { result ≡ length self.now.groups + 1 }
-    {
-        self.groups.len() as u64 + 1
     }
 
     /// A name index with its name.

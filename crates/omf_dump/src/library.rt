@@ -4,8 +4,7 @@ ghost use Rattle.std.specs.Prelude.{◌≡◌, ◌+◌, ◌-◌, ◌/◌, ◌<�
 ghost use Rattle.omf_frame.specs.Bytes.{AddsText};
 ghost use Rattle.omf_frame.specs.Framing.{front_record};
 ghost use Rattle.omf_library.specs.Library.{HasHeader, next_page, page_size};
-ghost use Rattle.omf_dump.specs.Library.{IsEndShown, IsLibraryText, IsMemberShown, Shows, after_member, end_text, fault_fields, fault_head, fault_text, is_fault, module_name, spot_fields, title_head, title_text};
-ghost use Rattle.omf_dump.specs.Render.{fields_text};
+ghost use Rattle.omf_dump.specs.Library.{IsEndShown, IsLibraryText, IsMemberShown, Shows, after_member, end_text, fault_head, fault_text, is_fault, title_head, title_text};
 
 use crate::answer::show_module;
 use crate::comment::put_name;
@@ -58,20 +57,13 @@ fn put_title_head(text: &mut Vec<u8>, format: Format, number: u64) -> Result<(),
     put_decimal(text, number)
 }
 
-/// The page and the offset of a member.
-fn put_spot(text: &mut Vec<u8>, format: Format, spot: Spot) -> Result<(), AllocError>
-    ensures { AddsText result text.old.items text.new.items (fields_text format (spot_fields spot.page spot.offset)) }
-{
-    number(text, format, "page", spot.page)?;
-    hexadecimal(text, format, "offset", Width::Bits32, spot.offset)
-}
-
 /// The title of a member, which begins with these bytes.
 fn put_title(text: &mut Vec<u8>, format: Format, spot: Spot, bytes: &[u8]) -> Result<(), AllocError>
     ensures { AddsText result text.old.items text.new.items (title_text format spot bytes.now) }
 {
     put_title_head(text, format, spot.number)?;
-    put_spot(text, format, spot)?;
+    number(text, format, "page", spot.page)?;
+    hexadecimal(text, format, "offset", Width::Bits32, spot.offset)?;
     put_name(text, format, "name", front_contents(bytes))?;
     end_fields(text, format)?;
     close_record(text, format)
@@ -95,19 +87,6 @@ fn put_fault_head(text: &mut Vec<u8>, format: Format, name: &str) -> Result<(), 
     }
 }
 
-/// The number of members before a fault, and its offset.
-fn put_fault_fields(
-    text: &mut Vec<u8>,
-    format: Format,
-    members: u64,
-    offset: u64,
-) -> Result<(), AllocError>
-    ensures { AddsText result text.old.items text.new.items (fields_text format (fault_fields members offset)) }
-{
-    number(text, format, "member", members)?;
-    hexadecimal(text, format, "offset", Width::Bits32, offset)
-}
-
 /// The line of a fault.
 fn put_fault(
     text: &mut Vec<u8>,
@@ -119,7 +98,8 @@ fn put_fault(
     ensures { AddsText result text.old.items text.new.items (fault_text format name.now members offset) }
 {
     put_fault_head(text, format, name)?;
-    put_fault_fields(text, format, members, offset)?;
+    number(text, format, "member", members)?;
+    hexadecimal(text, format, "offset", Width::Bits32, offset)?;
     end_fields(text, format)?;
     close_record(text, format)
 }

@@ -6,7 +6,7 @@ ghost use Rattle.omf_dump.specs.Later.{has_data, is_lost, lose};
 use omf_frame::RecordType;
 
 /// The tables of which not all entries are known, and whether the threads are not known: their new entries are then not named, rather than wrong.
-#[derive(Clone, Copy, Debug, PartialEq, Eq)]
+#[derive(Clone, Copy)]
 pub struct Lost {
     pub names: bool,
     pub segments: bool,

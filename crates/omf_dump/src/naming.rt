@@ -43,7 +43,7 @@ pub(crate) struct Names<'a> {
 }
 
 /// The type of a PUBDEF or an LPUBDEF, the index of its base segment, and its base frame.
-#[derive(Clone, Copy, Debug, PartialEq, Eq)]
+#[derive(Clone, Copy)]
 pub(crate) struct Base {
     pub kind: u8,
     pub segment: u16,

@@ -5,7 +5,7 @@ use omf_check::Profile;
 use std::alloc::{AllocError, Global};
 
 /// What is shown of each input.
-#[derive(Clone, Copy, Debug, PartialEq, Eq)]
+#[derive(Clone, Copy)]
 pub enum Task {
     /// Each record.
     Records,
@@ -77,11 +77,10 @@ impl Flags {
     /// What is shown of each input; None if an option belongs to another task.
     fn task(self) -> Option<Task> {
         let which = self.which()?;
-        match (self.has_verdict, self.has_names) {
-            (true, true) => None,
-            (false, true) => Some(Task::Lines(Subject::Names(which))),
-            (true, false) if which == Which::All => Some(Task::Lines(Subject::Verdicts)),
-            (false, false) if which == Which::All && !self.is_csv => Some(Task::Records),
+        match (self.has_verdict, self.has_names, which) {
+            (false, true, which) => Some(Task::Lines(Subject::Names(which))),
+            (true, false, Which::All) => Some(Task::Lines(Subject::Verdicts)),
+            (false, false, Which::All) if !self.is_csv => Some(Task::Records),
             _ => None,
         }
     }

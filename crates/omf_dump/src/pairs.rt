@@ -8,7 +8,7 @@ ghost use Rattle.omf_placement.specs.Inner.Pairing as pairing;
 
 use crate::field::named;
 use crate::format::Format;
-use crate::item::{close_item, open_item_at};
+use crate::item::{close_item, open_item};
 use crate::known::Tables;
 use std::alloc::AllocError;
 
@@ -59,7 +59,7 @@ pub(crate) fn put_pairs(
     let mut within: u64 = 5;
     let mut rest = bytes;
     while let Some((index, size)) = front_index(rest) {
-        open_item_at(text, format, is_first, within)?;
+        open_item(text, format, is_first, within)?;
         put_role(text, format, tables, is_default, index)?;
         close_item(text, format)?;
         is_first = false;

@@ -2,7 +2,7 @@
 
 ghost use Rattle.std.specs.Prelude.{◌≡◌, ◌+◌, ◌-◌, ◌++◌, ◌≤◌, ◌<◌, ◌^◌, [], IfOk, None, Some, length, true};
 ghost use Rattle.omf_frame.specs.Bytes.{AddsText};
-ghost use Rattle.omf_dump.specs.Raw.{comdat_offset, cut_fields, fields_type, first_offset, fix_frame, fix_target, has_blocks, has_bytes, head_fields, head_size, is_comdat, item_fields, item_size, items_from, left_if, named_attributes, raw_shown, rest_block, rest_items, step_fields, steps_fields, steps_size, type_shown, value_fields};
+ghost use Rattle.omf_dump.specs.Raw.{comdat_offset, fields_type, first_offset, fix_frame, fix_target, has_blocks, has_bytes, head_fields, head_size, is_comdat, item_fields, item_size, items_from, left_if, named_attributes, raw_shown, rest_block, rest_items, steps_fields, steps_size, type_shown, value_fields};
 ghost use Rattle.omf_dump.specs.Blocks.{blocks_from};
 ghost use Rattle.omf_dump.specs.Render.{closing, fields_text, items_text, shown_text};
 
@@ -19,7 +19,7 @@ use crate::flags::{
     put_fix_target, put_line_flags, put_locat, put_thread_number, variable_word,
 };
 use crate::format::{Format, Style};
-use crate::item::{close_item, open_item_at};
+use crate::item::{close_item, open_item};
 use crate::known::Tables;
 use crate::layout::{head_steps, item_steps, kind, name, when};
 use crate::part::{after, first};
@@ -129,18 +129,6 @@ fn put_value(
     }
 }
 
-/// A field of a layout with these bytes.
-fn put_step(
-    text: &mut Vec<u8>,
-    view: &View<'_, '_>,
-    step: Step,
-    value: &[u8],
-) -> Result<(), AllocError>
-    ensures { AddsText result text.old.items text.new.items (fields_text view.now.style.format (step_fields view.now.tables.now view.now.width step value.now)) }
-{
-    put_value(text, view, name(step), kind(step), value)
-}
-
 /// The bytes that are there of a field that is cut.
 fn put_left(text: &mut Vec<u8>, format: Format, left: &[u8]) -> Result<(), AllocError>
     ensures { AddsText result text.old.items text.new.items (fields_text format (left_if left.now)) }
@@ -149,14 +137,6 @@ fn put_left(text: &mut Vec<u8>, format: Format, left: &[u8]) -> Result<(), Alloc
         [] => Ok(()),
         [_, ..] => bytes(text, format, "left", left),
     }
-}
-
-/// A field of which not all bytes are there.
-fn put_cut(text: &mut Vec<u8>, format: Format, left: &[u8]) -> Result<(), AllocError>
-    ensures { AddsText result text.old.items text.new.items (fields_text format (cut_fields left.now)) }
-{
-    flag(text, format, "cut", true)?;
-    put_left(text, format, left)
 }
 
 /// The fields of a layout, from the front of the bytes on. Returns how many bytes they take.
@@ -179,12 +159,13 @@ fn put_steps(
             }
             match size_of(view.width, kind(*step), value) {
                 None => {
-                    put_cut(text, view.style.format, value)?;
+                    flag(text, view.style.format, "cut", true)?;
+                    put_left(text, view.style.format, value)?;
                     Ok(value.len())
                 }
                 Some(size) => {
                     let (front, rest) = value.split_at(size);
-                    put_step(text, view, *step, front)?;
+                    put_value(text, view, name(*step), kind(*step), front)?;
                     let more = put_steps(text, view, left_by(*step, front, last), others, rest)?;
                     Ok(size + more)
                 }
@@ -230,7 +211,7 @@ fn put_items(
     let mut at = within;
     let mut rest = value;
     while !rest.is_empty() {
-        open_item_at(text, view.style.format, is_first, at)?;
+        open_item(text, view.style.format, is_first, at)?;
         let taken = put_item_steps(text, view, kind, rest)?;
         close_item(text, view.style.format)?;
         let size = at_least_one(taken);

@@ -18,14 +18,13 @@ ghost use Rattle.omf_dump.specs.Inner.Resolving.{start_items_by, subrecord_items
 ghost use Rattle.omf_dump.specs.Render.{closing, line_end, list_end, list_start, record_end, record_text, shown_text};
 
 use crate::blocks::put_blocks;
-use crate::closing::{begin_items, close_block, close_fields, end_items};
-use crate::contents::{
-    put_base, put_comment, put_end, put_expanded, put_group, put_header, put_length, put_place,
-    put_segment,
-};
+use crate::closing::{begin_items, close_block, end_items};
+use crate::contents::{put_base, put_comment, put_expanded, put_group, put_place, put_segment};
 use crate::entry::Entry;
+use crate::field::{characters, hexadecimal};
+use crate::flags::put_end_flags;
 use crate::format::Style;
-use crate::item::{close_record, open_framed};
+use crate::item::{close_record, end_fields, open_framed};
 use crate::items::{put_communals, put_externals, put_members, put_names, put_publics};
 use crate::known::{Data, Known, Tables};
 use crate::pairs::put_pairs;
@@ -53,7 +52,7 @@ fn close_comment(
             put_pairs(text, style.format, tables, comment)?;
             end_items(text, style)
         }
-        _ => close_fields(text, style),
+        _ => end_fields(text, style.format),
     }
 }
 
@@ -115,7 +114,7 @@ fn show_segment(
 {
     put_segment(text, style.format, tables, width, segment)?;
     tables.segments.push(segment.name.item)?;
-    close_fields(text, style)
+    end_fields(text, style.format)
 }
 
 /// GRPDEF.
@@ -161,7 +160,13 @@ fn show_plain<'a>(
     ensures { AddsText result text.old.items text.new.items (shown_text style (with_block (place_fields width segment.entry fixed.now.offset ++ length_field width (length fixed.now.bytes)) fixed.now.offset fixed.now.bytes)) }
 {
     put_place(text, style.format, width, segment, fixed.offset)?;
-    put_length(text, style.format, width, fixed.bytes.len() as u64)?;
+    hexadecimal(
+        text,
+        style.format,
+        "length",
+        width,
+        fixed.bytes.len() as u64,
+    )?;
     close_block(text, style, u64::from(fixed.offset), fixed.bytes)
 }
 
@@ -242,8 +247,8 @@ pub(crate) fn show_contents<'a>(
 {
     match rec {
         Rec::Header { name, .. } => {
-            put_header(text, style.format, name)?;
-            close_fields(text, style)
+            characters(text, style.format, "name", name.0)?;
+            end_fields(text, style.format)
         }
         Rec::Comment {
             type_byte,
@@ -318,7 +323,7 @@ pub(crate) fn show_contents<'a>(
             start,
             ..
         } => {
-            put_end(text, style.format, *type_byte)?;
+            put_end_flags(text, style.format, *type_byte)?;
             show_start(text, style, known, width, start)
         }
         Rec::Carried { kind, contents } => show_raw(text, style, &known.tables, *kind, *contents),

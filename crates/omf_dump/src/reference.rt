@@ -10,10 +10,10 @@ ghost use Rattle.omf_dump.specs.Render.{fields_text, value_text};
 
 use crate::entry::Entry;
 use crate::field::{flag, hexadecimal, marked, method, number, word};
+use crate::flags::locat_word;
 use crate::format::Format;
 use crate::known::{Data, Tables};
 use crate::part::{after, first};
-use crate::words::location_word;
 use omf_check::{FrameMethod, TargetMethod};
 use omf_frame::{Index, Width};
 use omf_records::{Kind, Locat, Reference};
@@ -202,7 +202,7 @@ pub(crate) fn put_location(
 ) -> Result<(), AllocError>
     ensures { AddsText result text.old.items text.new.items (fields_text format (location_fields fixed.now width location)) }
 {
-    let kind = location_word(location.location_type());
+    let kind = locat_word((location.number() / 1024 % 16) as u8);
     let is_self_relative = !location.is_segment_relative();
     hexadecimal(text, format, "at", width, location_place(fixed, location))?;
     put_bytes_if(text, format, fixed, location)?;

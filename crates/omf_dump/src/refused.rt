@@ -1,18 +1,18 @@
 //! A refused module: why, in words, and the bytes of the record at fault.
 
-ghost use Rattle.std.specs.Prelude.{◌≡◌, ◌++◌, codes};
+ghost use Rattle.std.specs.Prelude.{◌≡◌, codes};
 ghost use Rattle.omf_frame.specs.Bytes.{AddsText};
-ghost use Rattle.omf_frame.specs.Fault.{reason_name, reason_number};
 ghost use Rattle.omf_frame.specs.Framing.{present};
-ghost use Rattle.omf_dump.specs.Fields.{Characters, Number, Word};
+ghost use Rattle.omf_dump.specs.Fields.{Characters};
 ghost use Rattle.omf_dump.specs.Looks.{looks_like};
 ghost use Rattle.omf_dump.specs.Refused.{byte_if, cut_fields, kind_if, library_fields, look_if, mark, mark_if, marked_len, marked_rows, reason_fields, refused_bytes, refused_front, refused_line, refused_record, size_fields, window, window_start};
 ghost use Rattle.omf_dump.specs.Render.{fields_text, value_text};
+ghost use Rattle.omf_dump.specs.Verdict.{reason_fields as own_fields};
 
 use crate::field::{characters, hexadecimal, number, small, word};
 use crate::format::Format;
 use crate::item::{
-    close_record, end_fields, put_bytes_block, put_kind_head, put_place_head, put_rows, put_spaces,
+    close_record, end_fields, put_bytes_block, put_kind_head, put_number_head, put_rows, put_spaces,
 };
 use crate::looks::{is_foreign, looks_like};
 use crate::part::{after, first};
@@ -25,8 +25,12 @@ use std::alloc::AllocError;
 const WINDOW: usize = 48;
 
 /// The number of a reason and its name.
-fn put_reason(text: &mut Vec<u8>, format: Format, reason: Reason) -> Result<(), AllocError>
-    ensures { AddsText result text.old.items text.new.items (value_text format (codes "refused") (Number (reason_number reason)) ++ value_text format (codes "reason") (Word (reason_name reason))) }
+pub(crate) fn put_reason_fields(
+    text: &mut Vec<u8>,
+    format: Format,
+    reason: Reason,
+) -> Result<(), AllocError>
+    ensures { AddsText result text.old.items text.new.items (fields_text format (own_fields reason)) }
 {
     number(text, format, "refused", u64::from(reason.number()))?;
     word(text, format, "reason", reason.name())
@@ -52,7 +56,7 @@ fn put_refusal(
 ) -> Result<(), AllocError>
     ensures { AddsText result text.old.items text.new.items (fields_text format (reason_fields reason within present.now)) }
 {
-    put_reason(text, format, reason)?;
+    put_reason_fields(text, format, reason)?;
     number(text, format, "within", u64::from(within))?;
     put_byte_if(text, format, after(within as usize, present))?;
     characters(text, format, "meaning", reason.sentence().as_bytes())
@@ -225,7 +229,7 @@ fn put_refused_line(
 ) -> Result<(), AllocError>
     ensures { AddsText result text.old.items text.new.items (refused_line format place reason rest.now) }
 {
-    put_place_head(text, format, place)?;
+    put_number_head(text, format, u64::from(place.number), place.start)?;
     put_kind_if(text, format, rest)?;
     put_refusal(text, format, reason, place.within, present(rest))?;
     put_look(text, format, is_foreign(place.number, rest), rest)

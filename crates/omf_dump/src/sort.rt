@@ -6,7 +6,7 @@ ghost use Rattle.omf_dump.specs.Names.{is_listed, is_undefined, sort_word};
 use crate::format::Which;
 
 /// The kind of a name.
-#[derive(Clone, Copy, Debug, PartialEq, Eq)]
+#[derive(Clone, Copy)]
 pub enum Sort {
     /// A public in a segment whose class ends in CODE.
     Text,

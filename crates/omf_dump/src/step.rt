@@ -1,7 +1,7 @@
 //! The fields of records, as their bytes are read one after another.
 
 /// How a field is encoded, and how it is shown.
-#[derive(Clone, Copy, Debug, PartialEq, Eq)]
+#[derive(Clone, Copy)]
 pub enum Kind {
     /// A byte, in hexadecimal.
     Small,
@@ -55,7 +55,7 @@ pub enum Kind {
 }
 
 /// When a record has a field, by the last field that decides this.
-#[derive(Clone, Copy, Debug, PartialEq, Eq)]
+#[derive(Clone, Copy)]
 pub enum When {
     Always,
     /// An index is 0.
@@ -81,7 +81,7 @@ pub enum When {
 }
 
 /// A field.
-#[derive(Clone, Copy, Debug, PartialEq, Eq)]
+#[derive(Clone, Copy)]
 pub enum Step {
     Group,
     Segment,

@@ -128,7 +128,7 @@ pub(crate) fn put_subrecords(
 {
     let mut is_first = true;
     for subrecord in subrecords {
-        open_item(text, format, is_first, subrecord.within)?;
+        open_item(text, format, is_first, u64::from(subrecord.within))?;
         put_subrecord(text, format, known, width, &subrecord.item)?;
         close_item(text, format)?;
         known.threads.set(&subrecord.item);
@@ -150,7 +150,7 @@ pub(crate) fn put_start(
     let Some(reference) = start else {
         return Ok(());
     };
-    open_item(text, format, true, reference.fix.within)?;
+    open_item(text, format, true, u64::from(reference.fix.within))?;
     put_resolved(text, format, known, width, reference)?;
     close_item(text, format)
 }

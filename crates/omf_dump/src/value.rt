@@ -4,7 +4,7 @@ ghost use Rattle.std.specs.Prelude.{◌≡◌, ◌++◌, ◌∷◌, [], flat_map
 ghost use Rattle.omf_frame.specs.Bytes.{AddsText};
 ghost use Rattle.omf_placement.specs.Quoted.{hex};
 ghost use Rattle.omf_dump.specs.declared.format.Format.TheVariants as format;
-ghost use Rattle.omf_dump.specs.Render.{bytes_text, digits, entry_text, escape, escaped, hexadecimal, index_text, marked_text, method_entry, method_text, name_beside, named_text, quoted, signed, spaced, word_text};
+ghost use Rattle.omf_dump.specs.Render.{bytes_text, digits, entry_text, escape, escaped, hexadecimal, index_text, marked_text, method_entry, name_beside, quoted, spaced};
 
 use crate::entry::Entry;
 use crate::format::Format;
@@ -25,44 +25,6 @@ pub(crate) fn put_number(
         (Format::Json, _) => put_decimal(text, number),
         (Format::Text, Width::Bits16) => put_four(text, number),
         (Format::Text, Width::Bits32) => put_eight(text, number),
-    }
-}
-
-/// Appends a 16-bit number with a sign: from 8000H on it is negative.
-pub(crate) fn put_signed(text: &mut Vec<u8>, number: u16) -> Result<(), AllocError>
-    ensures { AddsText result text.old.items text.new.items (signed number) }
-{
-    let number = u64::from(number);
-    if number < 0x8000 {
-        put_decimal(text, number)
-    } else {
-        text.push(b'-')?;
-        put_decimal(text, 0x1_0000 - number)
-    }
-}
-
-/// Appends a number of one byte.
-pub(crate) fn put_small(text: &mut Vec<u8>, format: Format, number: u8) -> Result<(), AllocError>
-    ensures { AddsText result text.old.items text.new.items (hexadecimal format 2 number) }
-{
-    match format {
-        Format::Text => put_byte(text, number),
-        Format::Json => put_decimal(text, u64::from(number)),
-    }
-}
-
-/// Appends a word, in JSON in quotes.
-pub(crate) fn put_word(text: &mut Vec<u8>, format: Format, word: &str) -> Result<(), AllocError>
-    ensures { AddsText result text.old.items text.new.items (word_text format word.now) }
-{
-    match format {
-        Format::Text => text.extend_from_slice(word.as_bytes()),
-        Format::Json => {
-            text.push(b'"')?;
-            text.extend_from_slice(word.as_bytes())?;
-            text.push(b'"')?;
-            Ok(())
-        }
     }
 }
 
@@ -170,7 +132,7 @@ fn put_before_spaces(text: &mut Vec<u8>, bytes: &[u8]) -> Result<(), AllocError>
 }
 
 /// Appends bytes in brackets, with those before and after them.
-fn put_bracketed(
+pub(crate) fn put_bracketed(
     text: &mut Vec<u8>,
     before: &[u8],
     bytes: &[u8],
@@ -186,7 +148,7 @@ fn put_bracketed(
 }
 
 /// Appends bytes, with those before and after them, as members of an object.
-fn put_members(
+pub(crate) fn put_members(
     text: &mut Vec<u8>,
     before: &[u8],
     bytes: &[u8],
@@ -199,22 +161,6 @@ fn put_members(
     put_list(text, Format::Json, before)?;
     text.extend_from_slice(b",\"after\":")?;
     put_list(text, Format::Json, after)
-}
-
-/// Appends bytes, with those before and after them.
-pub(crate) fn put_marked(
-    text: &mut Vec<u8>,
-    format: Format,
-    before: &[u8],
-    bytes: &[u8],
-    after: &[u8],
-) -> Result<(), AllocError>
-    ensures { AddsText result text.old.items text.new.items (marked_text format before.now bytes.now after.now) }
-{
-    match format {
-        Format::Text => put_bracketed(text, before, bytes, after),
-        Format::Json => put_members(text, before, bytes, after),
-    }
 }
 
 /// Appends the name beside an index, if there is one.
@@ -258,34 +204,19 @@ fn put_index(text: &mut Vec<u8>, format: Format, index: u64) -> Result<(), Alloc
 }
 
 /// Appends an index with its name.
-fn put_entry(text: &mut Vec<u8>, format: Format, entry: Entry<'_>) -> Result<(), AllocError>
+pub(crate) fn put_entry(
+    text: &mut Vec<u8>,
+    format: Format,
+    entry: Entry<'_>,
+) -> Result<(), AllocError>
     ensures { AddsText result text.old.items text.new.items (entry_text format entry.entry) }
 {
     put_index(text, format, entry.index)?;
     put_name_beside(text, format, entry.name)
 }
 
-/// Appends an entry, in JSON as an object.
-pub(crate) fn put_named(
-    text: &mut Vec<u8>,
-    format: Format,
-    entry: Entry<'_>,
-) -> Result<(), AllocError>
-    ensures { AddsText result text.old.items text.new.items (named_text format entry.entry) }
-{
-    match format {
-        Format::Text => put_entry(text, format, entry),
-        Format::Json => {
-            text.push(b'{')?;
-            put_entry(text, format, entry)?;
-            text.push(b'}')?;
-            Ok(())
-        }
-    }
-}
-
 /// Appends the entry of a method, if it has one.
-fn put_method_entry(
+pub(crate) fn put_method_entry(
     text: &mut Vec<u8>,
     format: Format,
     entry: Option<Entry<'_>>,
@@ -300,29 +231,4 @@ fn put_method_entry(
         Format::Json => text.push(b',')?,
     }
     put_entry(text, format, entry)
-}
-
-/// Appends a frame or target method, with its entry if it has one.
-pub(crate) fn put_method(
-    text: &mut Vec<u8>,
-    format: Format,
-    method: &str,
-    entry: Option<Entry<'_>>,
-) -> Result<(), AllocError>
-    ensures { AddsText result text.old.items text.new.items (method_text format method.now entry.entry) }
-{
-    match format {
-        Format::Text => {
-            text.extend_from_slice(method.as_bytes())?;
-            put_method_entry(text, format, entry)
-        }
-        Format::Json => {
-            text.extend_from_slice(b"{\"method\":\"")?;
-            text.extend_from_slice(method.as_bytes())?;
-            text.push(b'"')?;
-            put_method_entry(text, format, entry)?;
-            text.push(b'}')?;
-            Ok(())
-        }
-    }
 }

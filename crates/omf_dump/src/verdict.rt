@@ -3,15 +3,14 @@
 ghost use Rattle.std.specs.Prelude.{◌≡◌, ◌++◌, ◌∷◌, IfOk, decimal};
 ghost use Rattle.omf_frame.specs.Bytes.{AddsText};
 ghost use Rattle.omf_dump.specs.Library.{Shows};
-ghost use Rattle.omf_dump.specs.Render.{fields_text};
-ghost use Rattle.omf_dump.specs.Verdict.{IsVerdict, accepted_fields, accepted_text, gap, place_fields, place_text, reason_fields, reason_text, refused_line, refused_text};
-ghost use Rattle.omf_dump.specs.declared.format.Format.TheVariants as format;
+ghost use Rattle.omf_dump.specs.Verdict.{IsVerdict, accepted_text, gap, place_text, reason_text, refused_line};
 
 use crate::fault::DumpFault;
-use crate::field::{number, word};
+use crate::field::number;
 use crate::format::{Format, Listing, Shape, Subject};
 use crate::item::close_record;
 use crate::output::send;
+use crate::refused::put_reason_fields;
 use omf_check::{CheckFault, Judged, judge};
 use omf_frame::{Bytes, Place, Reason, Sink};
 use omf_host::put_decimal;
@@ -25,19 +24,6 @@ pub(crate) fn put_count(text: &mut Vec<u8>, front: &[u8], number: u64) -> Result
     put_decimal(text, number)
 }
 
-/// The numbers of an accepted module, in JSON.
-fn put_numbers(text: &mut Vec<u8>, judged: Judged) -> Result<(), AllocError>
-    ensures { AddsText result text.old.items text.new.items (fields_text format.Json (accepted_fields judged.record_count judged.size)) }
-{
-    number(
-        text,
-        Format::Json,
-        "records",
-        u64::from(judged.record_count),
-    )?;
-    number(text, Format::Json, "bytes", judged.size)
-}
-
 /// The end of the line of an accepted module.
 fn put_accepted(text: &mut Vec<u8>, shape: Shape, judged: Judged) -> Result<(), AllocError>
     ensures { AddsText result text.old.items text.new.items (accepted_text shape judged.record_count judged.size) }
@@ -49,7 +35,9 @@ fn put_accepted(text: &mut Vec<u8>, shape: Shape, judged: Judged) -> Result<(), 
             text.extend_from_slice(b" bytes\n")
         }
         Shape::Json => {
-            put_numbers(text, judged)?;
+            let records = u64::from(judged.record_count);
+            number(text, Format::Json, "records", records)?;
+            number(text, Format::Json, "bytes", judged.size)?;
             close_record(text, Format::Json)
         }
         Shape::Csv => {
@@ -58,14 +46,6 @@ fn put_accepted(text: &mut Vec<u8>, shape: Shape, judged: Judged) -> Result<(), 
             text.extend_from_slice(b",,,,,,\n")
         }
     }
-}
-
-/// A reason, in JSON: its number and its name.
-fn put_reason_fields(text: &mut Vec<u8>, reason: Reason) -> Result<(), AllocError>
-    ensures { AddsText result text.old.items text.new.items (fields_text format.Json (reason_fields reason)) }
-{
-    number(text, Format::Json, "refused", u64::from(reason.number()))?;
-    word(text, Format::Json, "reason", reason.name())
 }
 
 /// A reason: its number and its name.
@@ -78,22 +58,13 @@ fn put_reason(text: &mut Vec<u8>, shape: Shape, reason: Reason) -> Result<(), Al
             text.push(b' ')?;
             text.extend_from_slice(reason.name().as_bytes())
         }
-        Shape::Json => put_reason_fields(text, reason),
+        Shape::Json => put_reason_fields(text, Format::Json, reason),
         Shape::Csv => {
             put_count(text, b",", u64::from(reason.number()))?;
             text.push(b',')?;
             text.extend_from_slice(reason.name().as_bytes())
         }
     }
-}
-
-/// The place of a refusal, in JSON.
-fn put_place_fields(text: &mut Vec<u8>, place: Place) -> Result<(), AllocError>
-    ensures { AddsText result text.old.items text.new.items (fields_text format.Json (place_fields place)) }
-{
-    number(text, Format::Json, "record", u64::from(place.number))?;
-    number(text, Format::Json, "at", place.start)?;
-    number(text, Format::Json, "within", u64::from(place.within))
 }
 
 /// The place of a refusal, and the end of the line.
@@ -108,7 +79,9 @@ fn put_place(text: &mut Vec<u8>, shape: Shape, place: Place) -> Result<(), Alloc
             text.extend_from_slice(b"\n")
         }
         Shape::Json => {
-            put_place_fields(text, place)?;
+            number(text, Format::Json, "record", u64::from(place.number))?;
+            number(text, Format::Json, "at", place.start)?;
+            number(text, Format::Json, "within", u64::from(place.within))?;
             close_record(text, Format::Json)
         }
         Shape::Csv => {
@@ -118,19 +91,6 @@ fn put_place(text: &mut Vec<u8>, shape: Shape, place: Place) -> Result<(), Alloc
             text.extend_from_slice(b",\n")
         }
     }
-}
-
-/// The end of the line of a refused module.
-fn put_refused(
-    text: &mut Vec<u8>,
-    shape: Shape,
-    reason: Reason,
-    place: Place,
-) -> Result<(), AllocError>
-    ensures { AddsText result text.old.items text.new.items (refused_text shape reason place) }
-{
-    put_reason(text, shape, reason)?;
-    put_place(text, shape, place)
 }
 
 /// The empty cells before those of a refusal.
@@ -155,7 +115,8 @@ pub(crate) fn put_refusal(
     ensures { AddsText result text.old.items text.new.items (refused_line listing reason place) }
 {
     put_gap(text, listing.subject, listing.shape)?;
-    put_refused(text, listing.shape, reason, place)
+    put_reason(text, listing.shape, reason)?;
+    put_place(text, listing.shape, place)
 }
 
 /// Appends the line of bytes as a module, after its head. Returns whether they are refused.

@@ -1,59 +1,9 @@
-//! The words for packed fields, classes and types (TIS OMF 1.1).
+//! The words for classes and types (TIS OMF 1.1).
 
 ghost use Rattle.std.specs.Prelude.{◌≡◌};
-ghost use Rattle.omf_records.specs.Inner.Names.{location_number};
-ghost use Rattle.omf_records.specs.Methods.{alignment_number, combination_number};
-ghost use Rattle.omf_dump.specs.Words.{alignment_word, class_word, combination_word, location_word, subtype_word, type_word};
+ghost use Rattle.omf_dump.specs.Words.{class_word, subtype_word, type_word};
 
 use omf_frame::type_name;
-use omf_records::{Alignment, Combination, LocationType};
-
-/// The word for an alignment.
-pub(crate) fn alignment_word(alignment: Alignment) -> &'static str
-    ensures { result.now ≡ alignment_word (alignment_number alignment) }
-{
-    match alignment {
-        Alignment::Absolute => "absolute",
-        Alignment::Byte => "byte",
-        Alignment::Word => "word",
-        Alignment::Paragraph => "paragraph",
-        Alignment::Page => "page",
-        Alignment::Dword => "dword",
-    }
-}
-
-/// The word for a combination.
-pub(crate) fn combination_word(combination: Combination) -> &'static str
-    ensures { result.now ≡ combination_word (combination_number combination) }
-{
-    match combination {
-        Combination::Private => "private",
-        Combination::Reserved1 => "reserved1",
-        Combination::Public => "public",
-        Combination::Reserved3 => "reserved3",
-        Combination::Public4 => "public4",
-        Combination::Stack => "stack",
-        Combination::Common => "common",
-        Combination::Public7 => "public7",
-    }
-}
-
-/// The word for a location type.
-pub(crate) fn location_word(kind: LocationType) -> &'static str
-    ensures { result.now ≡ location_word (location_number kind) }
-{
-    match kind {
-        LocationType::LowByte => "low-byte",
-        LocationType::Offset16 => "offset16",
-        LocationType::Base => "base",
-        LocationType::Pointer16 => "pointer16:16",
-        LocationType::HighByte => "high-byte",
-        LocationType::LoaderOffset16 => "loader-offset16",
-        LocationType::Offset32 => "offset32",
-        LocationType::Pointer32 => "pointer16:32",
-        LocationType::LoaderOffset32 => "loader-offset32",
-    }
-}
 
 /// The word for a comment class.
 pub(crate) fn class_word(class: u8) -> &'static str

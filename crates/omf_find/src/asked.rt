@@ -10,7 +10,7 @@ use omf_symbols::{Tool, tool_named};
 use std::alloc::{AllocError, Global};
 
 /// What is written.
-#[derive(Clone, Copy, Debug, PartialEq, Eq)]
+#[derive(Clone, Copy)]
 pub enum Output {
     /// A map, as text.
     Text,

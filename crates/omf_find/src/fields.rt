@@ -8,7 +8,7 @@ use omf_host::{is_plain, put_byte, put_decimal, put_eight};
 use std::alloc::AllocError;
 
 /// The two forms of a map.
-#[derive(Clone, Copy, Debug, PartialEq, Eq)]
+#[derive(Clone, Copy)]
 pub enum Format {
     /// A line of text for each entry.
     Text,

@@ -7,7 +7,7 @@ use crate::rows::SegmentRow;
 use std::alloc::{AllocError, Global};
 
 /// An interval of addresses, with the address after it.
-#[derive(Clone, Copy, Debug, PartialEq, Eq)]
+#[derive(Clone, Copy)]
 pub struct Gap {
     pub first: u64,
     pub end: u64,

@@ -12,7 +12,7 @@ use omf_symbols::Kind;
 use std::alloc::{AllocError, Global};
 
 /// Why a file is not searched.
-#[derive(Clone, Copy, Debug, PartialEq, Eq)]
+#[derive(Clone, Copy)]
 pub enum LoadFault {
     /// It is an MZ file, and its header is refused.
     Mz(MzFault),

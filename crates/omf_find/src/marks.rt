@@ -8,7 +8,7 @@ use crate::part::after;
 use byteorder::{ByteOrder, LittleEndian};
 
 /// What a program is packed by.
-#[derive(Clone, Copy, Debug, PartialEq, Eq)]
+#[derive(Clone, Copy)]
 pub enum Packer {
     Lzexe,
     Pklite,
@@ -16,7 +16,7 @@ pub enum Packer {
 }
 
 /// What follows the stub of an MZ file.
-#[derive(Clone, Copy, Debug, PartialEq, Eq)]
+#[derive(Clone, Copy)]
 pub enum Other {
     /// 16-bit Windows, OS/2.
     Ne,

@@ -17,7 +17,7 @@ use std::fmt::Write;
 const LIBRARY: u8 = 0xF0;
 
 /// Where a module comes from: the number of its file, and its number in the file, each from 0.
-#[derive(Clone, Copy, Debug, PartialEq, Eq)]
+#[derive(Clone, Copy)]
 pub struct Origin {
     pub file: usize,
     pub member: usize,

@@ -24,7 +24,7 @@ pub struct Room {
 }
 
 /// Where room is looked for.
-#[derive(Clone, Copy, Debug, PartialEq, Eq)]
+#[derive(Clone, Copy)]
 pub enum Side {
     /// After all segments.
     After,

@@ -8,7 +8,7 @@ use crate::patterning::Interval;
 use std::alloc::{AllocError, Global};
 
 /// A closed byte of a segment.
-#[derive(Clone, Copy, Debug, PartialEq, Eq)]
+#[derive(Clone, Copy)]
 pub struct ClosedByte {
     /// Its offset in the segment.
     pub offset: u32,

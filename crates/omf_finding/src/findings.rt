@@ -4,7 +4,7 @@ use crate::indices::Indices;
 use omf_reloc::Placement;
 
 /// What is asked of a search.
-#[derive(Clone, Copy, Debug, PartialEq, Eq)]
+#[derive(Clone, Copy)]
 pub struct FindOptions {
     /// The number of closed bytes from which on a segment with one place is placed by its bytes alone; usually 16.
     pub least: usize,
@@ -24,7 +24,7 @@ pub struct Found {
 }
 
 /// Why a place of a segment is only a possible one.
-#[derive(Clone, Copy, Debug, PartialEq, Eq)]
+#[derive(Clone, Copy)]
 pub enum Why {
     /// The segment has fewer closed bytes than are enough, and no reference points to it.
     FewBytes,
@@ -72,7 +72,7 @@ pub enum Verdict {
 }
 
 /// A name that modules ask for and no module that is found defines, with an address that their references give it.
-#[derive(Clone, Copy, Debug, PartialEq, Eq)]
+#[derive(Clone, Copy)]
 pub struct Asked {
     /// The address.
     pub address: u32,

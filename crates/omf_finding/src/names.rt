@@ -9,7 +9,7 @@ use std::collections::BTreeMap;
 pub(crate) const MOST_DEFINERS: usize = 16;
 
 /// A public of a segment.
-#[derive(Clone, Copy, Debug, Drop)]
+#[derive(Clone, Copy, Drop)]
 pub(crate) struct Definer {
     /// The number of its segment among those of all modules.
     pub(crate) part: usize,

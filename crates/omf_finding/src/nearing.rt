@@ -21,7 +21,7 @@ use std::alloc::{AllocError, Global};
 const TOO_MANY: usize = 64;
 
 /// A closed byte of a segment where the program has another byte, or none.
-#[derive(Clone, Copy, Debug, PartialEq, Eq)]
+#[derive(Clone, Copy)]
 pub struct Difference {
     /// Its offset in the segment.
     pub offset: u32,
@@ -45,7 +45,7 @@ pub struct Near {
 }
 
 /// An address of a segment, and how many of its closed bytes differ there.
-#[derive(Clone, Copy, Debug)]
+#[derive(Clone, Copy)]
 struct Place {
     address: u32,
     count: usize,

@@ -51,7 +51,7 @@ pub(crate) struct Shape {
 }
 
 /// Four closed bytes in a row.
-#[derive(Clone, Copy, Debug, Drop)]
+#[derive(Clone, Copy, Drop)]
 pub(crate) struct Rare {
     /// About how many places of the program have them.
     count: u32,
@@ -62,7 +62,7 @@ pub(crate) struct Rare {
 }
 
 /// What a window shows of a segment.
-#[derive(Clone, Copy, Debug)]
+#[derive(Clone, Copy)]
 pub(crate) enum Tried {
     /// It has other bytes: all windows with those that are searched for were tried.
     End,

@@ -15,7 +15,7 @@ use omf_records::Kind;
 use std::alloc::{AllocError, Global};
 
 /// A reference to a public of a module that is found, which goes elsewhere.
-#[derive(Clone, Copy, Debug, PartialEq, Eq)]
+#[derive(Clone, Copy)]
 pub struct Stray {
     /// The offset of its location in the segment.
     pub offset: u32,
