@@ -61,6 +61,8 @@ def targets(folder):
     yield Target("lowered", "OMF_LINK", "", ["tests/lowered.py", *timed], r"^(\d+) modules lowered")
     yield Target("lowered repeats", "OMF_LINK", "", ["tests/lowered.py", *timed, "--repeats"], r"^(\d+) modules lowered")
     yield Target("taken", "OMF_LINK", "", ["tests/taken.py", *timed], r"^(\d+) files linked")
+    yield Target("frames", "OMF_LINK", "", ["tests/frames.py", *timed], r"^(\d+) modules linked")
+    yield Target("virtual", "OMF_LINK", "", ["tests/virtual.py", *timed], r"^(\d+) modules lowered")
     yield Target("chosen", "OMF_LINK", "", ["tests/chosen.py", *timed], r"^(\d+) links")
     yield Target("modules", "OMF OMF_PLACE", "", ["tests/modules.py", "--made", "SEED", "SECONDS", kept, "--", "--real"], r"^(\d+) modules")
     for one in GUIDED:

@@ -1,10 +1,10 @@
 #!/usr/bin/env python3
-"""Links generated modules that name frames by their numbers, and compares with a reader of its own, by the standard's text: frames.py [--first SEED] [--count N]
+"""Links generated modules that name frames by their numbers, and compares with a reader of its own, by the standard's text: frames.py [--first SEED] [--count N | --seconds S]
 
 Each module has THREADs and FIXUPs of frame method F3 and of target methods T3 and T7 among others, and some have a start address with them. What `omf-link lower`
-writes must be the bytes that this reader gives; where `omf-link exe` makes a program, each location must have the offset or selector that the standard
+writes must be the bytes that this reader gives; with a CEXTDEF of an undefined name among its records, and perhaps segments with A = 6, the fault's place must be one in the
+module. Where `omf-link exe` makes a program, each location must have the offset or selector that the standard
 defines for the frames and targets as the module has them, and no word of it moves; a start at such an address is refused. OMF_LINK names the program (omf-link, if not set). The status is 1 where a module differs."""
-import argparse
 import os
 import pathlib
 import random
@@ -13,11 +13,11 @@ import subprocess
 import sys
 import tempfile
 
-from lowered import index_at, little, named, record, shortest
+from lowered import index_at, little, named, record, run_seeds, seeded_parser, shortest
 
 LINK = os.environ.get("OMF_LINK") or "omf-link"
 SEGMENT, FIXUPS, END, NUMBERED = 0x98, 0x9C, 0x8A, 3
-MOST_FAILED = 10
+UNDEFINED_NAME = record(0xBC, b"\x09\0")
 BYTE, OFFSET, SELECTOR, POINTER, HIGH = 0, 1, 2, 3, 4
 SIZES = {BYTE: 1, OFFSET: 2, SELECTOR: 2, POINTER: 4, HIGH: 1}
 
@@ -115,7 +115,42 @@ class Made:
         return record(END, b"\xC1" + text)
 
 
-class Plain:
+class Respelled:
+    """Of a FIXUPP or a start address the record with other methods. `datum` gives the method in place of one, the bytes of its datum and the position after it, and sets `has` if it
+    is another."""
+
+    def reference(self, contents, at, width):
+        fix, at, text = contents[at], at + 1, b""
+        for shift, bits in (4, 15), (0, 11):
+            method = fix >> shift & bits
+            if method <= NUMBERED:
+                other, own, at = self.datum(contents, at, method)
+                fix, text = fix + (other - method << shift), text + own
+        end = at if fix & 4 else at + width
+        return bytes([fix]) + text + contents[at:end], end
+
+    def thread(self, contents, at):
+        first = contents[at]
+        method = first >> 2 & (7 if first & 0x40 else 3)
+        if method > NUMBERED:
+            return contents[at:at + 1], at + 1
+        other, own, end = self.datum(contents, at + 1, method)
+        return bytes([first + (other - method << 2)]) + own, end
+
+    def taken(self, one):
+        contents, width, self.has = one[3:-1], 4 if one[0] & 1 else 2, False
+        is_start = one[0] & 0xFE == END and contents[0] & 0x40
+        if one[0] & 0xFE != FIXUPS and not is_start:
+            return one
+        out, at = (contents[:1], 1) if is_start else (b"", 0)
+        while at < len(contents):
+            front = at + 2 if contents[at] & 0x80 and not is_start else at
+            text, end = self.reference(contents, front, width) if is_start or front > at else self.thread(contents, at)
+            out, at = out + contents[at:front] + text, end
+        return record(one[0], out) if self.has else one
+
+
+class Plain(Respelled):
     """The records of a module without frame numbers: a segment for each frame, after the module's own."""
 
     def __init__(self, records):
@@ -126,60 +161,13 @@ class Plain:
         self.records[last + 1:last + 1] = [record(SEGMENT, b"\x02" + little(it, 2) + bytes(6)) for it in self.numbers]
 
     def datum(self, contents, at, method):
-        """A datum in its shortest form, and the position after it."""
         if method != NUMBERED:
             number, at = index_at(contents, at)
-            return shortest(number), at
-        number = int.from_bytes(contents[at:at + 2], "little")
+            return method, shortest(number), at
+        number, self.has = int.from_bytes(contents[at:at + 2], "little"), True
         if number not in self.numbers:
             self.numbers.append(number)
-        return shortest(self.count + self.numbers.index(number) + 1), at + 2
-
-    def reference(self, contents, at, width):
-        fix = contents[at]
-        at, text, out = at + 1, b"", fix
-        if not fix & 0x80 and fix >> 4 & 7 < 4:
-            out -= 0x30 if fix >> 4 & 7 == NUMBERED else 0
-            own, at = self.datum(contents, at, fix >> 4 & 7)
-            text += own
-        if not fix & 8:
-            out -= 3 if fix & 3 == NUMBERED else 0
-            own, at = self.datum(contents, at, fix & 3)
-            text += own
-        end = at if fix & 4 else at + width
-        return bytes([out]) + text + contents[at:end], end
-
-    def thread(self, contents, at):
-        first = contents[at]
-        method = first >> 2 & (7 if first & 0x40 else 3)
-        if method > 3:
-            return contents[at:at + 1], at + 1
-        own, end = self.datum(contents, at + 1, method)
-        return bytes([first - (12 if method == NUMBERED else 0)]) + own, end
-
-    def taken(self, one):
-        contents, width = one[3:-1], 4 if one[0] & 1 else 2
-        if one[0] & 0xFE == END and contents[0] & 0x40:
-            text, _ = self.reference(contents, 1, width)
-            return record(one[0], contents[:1] + text) if text != contents[1:] and is_numbered(contents[1]) else one
-        if one[0] & 0xFE != FIXUPS:
-            return one
-        out, at, has = b"", 0, False
-        while at < len(contents):
-            if contents[at] & 0x80:
-                has |= is_numbered(contents[at + 2])
-                text, end = self.reference(contents, at + 2, width)
-                text = contents[at:at + 2] + text
-            else:
-                has |= contents[at] >> 2 & (7 if contents[at] & 0x40 else 3) == NUMBERED
-                text, end = self.thread(contents, at)
-            out, at = out + text, end
-        return record(one[0], out) if has else one
-
-
-def is_numbered(fix):
-    """Whether a fix data byte has method F3, T3 or T7."""
-    return (not fix & 0x80 and fix >> 4 & 7 == NUMBERED) or (not fix & 8 and fix & 3 == NUMBERED)
+        return 0, shortest(self.count + self.numbers.index(number) + 1), at + 2
 
 
 def run(folder, words):
@@ -195,8 +183,22 @@ def image_of(file):
     return file[16 * paragraphs:size], [16 * segment + offset for offset, segment in places]
 
 
+def misplaced(folder, records, random_):
+    """The line for a module with a fault in it, if that has not the place of the record at fault."""
+    records = [record(SEGMENT, b"\xC8" + it[4:-1]) if it[0] == SEGMENT and random_.random() < 0.2 else it for it in records]
+    at = random_.randrange(2, len(records))
+    (folder / "w.obj").write_bytes(b"".join([*records[:at], UNDEFINED_NAME, *records[at:]]))
+    done = run(folder, ["lower", "-o", "out.obj", "w.obj"])
+    place = f"record {at} at {sum(map(len, records[:at]))} within 3"
+    wanted = f'omf-link: file "w.obj" module 1 refused 21 UndefinedName {place}\n'
+    return None if (done.returncode, done.stderr.decode()) == (1, wanted) else ("place", place, done.stderr)
+
+
 def differs(folder, one):
     """What a call answers to a module, if that is not what it must."""
+    answer = misplaced(folder, one.records, one.random)
+    if answer:
+        return answer
     (folder / "m.obj").write_bytes(b"".join(one.records))
     done = run(folder, ["lower", "-o", "out.obj", "m.obj"])
     wanted = b"".join(Plain(one.records).records)
@@ -213,20 +215,10 @@ def differs(folder, one):
 
 
 def main():
-    parser = argparse.ArgumentParser(description=__doc__, formatter_class=argparse.RawDescriptionHelpFormatter)
-    parser.add_argument("--first", type=int, default=1)
-    parser.add_argument("--count", type=int, default=1000)
-    asked = parser.parse_args()
-    failed = 0
+    asked = seeded_parser(__doc__, 1000).parse_args()
     with tempfile.TemporaryDirectory() as folder:
-        for seed in range(asked.first, asked.first + asked.count):
-            answer = differs(pathlib.Path(folder), Made(random.Random(seed)))
-            if answer:
-                failed += 1
-                print(f"seed {seed}: {answer}")
-            if failed >= MOST_FAILED:
-                break
-    print(f"{asked.count} modules linked, {failed} otherwise")
+        tried, failed = run_seeds(asked, lambda seed: differs(pathlib.Path(folder), Made(random.Random(seed))))
+    print(f"{tried} modules linked, {failed} otherwise")
     return 1 if failed else 0
 
 

@@ -331,10 +331,10 @@ class Lowered:
         at = 0
         while at < len(contents):
             name, at = index_at(contents, at)
-            _, at = index_at(contents, at)
+            type_index, at = index_at(contents, at)
             if not 1 <= name <= len(self.names):
                 raise Fault(number)
-            self.records.append(record(LOCAL_EXTERNALS if name in self.local else EXTERNALS, named(self.names[name - 1]) + b"\0"))
+            self.records.append(record(LOCAL_EXTERNALS if name in self.local else EXTERNALS, named(self.names[name - 1]) + shortest(type_index)))
 
     def take_patches(self, number, contents, width):
         segment, at = index_at(contents, 0)
@@ -557,22 +557,28 @@ def has_unknown_segment(records):
     return False
 
 
-def differs(folder, modules):
-    """What `omf-link lower` answers to a file of these modules, if that is not what it must."""
+def otherwise(folder, modules, wanted):
+    """What `omf-link lower` answers to a file of these modules, if that is not what it must: these bytes, the fault of this module and record, or (None) any of both."""
     (folder / "wide.obj").write_bytes(b"".join(b"".join(records) + padding for records, padding in modules))
     (folder / "out.obj").unlink(missing_ok=True)
     done = subprocess.run([LINK, "lower", "-o", "out.obj", "wide.obj"], cwd=folder, stdin=subprocess.DEVNULL, capture_output=True, timeout=60, check=False)
     written = (folder / "out.obj").read_bytes() if (folder / "out.obj").exists() else None
-    wanted = lowered(modules)
-    if any(has_unknown_segment(records) for records, _ in modules):
+    if wanted is None:
         is_right = done.returncode == (written is None)
     elif isinstance(wanted, bytes):
         is_right = done.returncode == 0 and written == wanted
     else:
         words = done.stderr.decode().split()
-        is_named = words[1:6] == ["file", '"wide.obj"', "module", str(wanted[0]), "refused"] and words[8:10] == ["record", str(wanted[1])]
+        offset = sum(map(len, modules[wanted[0] - 1][0][:wanted[1]]))
+        is_named = words[1:6] == ["file", '"wide.obj"', "module", str(wanted[0]), "refused"] and words[8:12] == ["record", str(wanted[1]), "at", str(offset)]
         is_right = done.returncode == 1 and written is None and is_named
     return None if is_right else (done.returncode, done.stderr)
+
+
+def differs(folder, modules):
+    """What `omf-link lower` answers to a file of these modules, if that is not what it must."""
+    is_unknown = any(has_unknown_segment(records) for records, _ in modules)
+    return otherwise(folder, modules, None if is_unknown else lowered(modules))
 
 
 def seeded_parser(text, count):

@@ -133,6 +133,7 @@ def stages():
     yield Stage("executed", ["tests/executed.py", "--count", "300", "--dosbox"], "OMF_LINK OMF_LIB", "nasm python3-unicorn", 1800, r"^(\d+) programs")
     yield Stage("names", ["tests/names.py"], "OMF_DUMP", "nasm", 600, r"^(\d+) lists")
     yield Stage("lowered", ["tests/lowered.py"], "OMF_LINK", "", 600, r"^(\d+) modules lowered")
+    yield Stage("virtual", ["tests/virtual.py"], "OMF_LINK", "", 600, r"^(\d+) modules lowered")
     yield Stage("frames", ["tests/frames.py"], "OMF_LINK", "", 600, r"^(\d+) modules linked")
     yield Stage("taken", ["tests/taken.py"], "OMF_LINK", "", 600, r"^(\d+) files linked")
     yield Stage("chosen", ["tests/chosen.py"], "OMF_LINK", "", 600, r"^(\d+) links")
@@ -145,7 +146,7 @@ def stages():
     pages = ["README.md", *sorted(str(it.relative_to(ROOT)) for it in (ROOT / "docs").glob("*.md"))]
     yield Stage("shown commands", ["tests/shown.sh", *pages], " ".join([*PROGRAMS, "LIBOMF"]), "", 1800, r"^(\d+) commands, \d+ failed, (\d+) left out")
     yield from fuzz()
-    seeded = ["dump", "library", "exe", "com", "placement", "linktext", "find", "lower", "executed", "flat", "taken", "chosen", "names", "found", "modules", "conformance"]
+    seeded = ["dump", "library", "exe", "com", "placement", "linktext", "find", "lower", "executed", "flat", "taken", "chosen", "frames", "virtual", "names", "found", "modules", "conformance"]
     yield Stage("campaign", ["tests/campaign.py", "--hours", f"{MINUTES / 60:.3f}", "--target", *seeded], " ".join(PROGRAMS), "", 120 * MINUTES + 3600, r"^(\d+) tries")
 
 

@@ -6,7 +6,7 @@ import re
 from libraries import record
 
 NAMES, LOCAL_NAMES, EXTERNALS, COMDAT_EXTERNALS, DATA, REPEATED, BACKPATCH, COMDAT = 0x96, 0xCA, 0x8C, 0xBC, 0xA0, 0xA2, 0xB2, 0xC2
-FIXUPS, NAMED_BACKPATCH = 0x9C, 0xC8
+FIXUPS, NAMED_BACKPATCH, SEGMENT, COMMENT = 0x9C, 0xC8, 0x98, 0x88
 LOCAL_EXTERNALS, VENDOR = 0xB4, 0xCE
 HEADERS, ENDS, FRONT = (b"\x80", b"\x82"), (0x8A, 0x8B), 3
 PADDING = re.compile(rb"\0+|\x1A+|")
@@ -171,7 +171,7 @@ class Unread(Exception):
 
 
 class Beyond(Exception):
-    """A frame by number or an alignment to pages, which no reader here lowers (tests/frames.py links such modules)."""
+    """A frame by number or a virtual segment, which no reader here lowers (tests/frames.py and tests/virtual.py do)."""
 
 
 def is_lowered(bytes_):
@@ -184,11 +184,25 @@ def is_lowered(bytes_):
     return False
 
 
+def has_end(bytes_):
+    """Whether one of the whole records at the front is a MODEND."""
+    at = 0
+    while at + FRONT < len(bytes_):
+        size = int.from_bytes(bytes_[at + 1:at + FRONT], "little")
+        if not 0 < size <= len(bytes_) - at - FRONT:
+            return False
+        if bytes_[at] in ENDS:
+            return True
+        at += FRONT + size
+    return False
+
+
 class Lowered:
     """The records of a lowered module. Data are lists of a segment, an offset, a size, the number of the record (None for an LIDATA), its front and its
-    bytes. `judge` is called with each record whose layout is not read here."""
+    bytes. `judge` is called with each record whose layout is not read here; a SEGDEF has A = 4 for A = 6 and 7 where the module has an end."""
 
-    def __init__(self, judge=lambda one: None):
+    def __init__(self, judge=lambda one: None, is_whole=False):
+        self.segments, self.is_whole = 0, is_whole
         self.names, self.local, self.records, self.data, self.judge, self.is_repeated = [], [], [], [], judge, False
 
     def take(self, one):
@@ -202,8 +216,25 @@ class Lowered:
         elif kind == VENDOR:
             return
         else:
-            self.take_other(one, Fields(contents))
-            self.records.append(one)
+            paged = self.paged(one)
+            self.take_other(paged[0], Fields(contents))
+            self.records += paged
+
+    def paged(self, one):
+        """A SEGDEF with A = 6 or 7 as one with A = 4, with a comment for 6, if it has no other fault; or the record as it is."""
+        if one[0] & 0xFE != SEGMENT:
+            return [one]
+        self.segments += 1
+        attribute = one[FRONT] if self.is_whole and len(one) > FRONT + 1 else 0
+        if attribute < 0xC0:
+            return [one]
+        page = record(one[0], bytes([0x80 | attribute & 31]) + one[FRONT + 1:-1])
+        try:
+            self.judge(page)
+        except Fault:
+            return [one]
+        index = bytes([self.segments]) if self.segments < 128 else bytes([0x80 | self.segments >> 8, self.segments & 255])
+        return [page, record(COMMENT, b"\0\xDC" + index)] if attribute < 0xE0 else [page]
 
     def take_other(self, one, fields):
         if one[0] in (NAMES, LOCAL_NAMES):
@@ -264,7 +295,7 @@ class Refused(Exception):
 
 def lowered_module(bytes_, judge):
     """The bytes of the first module, lowered, and how many it has in the file."""
-    made, at, number = Lowered(judge), 0, 0
+    made, at, number = Lowered(judge, has_end(bytes_)), 0, 0
     try:
         while not made.records or made.records[-1][0] not in ENDS:
             one = front_record(bytes_[at:])
