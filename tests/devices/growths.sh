@@ -75,29 +75,6 @@ is_late() {
     ((SECONDS >= limit)) && echo "$1: not tried from growth $2 on, $limit seconds are over"
 }
 
-# refuse_each_of_test TEST: a test that holds whichever growth is refused, of the crate that has it.
-refuse_each_of_test() {
-    local test=$1 file name program number status
-    file=$(cd "$root/crates" && grep -rl --include='*.rt' "fn $test(" -- */src | head -n 1)
-    name=${file%%/*} program=$root/crates/${file%%/*}/out/${file%%/*}_tests
-    if [ ! -x "$program" ]; then
-        skips "$name $test (run rt test in crates/$name)"
-        return
-    fi
-    test=$(sed 's|^[^/]*/src/||; s|\.rt$||; s|/|::|g' <<< "$file")::$test
-    for ((number = 1; ; number++)); do
-        is_late "$name $test" $number && return
-        refusing $number "$program" "$test"
-        local refused=$?
-        if [ $status -ne 0 ]; then
-            fails "$name $test, growth $number"
-            cat "$here/out" "$here/err"
-        fi
-        [ $refused -eq 0 ] || break
-    done
-    counts "$name $test" $((number - 1))
-}
-
 # names_memory: whether the last line on standard error names memory as the fault.
 names_memory() {
     local line last=
@@ -391,10 +368,6 @@ for module in sides stored grouped local_public; do
 done
 apart refuse_each_of_run 1 "$work/twice" "$link" image
 
-# Such tests are named a_refused_growth_..
-for test in $(grep -rhoE --include='*.rt' 'fn a_refused_growth_\w+' "$root"/crates/*_tests/src | sed 's/^fn //' | sort -u); do
-    apart refuse_each_of_test "$test"
-done
 for one in "${running[@]}"; do
     wait "$one" || failed=1
 done

@@ -283,8 +283,9 @@ def main():
         differing = []
     if UNTIED:
         print("computed definitions without a law (a line `-- computed: LAW.` above the import): " + ", ".join(UNTIED), file=sys.stderr)
-    if over_budget(given):
-        sys.exit(over_budget(given))
+    over = over_budget(given)
+    if over:
+        sys.exit(over)
     if differing:
         sys.exit("tables of docs/INDEX.md that are not as the sources have them, run tests/docs.py --write: " + ", ".join(differing))
     sys.exit(1 if UNTIED else 0)
