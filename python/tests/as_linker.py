@@ -15,10 +15,10 @@ CANNOT = 77
 
 
 def asks_for_library(data):
-    """Whether one of the records is a comment of class 9FH."""
+    """Whether one of the records is a comment of class 9FH or 81H."""
     at = 0
     while at + 5 <= len(data):
-        if data[at] == 0x88 and data[at + 4] == 0x9F:
+        if data[at] == 0x88 and data[at + 4] in (0x9F, 0x81):
             return True
         at += 3 + int.from_bytes(data[at + 1 : at + 3], "little")
     return False

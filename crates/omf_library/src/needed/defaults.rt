@@ -14,6 +14,9 @@ use std::collections::BTreeMap;
 /// The class of a comment that asks for a library.
 const DEFAULT_LIBRARY: u8 = 0x9F;
 
+/// The class that older compilers write in its place.
+const OLD_DEFAULT_LIBRARY: u8 = 0x81;
+
 /// Names, each once.
 #[derive(Drop)]
 struct Asked<'a> {
@@ -44,7 +47,7 @@ fn push_record<'a>(names: &mut Vec<&'a [u8]>, rec: &Undecoded<'a>) -> Result<(),
     let Some(comment) = rec.as_comment() else {
         return Ok(());
     };
-    if comment.class == DEFAULT_LIBRARY {
+    if comment.class == DEFAULT_LIBRARY || comment.class == OLD_DEFAULT_LIBRARY {
         names.push(comment.text)?;
     }
     Ok(())
@@ -85,7 +88,8 @@ fn once<'a>(alloc: Global, names: &[&'a [u8]]) -> Result<Vec<&'a [u8]>, AllocErr
     Ok(asked.names)
 }
 
-/// The names of the libraries that modules ask for in comments of class 9FH (TIS OMF 1.1, "COMENT"), in order, each once.
+/// The names of the libraries that modules ask for in comments of class 9FH, or 81H, which it replaced (TIS OMF 1.1, "COMENT"), in order,
+/// each once.
 /// A name is the comment's whole text, byte for byte: it may have a path or no extension.
 ///
 /// # Errors
