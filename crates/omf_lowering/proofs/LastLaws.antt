@@ -6,7 +6,7 @@ use Rattle.std.proofs.lemmas.List.Elements.{filter-append}
 use Rattle.omf_frame.specs.Bytes.{last}
 
 module _ {A : Type 0} where
-  last_of_more : (o : Option A) (xs : List A) (x : A) → last_or o (xs ++ x ∷ []) ≡ Some x
+  pub last_of_more : (o : Option A) (xs : List A) (x : A) → last_or o (xs ++ x ∷ []) ≡ Some x
   last_of_more o [] x = refl
   last_of_more o (y ∷ xs) x = last_of_more (Some y) xs x
 

@@ -5,9 +5,12 @@ pub mod FitLaws
 pub mod FoundLaws
 pub mod FoundSteps
 pub mod FrontLaws
+pub mod HolderLaws
 pub mod IteratedLaws
+pub mod LaidLaws
 pub mod LastLaws
 pub mod NameLaws
+pub mod NamedLaws
 pub mod OriginLaws
 pub mod PieceLaws
 pub mod PlaceLaws

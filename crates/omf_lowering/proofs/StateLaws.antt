@@ -1,5 +1,5 @@
 -- The state after one more record.
-use Rattle.std.proofs.Common.{◌≡◌, ℕ, suc, ◌+◌, Bool, true, false, List, [], ◌∷◌, ◌++◌, length, map, Result, Ok, Err, refl, sym, ap, ◌∙◌, append_assoc, append-nil, length-append, arith}
+use Rattle.std.proofs.Common.{◌≡◌, ℕ, suc, ◌+◌, Bool, true, false, List, [], ◌∷◌, ◌++◌, length, map, Result, Ok, Err, refl, sym, ap, ◌∙◌, append_assoc, append-nil, arith}
 use Rattle.std.proofs.lemmas.List.Sums.{fold-append}
 use Rattle.omf_frame.specs.Bytes.{with_before}
 use Rattle.omf_frame.specs.Fault.{Fault}
@@ -11,7 +11,6 @@ use Rattle.omf_lowering.specs.Externals.{OwnExternal, external_record}
 use Rattle.omf_lowering.specs.Inner.State.{state_of, added}
 use Rattle.omf_lowering.specs.Lowering.{Before, so_far, start, up_to_next, replacement, replaced, pieces, patches_in, patches, growths_in, growths, faults, faults_in, lowering_fault}
 use Rattle.omf_lowering.specs.Patches.{piece_of, piece_in, pieces_from}
-use Rattle.omf_lowering.specs.declared.values.Piece.{Piece}
 
 pub with_before-more : {A B : Type 0} (f : List A → A → List B) (before xs : List A) (x : A) → with_before f before (xs ++ x ∷ []) ≡ with_before f before xs ++ f (before ++ xs) x
 with_before-more f before [] x = append-nil (f before x) ∙ ap (λ b. f b x) (sym (append-nil before))

@@ -1,5 +1,5 @@
 -- An accepted module is unrolled to itself.
-use Rattle.std.proofs.Common.{◌≡◌, ℕ, Bool, true, false, cond, List, [], ◌∷◌, ◌++◌, Option, Some, None, Result, Ok, Err, refl, sym, ap, subst, ◌∙◌, append_assoc, append-nil}
+use Rattle.std.proofs.Common.{◌≡◌, ℕ, false, cond, List, [], ◌∷◌, ◌++◌, Option, Some, None, Result, Ok, Err, refl, sym, ap, subst, ◌∙◌, append_assoc, append-nil}
 use Rattle.std.specs.Prelude.{IfSome, IsTrue, All, flat_map, map, ◌||◌}
 use Rattle.std.specs.List.{last_or, list_any}
 use Rattle.std.proofs.lemmas.Grind.{flat_map-append}

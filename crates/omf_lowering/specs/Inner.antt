@@ -1,3 +1,6 @@
+pub mod Holders
+pub mod Laid
+pub mod Named
 pub mod Readers
 pub mod Rolling
 pub mod Run

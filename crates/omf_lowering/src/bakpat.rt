@@ -6,12 +6,14 @@ ghost use Rattle.omf_lowering.specs.Inner.Readers.{bakpat_whole, nbkpat_whole, r
 ghost use Rattle.omf_lowering.specs.Inner.State.{GivesAll, IsStop};
 ghost use Rattle.omf_lowering.specs.Comdats.{backpatches_by, named_patches};
 ghost use Rattle.omf_lowering.specs.Lowering.{fault_of, own_fault};
-ghost use Rattle.omf_lowering.specs.Patches.{has_all, has_byte_of, holder, patch_at, placed, size_of};
+ghost use Rattle.omf_lowering.specs.Patches.{has_all, patch_at, placed, size_of};
 
 use crate::entries::{Entry, entries};
 use crate::fault::Stop;
 use crate::fields::{byte_at, fault_at, number_at, placed_index_at};
-use crate::instance::{Instance, segment_at};
+use crate::instance::segment_at;
+use crate::instances::Instances;
+use crate::laid::Pieces;
 use crate::segments::segment_fault;
 use crate::tables::Tables;
 use crate::values::{Backpatch, Patch, Piece};
@@ -115,6 +117,7 @@ pub(crate) fn named_in(alloc: Global, wide: bool, body: &[u8]) -> Result<NamedBa
 /// The number of bytes of a location.
 fn size_of(part: Part) -> usize
     ensures size { result ≡ size_of part }
+    ensures some { 1 ≤ result }
     ensures small { result ≤ 4 }
 {
     match part {
@@ -122,32 +125,6 @@ fn size_of(part: Part) -> usize
         Part::Word => 2,
         Part::Dword => 4,
     }
-}
-
-/// Whether data have a byte of a location.
-fn has_byte_of(segment: u16, offset: u32, size: usize, piece: &Piece) -> bool
-    requires { size ≤ 4 }
-    ensures { result ≡ has_byte_of segment offset size piece.now }
-{
-    let start = piece.offset as usize;
-    let first = offset as usize;
-    piece.segment == segment && first < start.saturating_add(piece.size) && start < first + size
-}
-
-/// The last data that have a byte of a location.
-fn holder(pieces: &[Piece], segment: u16, offset: u32, size: usize) -> Option<Piece>
-    requires { size ≤ 4 }
-    ensures { result ≡ holder pieces.now segment offset size }
-{
-    let mut left = pieces.len();
-    while left > 0 {
-        left -= 1;
-        let piece = pieces[left];
-        if has_byte_of(segment, offset, size, &piece) {
-            return Some(piece);
-        }
-    }
-    None
 }
 
 /// Whether data have all bytes of a location.
@@ -172,7 +149,7 @@ fn refused(item: &At<Backpatch>, reason: Reason) -> LayoutFault
 
 /// A backpatch as a value to add to a record.
 fn patch_at(
-    pieces: &[Piece],
+    pieces: &Pieces,
     segment: u16,
     part: Part,
     item: &At<Backpatch>,
@@ -182,7 +159,7 @@ fn patch_at(
 {
     let size = size_of(part);
     let Backpatch { offset, value } = item.item;
-    let Some(piece) = holder(pieces, segment, offset, size) else {
+    let Some(piece) = pieces.holder(segment, offset, size) else {
         return Err(refused(item, Reason::NoDataRecord));
     };
     if !piece.is_plain {
@@ -200,7 +177,7 @@ fn patch_at(
 }
 
 /// Appends the values of backpatches.
-fn push_patches(patches: &mut Vec<Patch>, pieces: &[Piece], given: &Backpatches) -> Result<(), Stop>
+fn push_patches(patches: &mut Vec<Patch>, pieces: &Pieces, given: &Backpatches) -> Result<(), Stop>
     ensures ok { OnOk result (patches.new.items ≡ patches.old.items ++ or_none (placed pieces.now (record { segment = given.now.segment; part = given.now.part; items = given.now.items.items }))) }
     ensures sound { OnOk result (fault_of (placed pieces.now (record { segment = given.now.segment; part = given.now.part; items = given.now.items.items })) ≡ None) }
     ensures err { IfErr result (λ stop. IsStop stop (fault_of (placed pieces.now (record { segment = given.now.segment; part = given.now.part; items = given.now.items.items })))) }
@@ -219,9 +196,9 @@ fn push_patches(patches: &mut Vec<Patch>, pieces: &[Piece], given: &Backpatches)
 /// Appends the values of a BAKPAT, by the COMDATs and the data before it.
 pub(crate) fn lower_patches(
     patches: &mut Vec<Patch>,
-    pieces: &[Piece],
+    pieces: &Pieces,
     tables: &Tables<'_>,
-    instances: &[Instance<'_>],
+    instances: &Instances<'_>,
     given: &Backpatches,
 ) -> Result<(), Stop>
     ensures ok { OnOk result (patches.new.items ≡ patches.old.items ++ or_none (placed pieces.now (record { segment = given.now.segment; part = given.now.part; items = given.now.items.items }))) }
@@ -235,9 +212,9 @@ pub(crate) fn lower_patches(
 }
 
 /// The backpatches of an NBKPAT, as of a BAKPAT for the segment of its COMDAT.
-fn backpatches_by(
-    tables: &Tables<'_>,
-    instances: &[Instance<'_>],
+fn backpatches_by<'a>(
+    tables: &Tables<'a>,
+    instances: &Instances<'a>,
     given: NamedBackpatches,
 ) -> Result<Backpatches, LayoutFault>
     ensures ok { IfOk result (λ b. backpatches_by tables.now instances.now given ≡ Ok (record { segment = b.segment; part = b.part; items = b.items.items })) }
@@ -252,11 +229,11 @@ fn backpatches_by(
 }
 
 /// Appends the values of an NBKPAT, by the COMDATs and the data before it.
-pub(crate) fn lower_named(
+pub(crate) fn lower_named<'a>(
     patches: &mut Vec<Patch>,
-    pieces: &[Piece],
-    tables: &Tables<'_>,
-    instances: &[Instance<'_>],
+    pieces: &Pieces,
+    tables: &Tables<'a>,
+    instances: &Instances<'a>,
     given: NamedBackpatches,
 ) -> Result<(), Stop>
     ensures ok { OnOk result (patches.new.items ≡ patches.old.items ++ or_none (named_patches tables.now instances.now pieces.now given)) }

@@ -61,16 +61,14 @@ fn push_external(
     ensures err { IfErr result (λ stop. IsStop stop (fault_of (named tables.now external.now))) }
 {
     let name = &external.item.name;
-    let index = usize::from(name.item.0);
-    if index == 0 || index > tables.names.len() {
+    let Some(text) = tables.names.get(name.item) else {
         return Err(Stop::At(LayoutFault {
             reason: Reason::UndefinedName,
             within: name.within,
         }));
-    }
+    };
     let is_local = is_local_name(&tables.locals, name.item);
-    let text = &tables.names[index - 1];
-    let record = external_record(alloc, is_local, text, external.item.type_index)?;
+    let record = external_record(alloc, is_local, &text, external.item.type_index)?;
     Ok(records.push(record)?)
 }
 

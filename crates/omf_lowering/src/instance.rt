@@ -8,11 +8,13 @@ ghost use Rattle.omf_image.specs.Limits.{profile_limits};
 ghost use Rattle.omf_records.specs.Inner.Reads.{and_then};
 ghost use Rattle.omf_records.specs.Layout.{fault};
 ghost use Rattle.omf_records.specs.Values.{width};
-ghost use Rattle.omf_lowering.specs.Comdats.{allocated, class_of, data_size, end_by, explicit, index_of, instance_at, instance_of, is_full, is_joined, joined, local_by, new_instance, own_of, pattern_of, resolved, text_by};
+ghost use Rattle.omf_lowering.specs.Comdats.{allocated, data_size, end_by, explicit, instance_at, instance_of, is_full, is_joined, joined, local_by, new_instance, own_of, pattern_of, resolved, text_by};
 ghost use Rattle.omf_lowering.specs.Patches.{size_or_none};
 ghost use Rattle.omf_lowering.specs.Values.{is_local_name};
 
 use crate::comdat::{Base, Comdat, is_continued, is_iterated, is_local};
+use crate::instances::{Instance, Instances};
+use crate::names::Names;
 use crate::tables::{Tables, is_local_name};
 use crate::values::Pattern;
 use omf_frame::{Index, Name, Reason, Width};
@@ -22,24 +24,6 @@ use std::marker::Model;
 
 /// The most segments: an index has 15 bits.
 const SEGMENT_LIMIT: usize = 32_767;
-
-/// A COMDAT in the lowered module.
-#[derive(Drop)]
-pub(crate) struct Instance<'a> {
-    pub name: Name<'a>,
-    /// The index of its segment.
-    pub segment: Index,
-    /// The number of the SEGDEF of this segment among the records, from 0.
-    pub number: usize,
-}
-
-impl<'a> Model for Instance<'a> {
-    ghost use Rattle.omf_lowering.specs.Values.{Instance as InstanceItem};
-
-    ghost Value = { InstanceItem };
-
-    ghost view = { λ i. record { name = i.name; segment = i.segment; number = i.number } };
-}
 
 /// A COMDAT with what it refers to.
 #[derive(Drop)]
@@ -70,7 +54,7 @@ fn refused(within: u32, reason: Reason) -> LayoutFault
 }
 
 /// Whether a new COMDAT needs one more segment than there can be.
-fn is_full(tables: &Tables<'_>, instances: &[Instance<'_>], item: &Comdat<'_>) -> bool
+fn is_full(tables: &Tables<'_>, instances: &Instances<'_>, item: &Comdat<'_>) -> bool
     ensures { result ≡ is_full tables.now instances.now item.now }
 {
     !is_continued(item.flags)
@@ -162,32 +146,8 @@ fn explicit(tables: &Tables<'_>, base: &Base) -> Result<Pattern, LayoutFault>
     }
 }
 
-/// The index of the first of some names with a text; another index if there is none.
-fn index_of(names: &[Name<'_>], text: &[u8], other: Index) -> Index
-    ensures { result ≡ index_of other text.now names.now }
-{
-    for before in 0..names.len() {
-        let name = &names[before];
-        if before < SEGMENT_LIMIT && name.0 == text {
-            return Index(before as u16 + 1);
-        }
-    }
-    other
-}
-
-/// The class of an allocated COMDAT.
-fn class_of(allocation: u8) -> &'static [u8]
-    ensures { result.now ≡ class_of allocation }
-{
-    if allocation % 2 == 1 {
-        b"CODE"
-    } else {
-        b"FAR_DATA"
-    }
-}
-
 /// The pattern of the segment of a COMDAT that the linker allocates.
-fn allocated(names: &[Name<'_>], item: &Comdat<'_>) -> Pattern
+fn allocated(names: &Names<'_>, item: &Comdat<'_>) -> Pattern
     ensures { result ≡ allocated names.now item.now }
 {
     let allocation = item.attributes % 16;
@@ -196,8 +156,8 @@ fn allocated(names: &[Name<'_>], item: &Comdat<'_>) -> Pattern
     Pattern {
         attribute,
         name,
-        class: index_of(names, class_of(allocation), name),
-        overlay: index_of(names, &[], name),
+        class: names.class_index(allocation, name),
+        overlay: names.empty_index(name),
     }
 }
 
@@ -212,15 +172,13 @@ fn pattern_of(tables: &Tables<'_>, item: &Comdat<'_>) -> Result<Pattern, LayoutF
 }
 
 /// The text of a name.
-fn text_at<'a>(names: &[Name<'a>], at: &At<Index>) -> Result<Name<'a>, LayoutFault>
+fn text_at<'a>(names: &Names<'a>, at: &At<Index>) -> Result<Name<'a>, LayoutFault>
     ensures { result ≡ text_by at.now (entry names.now at.now.item) }
 {
-    let index = usize::from(at.item.0);
-    if index == 0 || index > names.len() {
-        return Err(refused(at.within, Reason::UndefinedName));
+    match names.get(at.item) {
+        Some(text) => Ok(text),
+        None => Err(refused(at.within, Reason::UndefinedName)),
     }
-    let name = &names[index - 1];
-    Ok(Name(name.0))
 }
 
 /// Whether a COMDAT is local: whether its name is, by the table of names.
@@ -235,43 +193,17 @@ fn local_by(tables: &Tables<'_>, item: &Comdat<'_>) -> Result<bool, LayoutFault>
     }
 }
 
-/// A copy of a COMDAT.
-fn copy_of<'a>(instance: &Instance<'a>) -> Instance<'a>
-    ensures { result ≡ instance.now }
-{
-    Instance {
-        name: Name(instance.name.0),
-        segment: instance.segment,
-        number: instance.number,
-    }
-}
-
-/// The COMDAT of a name.
-fn instance_of<'a>(instances: &[Instance<'a>], text: &Name<'a>) -> Option<Instance<'a>>
-    ensures { result ≡ instance_of instances.now text.now }
-{
-    let mut left = instances.len();
-    while left > 0 {
-        left -= 1;
-        let found = &instances[left];
-        if found.name.0 == text.0 {
-            return Some(copy_of(found));
-        }
-    }
-    None
-}
-
 /// The segment of the COMDAT with a name, for its NBKPATs and LINSYMs.
-pub(crate) fn segment_at(
-    tables: &Tables<'_>,
-    instances: &[Instance<'_>],
+pub(crate) fn segment_at<'a>(
+    tables: &Tables<'a>,
+    instances: &Instances<'a>,
     at: &At<Index>,
 ) -> Result<Index, LayoutFault>
     ensures ok { IfOk result (λ segment. and_then (text_by at.now (entry tables.now.names at.now.item)) (λ text. and_then (instance_at at.now (instance_of instances.now text)) (λ i. Ok i.segment)) ≡ Ok segment) }
     ensures err { IfErr result (λ f. and_then (text_by at.now (entry tables.now.names at.now.item)) (λ text. and_then (instance_at at.now (instance_of instances.now text)) (λ i. Ok i.segment)) ≡ Err f) }
 {
     let text = text_at(&tables.names, at)?;
-    match instance_of(instances, &text) {
+    match instances.find(&text) {
         Some(found) => Ok(found.segment),
         None => Err(refused(at.within, Reason::UnsupportedType)),
     }
@@ -280,7 +212,7 @@ pub(crate) fn segment_at(
 /// A new COMDAT, whose SEGDEF will have this number.
 fn new_instance<'a>(
     tables: &Tables<'_>,
-    instances: &[Instance<'_>],
+    instances: &Instances<'_>,
     number: usize,
     name: Name<'a>,
 ) -> Instance<'a>
@@ -298,7 +230,7 @@ fn new_instance<'a>(
 /// The instance that a COMDAT with this name is of.
 fn own_of<'a>(
     tables: &Tables<'_>,
-    instances: &[Instance<'a>],
+    instances: &Instances<'a>,
     number: usize,
     item: &Comdat<'_>,
     text: Name<'a>,
@@ -306,7 +238,7 @@ fn own_of<'a>(
     requires { is_full tables.now instances.now item.now ≡ false }
     ensures { result ≡ own_of instances.now item.now (new_instance tables.now instances.now number text.entry) }
 {
-    let found = instance_of(instances, &text);
+    let found = instances.find(&text);
     if is_continued(item.flags) {
         return match found {
             Some(found) => Ok(found),
@@ -322,7 +254,7 @@ fn own_of<'a>(
 /// A COMDAT of a record with this type byte, with what it refers to.
 pub(crate) fn resolve<'a>(
     tables: &Tables<'a>,
-    instances: &[Instance<'a>],
+    instances: &Instances<'a>,
     number: usize,
     kind: u8,
     item: Comdat<'a>,

@@ -6,7 +6,8 @@ ghost use Rattle.omf_lowering.specs.Inner.State.{seen};
 ghost use Rattle.omf_lowering.specs.Symbols.{is_linsym, line_bytes, lines_of, with_linnum};
 
 use crate::fields::{byte_at, placed_index_at};
-use crate::instance::{Instance, segment_at};
+use crate::instance::segment_at;
+use crate::instances::Instances;
 use crate::record::{Front, Record};
 use crate::tables::Tables;
 use omf_frame::{Field, Index};
@@ -64,10 +65,10 @@ fn line_bytes(alloc: Global, segment: Index, lines: &[u8]) -> Result<Vec<u8>, Al
 }
 
 /// The contents of the LINNUM in place of a LINSYM, by the COMDATs before it; none if there is no such LINNUM.
-fn lines_of(
+fn lines_of<'a>(
     alloc: Global,
-    tables: &Tables<'_>,
-    instances: &[Instance<'_>],
+    tables: &Tables<'a>,
+    instances: &Instances<'a>,
     front: &Front<'_>,
 ) -> Result<Option<Vec<u8>>, AllocError>
     requires { length front.now.body.now ≤ 65534 }
@@ -91,10 +92,10 @@ fn lines_of(
 }
 
 /// A record that is kept; in place of a LINSYM of a COMDAT before it, the LINNUM with its lines.
-pub(crate) fn kept(
+pub(crate) fn kept<'a>(
     alloc: Global,
-    tables: &Tables<'_>,
-    instances: &[Instance<'_>],
+    tables: &Tables<'a>,
+    instances: &Instances<'a>,
     front: &Front<'_>,
 ) -> Result<Record, AllocError>
     requires { length front.now.body.now ≤ 65534 }

@@ -1,15 +1,15 @@
 //! The data of records.
 
-ghost use Rattle.std.specs.Prelude.{◌≡◌, ◌≤◌, ◌++◌, ◌∷◌, [], IfNone, IfSome, OnOk, fold, length};
+ghost use Rattle.std.specs.Prelude.{◌≡◌, ◌≤◌, ◌++◌, ◌∷◌, [], IfNone, IfSome, OnOk, length};
 ghost use Rattle.omf_check.specs.Inner.Judging.{IsShort};
 ghost use Rattle.omf_frame.specs.Framing.{is_taken};
 ghost use Rattle.omf_image.specs.Inner.Expanding.{expanded_length};
 ghost use Rattle.omf_image.specs.Limits.{profile_limits};
 ghost use Rattle.omf_records.specs.Inner.Seen.{contents_seen, kind_seen, odd_if};
 ghost use Rattle.omf_records.specs.Values.{width};
-ghost use Rattle.omf_lowering.specs.Comdats.{nearer, past};
 ghost use Rattle.omf_lowering.specs.Patches.{piece_in, piece_of, size_or_none};
 
+use crate::laid::Pieces;
 use crate::record::Record;
 use crate::values::Piece;
 use omf_frame::RawRecord;
@@ -105,12 +105,8 @@ pub(crate) fn piece_of(number: usize, len: u32, rec: &Rec<'_>) -> Option<Piece>
 }
 
 /// Appends the data of a record that will have a number.
-pub(crate) fn push_piece(
-    pieces: &mut Vec<Piece>,
-    number: usize,
-    of: &Record,
-) -> Result<(), AllocError>
-    ensures { OnOk result (pieces.new.items ≡ pieces.old.items ++ piece_in number of.now) }
+pub(crate) fn push_piece(pieces: &mut Pieces, number: usize, of: &Record) -> Result<(), AllocError>
+    ensures { OnOk result (pieces.new ≡ pieces.old ++ piece_in number of.now) }
 {
     if !is_taken(of.kind) {
         return Ok(());
@@ -128,27 +124,4 @@ pub(crate) fn push_piece(
         Some(piece) => Ok(pieces.push(piece)?),
         None => Ok(()),
     }
-}
-
-/// The number of bytes before an end that are past these data too, given those that are past the data before.
-fn nearer(segment: u16, end: u32, left: u32, piece: &Piece) -> u32
-    ensures { result ≡ nearer segment end left piece.now }
-{
-    if piece.segment != segment {
-        return left;
-    }
-    let other = (piece.offset as usize).saturating_add(piece.size);
-    let more = (end as usize).saturating_sub(other);
-    left.min(more as u32)
-}
-
-/// The number of bytes before an end that are past all of these data in a segment.
-pub(crate) fn past(segment: u16, end: u32, pieces: &[Piece]) -> u32
-    ensures { result ≡ past segment end pieces.now }
-{
-    let mut left = end;
-    for piece in pieces {
-        left = nearer(segment, end, left, piece);
-    }
-    left
 }

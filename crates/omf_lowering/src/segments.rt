@@ -7,7 +7,7 @@ ghost use Rattle.omf_records.specs.Values.{frame_bits, target_bits, thread_metho
 ghost use Rattle.omf_lowering.specs.Lowering.{thread_fault};
 ghost use Rattle.omf_lowering.specs.Segments.{first_past, has_thread_past, in_reference, in_start, in_subrecord, in_thread, is_past, names_thread_past, of_segment, segment_fault, segments_named};
 
-use crate::instance::Instance;
+use crate::instances::Instances;
 use crate::pieces::is_taken;
 use crate::record::Record;
 use crate::tables::Tables;
@@ -169,7 +169,7 @@ fn named_fault(count: usize, rec: &Rec<'_>) -> Option<LayoutFault>
 /// The first fault of the segments that a record names, if there is a COMDAT before it.
 pub(crate) fn segments_fault(
     tables: &Tables<'_>,
-    instances: &[Instance<'_>],
+    instances: &Instances<'_>,
     rec: &Rec<'_>,
 ) -> Option<LayoutFault>
     ensures { result ≡ segment_fault tables.now instances.now (segments_named (contents_seen rec.now)) }
@@ -184,7 +184,7 @@ pub(crate) fn segments_fault(
 /// The fault of the index of a segment, if there is a COMDAT before it.
 pub(crate) fn segment_fault(
     tables: &Tables<'_>,
-    instances: &[Instance<'_>],
+    instances: &Instances<'_>,
     index: &At<Index>,
 ) -> Option<LayoutFault>
     ensures { result ≡ segment_fault tables.now instances.now (index.now ∷ []) }
@@ -263,7 +263,7 @@ fn any_names_thread_past(count: usize, records: &[Record]) -> bool
 }
 
 /// Whether there is no COMDAT so far, and one of these records has a THREAD that names a segment past a number of segments.
-fn is_thread_before(instances: &[Instance<'_>], count: usize, records: &[Record]) -> bool
+fn is_thread_before(instances: &Instances<'_>, count: usize, records: &[Record]) -> bool
     ensures { result ≡ ((length instances.now == 0) && list_any (names_thread_past count) records.now) }
 {
     instances.is_empty() && any_names_thread_past(count, records)
@@ -272,7 +272,7 @@ fn is_thread_before(instances: &[Instance<'_>], count: usize, records: &[Record]
 /// The fault of a module's first COMDAT for a THREAD before it.
 pub(crate) fn thread_fault(
     tables: &Tables<'_>,
-    instances: &[Instance<'_>],
+    instances: &Instances<'_>,
     records: &[Record],
 ) -> Option<LayoutFault>
     ensures { result ≡ thread_fault (record { tables = tables.now; instances = instances.now; records = records.now }) }

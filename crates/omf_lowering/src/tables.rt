@@ -6,6 +6,7 @@ ghost use Rattle.omf_records.specs.Inner.Seen.{contents_seen, kind_seen};
 ghost use Rattle.omf_lowering.specs.Comdats.{defining};
 ghost use Rattle.omf_lowering.specs.Values.{is_local_name};
 
+use crate::names::Names;
 use crate::values::Pattern;
 use omf_frame::{Index, Name};
 use omf_records::{Items, Rec, Segment};
@@ -15,7 +16,7 @@ use std::marker::Model;
 /// The tables of a module: its names and whether each is local, its segments, and the name index of each group.
 #[derive(Drop)]
 pub(crate) struct Tables<'a> {
-    pub names: Vec<Name<'a>>,
+    pub names: Names<'a>,
     pub locals: Vec<bool>,
     pub segments: Vec<Pattern>,
     pub groups: Vec<Index>,
@@ -26,17 +27,17 @@ impl<'a> Model for Tables<'a> {
 
     ghost Value = { TablesItem };
 
-    ghost view = { λ t. record { names = t.names.items; locals = t.locals.items; segments = t.segments.items; groups = t.groups.items } };
+    ghost view = { λ t. record { names = t.names; locals = t.locals.items; segments = t.segments.items; groups = t.groups.items } };
 }
 
 /// Appends the names of an LNAMES, or the local ones of an LLNAMES.
 fn push_names<'a>(
-    names: &mut Vec<Name<'a>>,
+    names: &mut Names<'a>,
     locals: &mut Vec<bool>,
     is_local: bool,
     items: Items<Name<'a>>,
 ) -> Result<(), AllocError>
-    ensures names { OnOk result (names.new.items ≡ names.old.items ++ map (λ n. n.item) items.entry) }
+    ensures names { OnOk result (names.new ≡ names.old ++ map (λ n. n.item) items.entry) }
     ensures locals { OnOk result (locals.new.items ≡ locals.old.items ++ map (λ n. is_local) items.entry) }
 {
     for item in items {
@@ -78,7 +79,7 @@ impl<'a> Tables<'a> {
         ensures { result ≡ no_tables }
     {
         Tables {
-            names: Vec::new(alloc),
+            names: Names::new(alloc),
             locals: Vec::new(alloc),
             segments: Vec::new(alloc),
             groups: Vec::new(alloc),

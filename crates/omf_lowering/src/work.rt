@@ -16,14 +16,16 @@ use crate::bakpat::{backpatches_in, lower_named, lower_patches, named_in};
 use crate::cextdef::lower_externals;
 use crate::comdat::{comdat_in, is_continued};
 use crate::fault::Stop;
-use crate::instance::{Instance, Resolved, resolve};
+use crate::instance::{Resolved, resolve};
+use crate::instances::Instances;
+use crate::laid::Pieces;
 use crate::linsym::kept;
 use crate::made::made;
-use crate::pieces::{is_taken, past, piece_of, push_piece};
+use crate::pieces::{is_taken, piece_of, push_piece};
 use crate::record::{Front, Record};
 use crate::segments::{segments_fault, thread_fault};
 use crate::tables::Tables;
-use crate::values::{Patch, Piece};
+use crate::values::Patch;
 use omf_frame::{RawRecord, Reason};
 use omf_image::Part;
 use omf_records::{LayoutFault, view};
@@ -34,8 +36,8 @@ use std::marker::Model;
 #[derive(Drop)]
 pub(crate) struct Work<'a> {
     tables: Tables<'a>,
-    instances: Vec<Instance<'a>>,
-    pieces: Vec<Piece>,
+    instances: Instances<'a>,
+    pieces: Pieces,
     patches: Vec<Patch>,
     growths: Vec<Patch>,
     records: Vec<Record>,
@@ -46,21 +48,21 @@ impl<'a> Model for Work<'a> {
 
     ghost Value = { State };
 
-    ghost view = { λ w. record { before = record { tables = w.tables; instances = w.instances.items; records = w.records.items }; data_before = w.pieces.items; patches = w.patches.items; growths = w.growths.items } };
+    ghost view = { λ w. record { before = record { tables = w.tables; instances = w.instances; records = w.records.items }; data_before = w.pieces; patches = w.patches.items; growths = w.growths.items } };
 }
 
 /// Reads the contents of a record of this profile, which will have a number: appends what it defines, and its data.
 fn read<'a>(
     tables: &mut Tables<'a>,
-    instances: &[Instance<'a>],
-    pieces: &mut Vec<Piece>,
+    instances: &Instances<'a>,
+    pieces: &mut Pieces,
     number: usize,
     front: &Front<'a>,
 ) -> Result<(), Stop>
     requires taken { IsTrue (is_taken front.now.kind) }
     requires short { length front.now.body.now ≤ 65534 }
     ensures tables { OnOk result (tables.new ≡ defined_by tables.old (seen front.now)) }
-    ensures pieces { OnOk result (pieces.new.items ≡ pieces.old.items ++ piece_in number (seen front.now)) }
+    ensures pieces { OnOk result (pieces.new ≡ pieces.old ++ piece_in number (seen front.now)) }
     ensures sound { OnOk result (named_fault tables.old instances.now (read_body front.now.kind front.now.body.now) ≡ None) }
     ensures err { IfErr result (λ stop. IsStop stop (named_fault tables.old instances.now (read_body front.now.kind front.now.body.now))) }
 {
@@ -86,14 +88,14 @@ fn read<'a>(
 /// Reads the contents of a record, if it is of this profile.
 fn read_taken<'a>(
     tables: &mut Tables<'a>,
-    instances: &[Instance<'a>],
-    pieces: &mut Vec<Piece>,
+    instances: &Instances<'a>,
+    pieces: &mut Pieces,
     number: usize,
     front: &Front<'a>,
 ) -> Result<(), Stop>
     requires { length front.now.body.now ≤ 65534 }
     ensures tables { OnOk result (tables.new ≡ defined_by tables.old (seen front.now)) }
-    ensures pieces { OnOk result (pieces.new.items ≡ pieces.old.items ++ piece_in number (seen front.now)) }
+    ensures pieces { OnOk result (pieces.new ≡ pieces.old ++ piece_in number (seen front.now)) }
     ensures sound { OnOk result ((if is_taken front.now.kind then named_fault tables.old instances.now (read_body front.now.kind front.now.body.now) else None) ≡ None) }
     ensures err { IfErr result (λ stop. IsStop stop (if is_taken front.now.kind then named_fault tables.old instances.now (read_body front.now.kind front.now.body.now) else None)) }
 {
@@ -105,13 +107,9 @@ fn read_taken<'a>(
 }
 
 /// Appends a record and its data.
-fn append(
-    records: &mut Vec<Record>,
-    pieces: &mut Vec<Piece>,
-    next: Record,
-) -> Result<(), AllocError>
+fn append(records: &mut Vec<Record>, pieces: &mut Pieces, next: Record) -> Result<(), AllocError>
     ensures records { OnOk result (records.new.items ≡ records.old.items ++ next ∷ []) }
-    ensures pieces { OnOk result (pieces.new.items ≡ pieces.old.items ++ pieces_from (length records.old.items) (next ∷ [])) }
+    ensures pieces { OnOk result (pieces.new ≡ pieces.old ++ pieces_from (length records.old.items) (next ∷ [])) }
 {
     push_piece(pieces, records.len(), &next)?;
     Ok(records.push(next)?)
@@ -120,11 +118,11 @@ fn append(
 /// Appends records and their data.
 fn append_all(
     records: &mut Vec<Record>,
-    pieces: &mut Vec<Piece>,
+    pieces: &mut Pieces,
     added: Vec<Record>,
 ) -> Result<(), AllocError>
     ensures records { OnOk result (records.new.items ≡ records.old.items ++ added.items) }
-    ensures pieces { OnOk result (pieces.new.items ≡ pieces.old.items ++ pieces_from (length records.old.items) added.items) }
+    ensures pieces { OnOk result (pieces.new ≡ pieces.old ++ pieces_from (length records.old.items) added.items) }
 {
     for record in added {
         append(records, pieces, record)?;
@@ -135,7 +133,7 @@ fn append_all(
 /// Appends what a continued COMDAT adds to the length of its segment.
 fn push_growth(
     growths: &mut Vec<Patch>,
-    pieces: &[Piece],
+    pieces: &Pieces,
     of: &Resolved<'_>,
 ) -> Result<(), AllocError>
     ensures { OnOk result (growths.new.items ≡ growths.old.items ++ growth pieces.now of.now) }
@@ -147,13 +145,13 @@ fn push_growth(
         number: of.own.number,
         at: 1,
         part: Part::Dword,
-        value: past(of.own.segment.0, of.end, pieces),
+        value: pieces.past(of.own.segment.0, of.end),
     })?)
 }
 
 /// Appends the instance of a COMDAT, if it is new.
-fn push_instance<'a>(instances: &mut Vec<Instance<'a>>, of: Resolved<'a>) -> Result<(), AllocError>
-    ensures { OnOk result (instances.new.items ≡ instances.old.items ++ new_of of.entry) }
+fn push_instance<'a>(instances: &mut Instances<'a>, of: Resolved<'a>) -> Result<(), AllocError>
+    ensures { OnOk result (instances.new ≡ instances.old ++ new_of of.entry) }
 {
     if is_continued(of.item.flags) {
         return Ok(());
@@ -164,7 +162,7 @@ fn push_instance<'a>(instances: &mut Vec<Instance<'a>>, of: Resolved<'a>) -> Res
 /// A COMDAT with what it refers to; the records that replace those before are this many.
 fn comdat_at<'a>(
     tables: &Tables<'a>,
-    instances: &[Instance<'a>],
+    instances: &Instances<'a>,
     number: usize,
     front: &Front<'a>,
 ) -> Result<Resolved<'a>, LayoutFault>
@@ -176,7 +174,7 @@ fn comdat_at<'a>(
 }
 
 /// Whether a record is a SEGDEF after a COMDAT.
-fn is_late(instances: &[Instance<'_>], kind: u8) -> bool
+fn is_late(instances: &Instances<'_>, kind: u8) -> bool
     ensures { result ≡ is_late instances.now kind }
 {
     (kind == 0x98 || kind == 0x99) && !instances.is_empty()
@@ -189,8 +187,8 @@ impl<'a> Work<'a> {
     {
         Work {
             tables: Tables::new(alloc),
-            instances: Vec::new(alloc),
-            pieces: Vec::new(alloc),
+            instances: Instances::new(alloc),
+            pieces: Pieces::new(alloc),
             patches: Vec::new(alloc),
             growths: Vec::new(alloc),
             records: Vec::new(alloc),
@@ -258,6 +256,7 @@ impl<'a> Work<'a> {
         ensures err { IfErr result (λ stop. IsStop stop (fault_by self.old.before self.old.data_before (seen front.now))) }
     {
         let given = backpatches_in(alloc, front.kind % 2 == 1, front.body)?;
+        self.pieces.hold_all()?;
         lower_patches(
             &mut self.patches,
             &self.pieces,
@@ -276,6 +275,7 @@ impl<'a> Work<'a> {
         ensures err { IfErr result (λ stop. IsStop stop (fault_by self.old.before self.old.data_before (seen front.now))) }
     {
         let given = named_in(alloc, front.kind % 2 == 1, front.body)?;
+        self.pieces.hold_all()?;
         lower_named(
             &mut self.patches,
             &self.pieces,

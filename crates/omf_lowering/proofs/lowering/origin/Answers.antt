@@ -1,7 +1,6 @@
 use Rattle.std.proofs.Common.{◌≡◌, ◌<◌, ◌≤◌, ◌-◌, ◌∙◌, ◌⊎◌, arith, true, false, ap, length, sym, subst, rules}
 use Rattle.std.specs.Prelude.{nat_lt, ◌||◌}
 use Rattle.omf_check.specs.Rules.{item_limit}
-use Rattle.omf_frame.specs.Framing.{front_record, is_end}
 use Rattle.omf_lowering.specs.Lowering.{IsLoweringFault, IsOrigin}
 use Rattle.omf_lowering.proofs.FrontLaws.{not_reached, open_more, origin_found, reached_cases, stopped_at, too_many}
 use Rattle.omf_lowering.proofs.lowering.origin.Goals as goal

@@ -7,5 +7,5 @@ use Rattle.omf_lowering.proofs.work.append_all.Given as goal
 abbrev pub invariant-loop-record : goal.invariant-loop-record
 invariant-loop-record l = record {
   records : l.records.items ++ into_iter_items l.record-iterator ≡ l.fn.records.items ++ l.fn.added.items;
-  pieces : l.pieces.items ++ pieces_from (length l.records.items) (into_iter_items l.record-iterator) ≡ l.fn.pieces.items ++ pieces_from (length l.fn.records.items) l.fn.added.items;
+  pieces : l.pieces ++ pieces_from (length l.records.items) (into_iter_items l.record-iterator) ≡ l.fn.pieces ++ pieces_from (length l.fn.records.items) l.fn.added.items;
 }

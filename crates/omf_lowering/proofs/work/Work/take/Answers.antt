@@ -7,7 +7,7 @@ pub returns-in-188-clause-ok : goal.returns-in-188-clause-ok
 returns-in-188-clause-ok c =
     let front = c.args.front.now in
     let w = c.self.inside in
-    let old : State = record { before = record { tables = w.tables; instances = w.instances.items; records = w.records.items }; data_before = w.pieces.items; patches = w.patches.items; growths = w.growths.items } in
+    let old : State = record { before = record { tables = w.tables; instances = w.instances; records = w.records.items }; data_before = w.pieces; patches = w.patches.items; growths = w.growths.items } in
     on_ok c.lower_externals.result
     (λ e. added_cextdef old front.body.now front.checksum c.lower_externals.new.records.items e
     ∙ ap (λ s. added s (record { kind = 0xBC; body = front.body.now; checksum = front.checksum })) c.self.view_is

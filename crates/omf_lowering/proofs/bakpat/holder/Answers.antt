@@ -1,8 +1,0 @@
-use Rattle.std.proofs.Common.{◌-◌, sym, rules}
-use Rattle.omf_lowering.specs.Patches.{has_byte_of}
-use Rattle.omf_lowering.proofs.LastLaws.{last_found}
-use Rattle.omf_lowering.proofs.bakpat.holder.Goals as goal
-
-pub returns-then-has_byte_of : goal.returns-then-has_byte_of
-returns-then-has_byte_of c =
-    sym (last_found (has_byte_of c.args.segment c.args.offset c.args.size) c.args.pieces.now (c.loop-left.left - 1) c.loop-left.left _ (search rules) (search rules) (search rules) c.loop-left.invariant.none)
