@@ -1,3 +1,4 @@
 pub mod AcceptedLaws
 pub mod FileLaws
 pub mod ModuleLaws
+pub mod SameLaws

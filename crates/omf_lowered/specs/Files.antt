@@ -1,8 +1,9 @@
 -- The modules of a file, lowered (this profile's rule).
-use Rattle.std.specs.Prelude.{◌≡◌, ◌⊎◌, ◌<◌, ◌+◌, ⊤, ℕ, List, [], ◌∷◌, length, flat_map, Bool, true, false, ◌==◌, ◌||◌, if◌then◌else◌}
+use Rattle.std.specs.Prelude.{◌≡◌, ◌⊎◌, ◌<◌, ◌+◌, ⊤, ℕ, List, [], ◌∷◌, length, flat_map, Option, Bool, true, false, ◌==◌, ◌||◌, if◌then◌else◌}
 use Rattle.omf_frame.specs.declared.fault.Place.{Place}
 use Rattle.omf_frame.specs.declared.fault.Reason.{Reason}
 use Rattle.omf_lowered.specs.Modules.{IsLoweredModule, IsModuleRefused}
+use Rattle.omf_lowered.specs.Places.{IsPlaceIn}
 use Rattle.omf_lowered.specs.declared.fault.FileFault.{FileFault}
 use Rattle.omf_lowered.specs.declared.fault.FileFault.TheVariants as fault
 
@@ -57,3 +58,18 @@ abbrev pub IsFileFault : List ℕ → FileFault → Type 0
 IsFileFault input fault.Memory = ⊤
 IsFileFault input (fault.Refused count why at) = IsRefusedAfter input count why at
 IsFileFault input (fault.NoModule at) = HasMore input at
+
+-- A file has this many modules that have lowerings, and then the rest.
+pub record IsBehind (input : List ℕ) (count : ℕ) (rest : List ℕ) : Type 0 where
+  pub outs : List (List ℕ)
+  pub front : IsFront input outs rest
+  pub counted : length outs ≡ count
+
+-- The place in the module of a file with this number, from 0, for a place in its lowering, or that there is none.
+pub record IsPlaceInFile (input : List ℕ) (number : ℕ) (there : Place) (found : Option Place) : Type 0 where
+  pub begun : List ℕ
+  pub own : List ℕ
+  pub rest : List ℕ
+  pub behind : IsBehind input number begun
+  pub lowered : IsLoweredModule begun own rest
+  pub place : IsPlaceIn begun own there found

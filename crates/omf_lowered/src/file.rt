@@ -1,14 +1,16 @@
 //! The modules of a file, lowered.
 
 ghost use Rattle.std.specs.Prelude.{◌≡◌, ◌≤◌, length, IfErr, IfOk};
-ghost use Rattle.omf_lowered.specs.Files.{IsFileFault, IsLoweredFile, begins_module, unpadded, without};
+ghost use Rattle.omf_lowered.specs.Files.{IsBehind, IsFileFault, IsLoweredFile, IsPlaceInFile, begins_module, unpadded, without};
 ghost use Rattle.omf_lowered.specs.Inner.FileState.{IsAppended, in_module};
 ghost use Rattle.omf_lowered.specs.Modules.{IsModuleFault};
 
 use crate::fault::FileFault;
 use crate::module::lowered_module;
+use crate::place::place_in;
+use omf_frame::Place;
 use omf_lowering::LoweringFault;
-use std::alloc::Global;
+use std::alloc::{AllocError, Global};
 
 /// Bytes without those of this value at their front.
 fn without(bytes: &[u8], value: u8) -> &[u8]
@@ -107,4 +109,39 @@ pub fn lowered_file(alloc: Global, bytes: &[u8]) -> Result<Vec<u8>, FileFault>
         }
     }
     Err(FileFault::Memory)
+}
+
+/// What is left of a file after this many modules and their padding.
+#[tactic(auto, using(crate::proofs::FileLaws::behind_none))]
+fn behind(alloc: Global, bytes: &[u8], count: u32) -> Result<&[u8], AllocError>
+    ensures { IfOk result (λ rest. IsBehind bytes.entry.now count rest.now) }
+{
+    let mut left = bytes;
+    for _number in 0..count {
+        match lowered_module(alloc, left) {
+            Ok(module) => left = unpadded(module.rest),
+            Err(_) => return Err(AllocError),
+        }
+    }
+    Ok(left)
+}
+
+/// The place in a file's module, which has this number from 0, for a place in its lowering, as by `place_in`.
+///
+/// # Errors
+///
+/// `AllocError` if memory runs out. The module and those before it have lowerings, so that no place but for memory is lost.
+pub fn place_in_file(
+    alloc: Global,
+    bytes: &[u8],
+    number: u32,
+    there: Place,
+) -> Result<Option<Place>, AllocError>
+    ensures { IfOk result (IsPlaceInFile bytes.now number there) }
+{
+    let begun = behind(alloc, bytes, number)?;
+    match lowered_module(alloc, begun) {
+        Ok(module) => place_in(alloc, begun, &module.bytes, there),
+        Err(_) => Err(AllocError),
+    }
 }

@@ -9,7 +9,8 @@ mod module;
 mod place;
 
 pub use fault::FileFault;
-pub use file::lowered_file;
+pub use file::{lowered_file, place_in_file};
 pub use mended::{is_mendable, shown};
 pub use module::lowered_module;
 pub use omf_lowering::{LoweredModule, LoweringFault};
+pub use place::place_in;

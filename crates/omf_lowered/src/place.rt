@@ -1,13 +1,14 @@
-//! The place of a fault in the input, where a step has changed the module.
+//! The place of a fault in the input, where a step or the lowering has changed the module.
 
-ghost use Rattle.std.specs.Prelude.{◌≡◌, IfSome};
+ghost use Rattle.std.specs.Prelude.{◌≡◌, ◌<◌, ◌^◌, IfNone, IfOk, IfSome, flat_map, length};
+ghost use Rattle.omf_frame.specs.Framing.{raw_bytes};
 ghost use Rattle.omf_lowered.specs.Inner.Moves.{IsMoved, number_of};
-ghost use Rattle.omf_lowered.specs.Places.{IsPlaceOf, is_same};
+ghost use Rattle.omf_lowered.specs.Places.{AreUnlike, IsFirstSame, IsPlaceIn, IsPlaceOf, is_same};
 
-use omf_explicit::{Front, record_at};
+use omf_explicit::{Front, module_of, record_at};
 use omf_frame::Place;
 use omf_lowering::LoweringFault;
-use std::alloc::AllocError;
+use std::alloc::{AllocError, Global};
 
 /// Whether two records are the same.
 fn is_same(one: &Front<'_>, other: &Front<'_>) -> bool
@@ -67,4 +68,54 @@ pub(crate) fn moved(
         Some(place) => LoweringFault::Refused { reason, place },
         None => LoweringFault::Memory,
     }
+}
+
+/// The number of the first record that is the same as another one, and the offset at which it begins; none if no record is.
+fn first_same(records: &[Front<'_>], other: &Front<'_>) -> Option<(usize, usize)>
+    requires { length (flat_map raw_bytes records.now) < 2 ^ 64 }
+    ensures some { IfSome result (λ r. IsFirstSame records.now other.now r.0 r.1) }
+    ensures none { IfNone result (AreUnlike records.now other.now) }
+{
+    let mut number = 0;
+    let mut start = 0;
+    for record in records {
+        if is_same(record, other) {
+            return Some((number, start));
+        }
+        number += 1;
+        start += record.body.len() + 4;
+    }
+    None
+}
+
+/// The place in the input's module for a place in its lowering: that of the first record that is the same as the one there; none if the lowering wrote it.
+///
+/// # Errors
+///
+/// `AllocError` if memory runs out. The input begins with a module, and its lowering has a record at the place, so that no place but for memory is lost.
+pub fn place_in(
+    alloc: Global,
+    input: &[u8],
+    own: &[u8],
+    there: Place,
+) -> Result<Option<Place>, AllocError>
+    ensures { IfOk result (IsPlaceIn input.now own.now there) }
+{
+    let Some((to, _)) = record_at(own, there.number as usize) else {
+        return Err(AllocError);
+    };
+    let Some(module) = module_of(alloc, input)? else {
+        return Err(AllocError);
+    };
+    let Some((number, start)) = first_same(&module.records, &to) else {
+        return Ok(None);
+    };
+    if number > 0xFFFF_FFFF {
+        return Err(AllocError);
+    }
+    Ok(Some(Place {
+        number: number as u32,
+        start: start as u64,
+        within: there.within,
+    }))
 }
