@@ -12,5 +12,6 @@ pub mod OriginLaws
 pub mod RefusingLaws
 pub mod StartLaws
 pub mod TakenLaws
+pub mod UnloweredLaws
 pub mod TwiceLaws
 pub mod ViewLaws

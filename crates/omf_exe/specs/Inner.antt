@@ -1,3 +1,4 @@
 pub mod Taking
 pub mod Input
 pub mod Views
+pub mod Unlowered

@@ -1,12 +1,10 @@
 -- Modules with records outside this profile: a program takes them as they are lowered (this profile's rule).
-use Rattle.std.specs.Prelude.{◌≡◌, ◌⊎◌, ⊤, ℕ, List, Bool, true, false, drop, Ok, Err, if◌then◌else◌}
+use Rattle.std.specs.Prelude.{◌≡◌, ◌⊎◌, ⊤, ℕ, List, Bool, true, false, drop, Option, Some, None, Ok, Err, if◌then◌else◌}
 use Rattle.std.specs.List.{AllZip}
 use Rattle.omf_check.specs.Checking.{Decides}
 use Rattle.omf_check.specs.Module.{Module}
-use Rattle.omf_check.specs.Refusal.{IsRefused as IsModuleRefused}
 use Rattle.omf_frame.specs.declared.fault.Place.{Place}
 use Rattle.omf_frame.specs.declared.fault.Reason.{Reason}
-use Rattle.omf_image.specs.Limits.{profile_limits}
 use Rattle.omf_library.specs.LibraryMembers.{IsLibraryOf}
 use Rattle.omf_library.specs.declared.judged.LibraryMember.{LibraryMember}
 use Rattle.omf_library.specs.declared.judged.LibraryMember.TheVariants as member
@@ -14,9 +12,10 @@ use Rattle.omf_library.specs.declared.judged.RefusedMember.{RefusedMember}
 use Rattle.omf_linking.specs.Files.{IsFile}
 use Rattle.omf_linking.specs.declared.fault.LinkFault.{LinkFault}
 use Rattle.omf_linking.specs.declared.fault.LinkFault.TheVariants as link
-use Rattle.omf_lowered.specs.Files.{IsFileFault, IsLoweredFile}
+use Rattle.omf_lowered.specs.Checked.{IsRefusedAsWritten, IsUnlowered as IsModuleUnlowered}
+use Rattle.omf_lowered.specs.Files.{IsFileFault, IsLoweredFile, IsPlaceInFile}
 use Rattle.omf_lowered.specs.Mended.{is_mendable, shown}
-use Rattle.omf_lowered.specs.Modules.{IsLoweredModule as IsModuleLowered, IsModuleRefused as IsModuleUnlowered}
+use Rattle.omf_lowered.specs.Modules.{IsLoweredModule as IsModuleLowered}
 use Rattle.omf_lowered.specs.declared.fault.FileFault.{FileFault}
 use Rattle.omf_lowered.specs.declared.fault.FileFault.TheVariants as lowering
 use Rattle.omf_aliases.specs.Aliases.{any_profile}
@@ -36,18 +35,36 @@ pub record AreOfLowered (bytes : List ℕ) (ms : List Module) : Type 0 where
   pub lowering : IsLoweredFile bytes lowered
   pub modules : IsFile any_profile lowered (Ok ms)
 
--- A file's lowering is refused.
+-- The check refuses a module of a file's lowering. The record at fault is at this place in the file's module.
+pub record IsRefusedAt (bytes : List ℕ) (number : ℕ) (why : Reason) (at : Place) : Type 0 where
+  pub lowered : List ℕ
+  pub there : Place
+  pub lowering : IsLoweredFile bytes lowered
+  pub refused : IsFile any_profile lowered (Err (link.Refused number why there))
+  pub place : IsPlaceInFile bytes number there (Some at)
+
+abbrev pub IsCheckFault : List ℕ → FileFault → Type 0
+IsCheckFault bytes (lowering.Refused number why at) = IsRefusedAt bytes number why at
+IsCheckFault bytes _ = ⊥
+
+-- A fault of a file's lowering that is at no record of the file: the lowering wrote the record.
+abbrev pub IsAtNone : List ℕ → LinkFault → Type 0
+IsAtNone bytes (link.Refused number why there) = IsPlaceInFile bytes number there None
+IsAtNone bytes _ = ⊤
+
+-- A file's lowering is refused, at no record of the file.
 pub record IsLoweredRefused (bytes : List ℕ) : Type 0 where
   pub lowered : List ℕ
   pub lowering : IsLoweredFile bytes lowered
   pub fault : LinkFault
   pub known : is_link_memory fault ≡ false
   pub refused : IsFile any_profile lowered (Err fault)
+  pub written : IsAtNone bytes fault
 
--- Why a file's lowering gives no modules: it has none, with this fault, or it is refused. Memory may run out at any time.
+-- Why a file's lowering gives no modules: there is none, with this fault; or it is refused, with this fault at the file's record, or at none. Memory may run out at any time.
 abbrev pub IsUnlowered : List ℕ → Unlowered → Type 0
 IsUnlowered bytes unlowered.Memory = ⊤
-IsUnlowered bytes (unlowered.Fault f) = IsFileFault bytes f
+IsUnlowered bytes (unlowered.Fault f) = IsFileFault bytes f ⊎ IsCheckFault bytes f
 IsUnlowered bytes unlowered.Refused = IsLoweredRefused bytes
 
 -- The modules that a program takes of a file: those of the file, or, if it is refused, those of its lowering.
@@ -57,8 +74,8 @@ IsFileRefused bytes f = (is_link_memory f ≡ false) × IsFile any_profile bytes
 abbrev pub AreTaken : List ℕ → List Module → Type 0
 AreTaken bytes ms = IsFile any_profile bytes (Ok ms) ⊎ ((f : LinkFault) × IsFileRefused bytes f × AreOfLowered bytes ms)
 
--- The fault that is shown of a file that is refused, and of which the lowering gives no modules: its own. But if that is one which a lowering mends, and the lowering
--- refuses a record, it is the lowering's.
+-- The fault that is shown of a file that is refused, and of which the lowering gives no modules: its own. But if that is one which a lowering mends, it is the fault that is left:
+-- the one of the lowering, or of its check if that is at a record of the file.
 abbrev pub shown_fault : LinkFault → LinkFault → LinkFault
 shown_fault (link.Refused k why at) lowering = shown why (link.Refused k why at) lowering
 shown_fault own lowering = own
@@ -66,7 +83,7 @@ shown_fault own lowering = own
 abbrev pub with_lowering : LinkFault → FileFault → LinkFault
 with_lowering own lowering.Memory = link.Memory
 with_lowering own (lowering.Refused k why at) = shown_fault own (link.Refused k why at)
-with_lowering own (lowering.NoModule at) = own
+with_lowering own (lowering.NoModule at) = shown_fault own (link.NoText at)
 
 abbrev pub shown_of_file : LinkFault → Unlowered → LinkFault
 shown_of_file own unlowered.Memory = link.Memory
@@ -86,22 +103,14 @@ pub record IsLoweredModule (bytes : List ℕ) (m : Module) : Type 0 where
   pub lowering : IsModuleLowered bytes lowered rest
   pub accepted : Decides any_profile lowered (Ok m)
 
--- The lowering of the module that bytes begin with is refused.
-pub record IsLoweringRefused (bytes : List ℕ) : Type 0 where
-  pub lowered : List ℕ
-  pub rest : List ℕ
-  pub lowering : IsModuleLowered bytes lowered rest
-  pub why : Reason
-  pub at : Place
-  pub refused : IsModuleRefused any_profile profile_limits lowered why at
-
--- A refused member with the fault of its lowering, if its own is one that a lowering mends.
+-- A refused member with the fault of its lowering or of that one's check, if its own is one that a lowering mends.
 abbrev pub with_fault : RefusedMember → Reason → Place → RefusedMember
 with_fault r why at = if is_mendable r.reason then record { offset = r.offset; reason = why; place = at; publics = r.publics } else r
 
--- A member that stays refused: its lowering is refused too; or it has none, and the fault shown is as for a file.
+-- A member that stays refused: its lowering is refused too, at a record that it wrote; or the fault shown is as for a file.
 abbrev pub IsStillRefused : List ℕ → RefusedMember → RefusedMember → Type 0
-IsStillRefused bytes r s = (IsLoweringRefused bytes × (s ≡ r)) ⊎ ((why : Reason) × (at : Place) × IsModuleUnlowered bytes why at × (s ≡ with_fault r why at))
+IsStillRefused bytes r s =
+    (IsRefusedAsWritten any_profile bytes × (s ≡ r)) ⊎ ((why : Reason) × (at : Place) × IsModuleUnlowered any_profile bytes why at × (s ≡ with_fault r why at))
 
 -- What a program takes of a member of a library: the member, or, if it is refused, its lowering, if it has one that is not.
 abbrev pub IsTakenOf : List ℕ → LibraryMember → LibraryMember → Type 0

@@ -3,8 +3,10 @@
 ghost use Rattle.std.specs.Prelude.{◌≡◌, IfErr, IfNone, IfOk, IfSome, drop};
 ghost use Rattle.std.specs.List.{AllZip};
 ghost use Rattle.omf_library.specs.declared.judged.LibraryMember.TheVariants.{Refused};
-ghost use Rattle.omf_lowered.specs.Modules.{IsModuleFault};
-ghost use Rattle.omf_exe.specs.Lowered.{AreOfLowered, AreTaken, IsLoweredModule, IsLoweringRefused, IsTakenOf, IsUnlowered, IsUntaken, shown_fault, shown_of_file, with_fault, with_lowering};
+ghost use Rattle.omf_lowered.specs.Checked.{IsRefusedAsWritten, IsUnloweredBy as IsModuleUnloweredBy};
+ghost use Rattle.omf_aliases.specs.Aliases.{any_profile as any};
+ghost use Rattle.omf_exe.specs.Inner.Unlowered.{IsUnloweredAt, IsUnloweredBy};
+ghost use Rattle.omf_exe.specs.Lowered.{AreOfLowered, AreTaken, IsLoweredModule, IsTakenOf, IsUnlowered, IsUntaken, shown_fault, shown_of_file, with_fault, with_lowering};
 
 use crate::memory::is_link_memory;
 use omf_aliases::any_profile;
@@ -12,7 +14,10 @@ use omf_check::{CheckFault, Checked, check};
 use omf_frame::{Bytes, Place, Reason};
 use omf_library::{LibraryMember, RefusedMember};
 use omf_linking::{LinkFault, file_modules};
-use omf_lowered::{FileFault, LoweringFault, is_mendable, lowered_file, lowered_module, shown};
+use omf_lowered::{
+    FileFault, LoweringFault, is_mendable, lowered_file, lowered_module, place_in, place_in_file,
+    shown,
+};
 use std::alloc::{AllocError, Global};
 
 /// Why the lowering of a file gives no modules.
@@ -20,9 +25,9 @@ use std::alloc::{AllocError, Global};
 pub(crate) enum Unlowered {
     /// Out of memory.
     Memory,
-    /// The file has no lowering.
+    /// The file has no lowering, or its lowering is refused at a record that the file has too.
     Fault(FileFault),
-    /// Its lowering is refused.
+    /// Its lowering is refused at another record.
     Refused,
 }
 
@@ -62,7 +67,7 @@ fn with_lowering(own: LinkFault, fault: FileFault) -> LinkFault
                 place,
             },
         ),
-        FileFault::NoModule(_) => own,
+        FileFault::NoModule(at) => shown_fault(own, LinkFault::NoText(at)),
     }
 }
 
@@ -77,6 +82,43 @@ fn shown_of_file(own: LinkFault, unlowered: Unlowered) -> LinkFault
     }
 }
 
+/// Why a file gives no modules whose lowering is refused at this place in its module with this number.
+fn refused_at(alloc: Global, bytes: &[u8], number: u32, reason: Reason, there: Place) -> Unlowered
+    ensures { IsUnloweredAt bytes.now number reason there result }
+{
+    match place_in_file(alloc, bytes, number, there) {
+        Ok(Some(place)) => Unlowered::Fault(FileFault::Refused {
+            module: number,
+            reason,
+            place,
+        }),
+        Ok(None) => Unlowered::Refused,
+        Err(_) => Unlowered::Memory,
+    }
+}
+
+/// Why a file whose lowering has this fault gives no modules.
+fn unlowered_by(alloc: Global, bytes: &[u8], fault: LinkFault) -> Unlowered
+    ensures { IsUnloweredBy bytes.now fault result }
+{
+    match fault {
+        LinkFault::Memory => Unlowered::Memory,
+        LinkFault::Refused {
+            module,
+            reason,
+            place,
+        } => refused_at(alloc, bytes, module, reason, place),
+        LinkFault::Read => Unlowered::Refused,
+        LinkFault::NoText(_) => Unlowered::Refused,
+        LinkFault::NoModules => Unlowered::Refused,
+        LinkFault::Line { .. } => Unlowered::Refused,
+        LinkFault::External(_) => Unlowered::Refused,
+        LinkFault::Reach { .. } => Unlowered::Refused,
+        LinkFault::Starts { .. } => Unlowered::Refused,
+        LinkFault::Space(_) => Unlowered::Refused,
+    }
+}
+
 /// The modules of a file's lowering.
 fn lowered_modules(alloc: Global, bytes: &[u8]) -> Result<Vec<Checked>, Unlowered>
     ensures modules { IfOk result (λ v. AreOfLowered bytes.now v.items) }
@@ -88,13 +130,7 @@ fn lowered_modules(alloc: Global, bytes: &[u8]) -> Result<Vec<Checked>, Unlowere
     };
     match file_modules(alloc, any_profile(), &lower) {
         Ok(modules) => Ok(modules),
-        Err(fault) => {
-            if is_link_memory(fault) {
-                Err(Unlowered::Memory)
-            } else {
-                Err(Unlowered::Refused)
-            }
-        }
+        Err(fault) => Err(unlowered_by(alloc, bytes, fault)),
     }
 }
 
@@ -102,7 +138,7 @@ fn lowered_modules(alloc: Global, bytes: &[u8]) -> Result<Vec<Checked>, Unlowere
 ///
 /// # Errors
 ///
-/// The file's own fault, if its lowering gives no modules; that of its lowering, if a lowering may mend the own one. `Memory` if memory runs out.
+/// The file's own fault, if its lowering gives no modules; that of its lowering, or of the check of that, if a lowering may mend the own one. `Memory` if memory runs out.
 pub(crate) fn taken_modules(alloc: Global, bytes: &[u8]) -> Result<Vec<Checked>, LinkFault>
     ensures modules { IfOk result (λ v. AreTaken bytes.now v.items) }
     ensures fault { IfErr result (IsUntaken bytes.now) }
@@ -120,15 +156,15 @@ pub(crate) fn taken_modules(alloc: Global, bytes: &[u8]) -> Result<Vec<Checked>,
     }
 }
 
-/// The lowering of the module that bytes begin with; none if it is refused.
+/// The lowering of the module that bytes begin with; none if it is refused at a record that the lowering wrote.
 ///
 /// # Errors
 ///
-/// The fault of `lowered_module`; `Memory` if memory runs out.
+/// The fault of `lowered_module`, or of the check of the lowering; `Memory` if memory runs out.
 fn lowering_of(alloc: Global, bytes: &[u8]) -> Result<Option<Checked>, LoweringFault>
     ensures some { IfOk result (λ found. IfSome found (IsLoweredModule bytes.now)) }
-    ensures none { IfOk result (λ found. IfNone found (IsLoweringRefused bytes.now)) }
-    ensures fault { IfErr result (IsModuleFault bytes.now) }
+    ensures none { IfOk result (λ found. IfNone found (IsRefusedAsWritten any bytes.now)) }
+    ensures fault { IfErr result (IsModuleUnloweredBy any bytes.now) }
 {
     let lower = match lowered_module(alloc, bytes) {
         Ok(lower) => lower,
@@ -138,7 +174,16 @@ fn lowering_of(alloc: Global, bytes: &[u8]) -> Result<Option<Checked>, LoweringF
         Ok(module) => Ok(Some(module)),
         Err(CheckFault::Memory) => Err(LoweringFault::Memory),
         Err(CheckFault::Read) => unreachable!(),
-        Err(CheckFault::Refused { .. }) => Ok(None),
+        Err(CheckFault::Refused { reason, place }) => match place_in(
+            alloc,
+            bytes,
+            &lower.bytes,
+            place,
+        ) {
+            Ok(Some(place)) => Err(LoweringFault::Refused { reason, place }),
+            Ok(None) => Ok(None),
+            Err(_) => Err(LoweringFault::Memory),
+        },
     }
 }
 
@@ -152,7 +197,7 @@ fn bytes_from(bytes: &[u8], offset: u64) -> &[u8]
     &bytes[offset as usize..]
 }
 
-/// A refused member with the fault of its lowering, if its own is one that a lowering mends.
+/// A refused member with the fault of its lowering, or of the check of that, if its own is one that a lowering mends.
 fn with_fault(refused: RefusedMember, reason: Reason, place: Place) -> RefusedMember
     ensures { result ≡ with_fault refused reason place }
 {
