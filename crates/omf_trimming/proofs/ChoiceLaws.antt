@@ -16,10 +16,11 @@ use Rattle.omf_check.specs.Listed.{placed_from}
 use Rattle.omf_check.specs.Tables.{segment_length}
 use Rattle.omf_check.specs.WellFormed.{recs}
 use Rattle.omf_lowering.specs.Marks.{selection_by}
-use Rattle.omf_trimming.specs.Choice.{Marked, first_named, instances, marked_at, marked_from}
+use Rattle.omf_trimming.specs.Choice.{Marked, first_named, fixes_nothing, instances, marked_at, marked_from, past_threads}
 use Rattle.omf_trimming.specs.Without.{count_after, is_thread, threads_alone}
 use Rattle.omf_trimming.specs.Inner.Choosing.{AreFirsts, begun_rest, ended, to_come}
 use Rattle.omf_trimming.specs.Inner.Rest.{thread_bytes}
+use Rattle.omf_trimming.proofs.PastLaws.{past-false, past-true}
 use Rattle.omf_trimming.specs.declared.choice.marked.Begun.{Begun}
 use Rattle.omf_trimming.specs.declared.choice.marked.Begun.TheVariants.{Nothing, Segment, Named}
 
@@ -63,7 +64,7 @@ none-listed number start [] e = refl
 none-listed number start (r ∷ rs) e = absurd cc
 
 pub walk-starts : (m : List Rec) (rs : List Raw) (left : List (Place × Rec)) → m ≡ recs rs → left ≡ placed_from 0 0 rs → IsWalked m [] 0 Nothing left
-walk-starts m rs left e f = record { number = 0; start = 0; rest = rs; listed = f; low = omega arith; held = ap (marked_from m 0) (sym e) }
+walk-starts m rs left e f = record { number = 0; start = 0; rest = rs; listed = f; low = omega arith; held = ap (λ (xs : List Rec). marked_from m 0 (past_threads xs)) (sym e) }
 
 -- A SEGDEF begins an instance, and ends none.
 begun-none : (m : List Rec) (count : ℕ) (b : Begun) (kind : ℕ) (s : SegmentItem) (rest : List Rec) → begun_rest m count b (record { kind = kind; contents = SegmentContents s } ∷ rest) ≡ []
@@ -76,7 +77,7 @@ segment-begins : (m : List Rec) (count : ℕ) (b : Begun) (r : Rec) (s : Segment
     → to_come m count b (r ∷ rest) ≡ to_come m (count + 1) (Segment (segment_length r.kind s)) rest
 segment-begins m count b r s rest e =
     let after = to_come m (count + 1) (Segment (segment_length r.kind s)) rest in
-    subst (λ (c : Contents). to_come m count b (record { kind = r.kind; contents = c } ∷ rest) ≡ after) (sym e) (ap (λ (xs : List Marked). xs ++ after) (begun-none m count b r.kind s rest))
+    subst (λ (c : Contents). to_come m count b (record { kind = r.kind; contents = c } ∷ rest) ≡ after) (sym e) (ap (λ (xs : List Marked). xs ++ after) (begun-none m count b r.kind s (past_threads rest)))
 
 -- Another record goes on.
 marked-none : (m : List Rec) (n kind : ℕ) (c : Contents) (rest : List Rec) → holds_segment c ≡ false → marked_at m n kind c rest ≡ []
@@ -87,14 +88,22 @@ count-same : (count : ℕ) (c : Contents) → holds_segment c ≡ false → coun
 count-same count (SegmentContents s) e = absurd cc
 count-same count _ e = refl
 
+from-past : (m : List Rec) (count : ℕ) (r : Rec) (rest : List Rec) → holds_segment r.contents ≡ false → marked_from m count (past_threads (r ∷ rest)) ≡ marked_from m count (past_threads rest)
+from-past m count r rest e = elim (cases_Bool (fixes_nothing r.contents)) [
+  | inl t ↦ ap (marked_from m count) (past-true r rest t)
+  | inr t ↦
+      ap (marked_from m count) (past-false r rest t)
+      ∙ ap (λ (xs : List Marked). xs ++ marked_from m (count_after count r.contents) (past_threads rest)) (marked-none m (count + 1) r.kind r.contents (past_threads rest) e)
+      ∙ ap (λ (n : ℕ). marked_from m n (past_threads rest)) (count-same count r.contents e)
+]
+
 other-goes-on : (m : List Rec) (count : ℕ) (b c : Begun) (r : Rec) (rest : List Rec) → holds_segment r.contents ≡ false
-    → begun_rest m count b (r ∷ rest) ≡ ended m b (selection_by r.contents) ++ begun_rest m count c rest
+    → begun_rest m count b (past_threads (r ∷ rest)) ≡ ended m b (selection_by r.contents) ++ begun_rest m count c (past_threads rest)
     → to_come m count b (r ∷ rest) ≡ ended m b (selection_by r.contents) ++ to_come m count c rest
 other-goes-on m count b c r rest e f =
-    ap (λ (xs : List Marked). begun_rest m count b (r ∷ rest) ++ (xs ++ marked_from m (count_after count r.contents) rest)) (marked-none m (count + 1) r.kind r.contents rest e)
-    ∙ ap (λ (n : ℕ). begun_rest m count b (r ∷ rest) ++ marked_from m n rest) (count-same count r.contents e)
-    ∙ ap (λ (xs : List Marked). xs ++ marked_from m count rest) f
-    ∙ append_assoc (ended m b (selection_by r.contents)) (begun_rest m count c rest) (marked_from m count rest)
+    ap (λ (xs : List Marked). begun_rest m count b (past_threads (r ∷ rest)) ++ xs) (from-past m count r rest e)
+    ∙ ap (λ (xs : List Marked). xs ++ marked_from m count (past_threads rest)) f
+    ∙ append_assoc (ended m b (selection_by r.contents)) (begun_rest m count c (past_threads rest)) (marked_from m count (past_threads rest))
 
 pub segment-walks : (m : List Rec) (found : List Marked) (count : ℕ) (b : Begun) (all left : List (Place × Rec)) (x : Place × Rec) (s : SegmentItem) → IsWalked m found count b all → all ≡ x ∷ left
     → SegmentContents s ≡ x.1.contents → IsWalked m found (count + 1) (Segment (segment_length x.1.kind s)) left
@@ -115,7 +124,7 @@ segment-walks m found count b all left x s w e f =
 
 pub other-walks : (m : List Rec) (found new : List Marked) (count : ℕ) (b c : Begun) (all left : List (Place × Rec)) (x : Place × Rec) → IsWalked m found count b all → all ≡ x ∷ left
     → holds_segment x.1.contents ≡ false → new ≡ found ++ ended m b (selection_by x.1.contents)
-    → ((k rest : List Rec) → begun_rest k count b (x.1 ∷ rest) ≡ ended k b (selection_by x.1.contents) ++ begun_rest k count c rest) → IsWalked m new count c left
+    → ((k rest : List Rec) → begun_rest k count b (past_threads (x.1 ∷ rest)) ≡ ended k b (selection_by x.1.contents) ++ begun_rest k count c (past_threads rest)) → IsWalked m new count c left
 other-walks m found new count b c all left x w e f g h =
     let n = next-listed w.number w.start w.rest x left (sym e ∙ w.listed) in
     let own = ended m b (selection_by x.1.contents) in

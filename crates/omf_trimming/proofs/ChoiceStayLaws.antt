@@ -1,13 +1,14 @@
 -- Modules that stay as they are.
 use Rattle.std.proofs.Common.{◌≡◌, ℕ, suc, ◌+◌, ◌<◌, List, [], ◌∷◌, ◌++◌, length, refl, ap, ap₂, ◌∙◌, subst, arith}
-use Rattle.std.specs.Prelude.{All, Option, Some, None, filter, map}
+use Rattle.std.specs.Prelude.{All, Option, Some, None, filter, map, not}
 use Rattle.std.specs.List.{AllZip}
+use Rattle.std.proofs.lemmas.List.Elements.{All-filter}
 use Rattle.omf_frame.specs.Bytes.{with_before}
 use Rattle.omf_records.specs.Values.{Contents, Rec, Segment}
 use Rattle.omf_check.specs.Module.{Module, recs_of}
 use Rattle.omf_check.specs.Tables.{segment_length}
 use Rattle.omf_lowering.specs.Marks.{selection_by}
-use Rattle.omf_trimming.specs.Choice.{IsChosen, Marked, instances, is_left_out, left_out, marked_after, marked_at, marked_from, marked_if, name_by}
+use Rattle.omf_trimming.specs.Choice.{IsChosen, Marked, fixes_nothing, instances, is_left_out, left_out, marked_after, marked_at, marked_from, marked_if, name_by, past_threads}
 use Rattle.omf_trimming.specs.Without.{IsWithout, count_after}
 use Rattle.omf_trimming.specs.declared.without.LeftPublics.TheVariants.{Nameless}
 use Rattle.omf_trimming.specs.ChoiceLaws.{FirstStays, HasNoMark, UnmarkedStay}
@@ -39,7 +40,7 @@ unmarked-from m count (r ∷ rs) h =
     ap (λ (is : List Marked). is ++ marked_from m (count_after count r.contents) rs) (unmarked-at m (count + 1) r.kind r.contents rs others) ∙ unmarked-from m (count_after count r.contents) rs others
 
 none-out : (before : List Module) (m : Module) → HasNoMark m → left_out before m ≡ []
-none-out before m h = ap (λ (is : List Marked). map (λ i. i.segment) (filter (is_left_out (all_instances before)) is)) (unmarked-from (recs_of m.bytes) 0 (recs_of m.bytes) h)
+none-out before m h = ap (λ (is : List Marked). map (λ i. i.segment) (filter (is_left_out (all_instances before)) is)) (unmarked-from (recs_of m.bytes) 0 (past_threads (recs_of m.bytes)) (All-filter (λ (r : Rec). not (fixes_nothing r.contents)) IsNoMark (recs_of m.bytes) h))
 
 stays : (gone : List ℕ) (m o : Module) → gone ≡ [] → IsWithout Nameless gone m o → o ≡ m
 stays gone m o e h = let w : IsWithout Nameless [] m o = subst (λ (g : List ℕ). IsWithout Nameless g m o) e h in w

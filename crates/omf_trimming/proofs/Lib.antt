@@ -18,5 +18,6 @@ pub mod RecLaws
 pub mod TripleLaws
 pub mod KeptLaws
 pub mod OnceLaws
+pub mod PastLaws
 pub mod ClashLaws
 pub mod TrimmedLaws

@@ -12,11 +12,12 @@ use Rattle.omf_records.specs.Values.{At, Carried, Comment, Communals, Contents, 
 use Rattle.omf_check.specs.Tables.{last_data, segment_length, segments}
 use Rattle.omf_check.specs.declared.segment.SegInfo.{SegInfo}
 use Rattle.omf_lowering.specs.Marks.{selection_by}
-use Rattle.omf_trimming.specs.Choice.{Marked, data_by, data_of, instances, marked_at, marked_from, marked_if, name_by, only_name}
+use Rattle.omf_trimming.specs.Choice.{Marked, data_by, data_of, fixes_nothing, instances, marked_at, marked_from, marked_if, name_by, only_name, past_threads}
 use Rattle.omf_trimming.specs.ChoiceLaws.{IsByInstance, IsInstance, definitions, definitions_by, of_name}
 use Rattle.omf_trimming.specs.Without.{Left, Whole, Nothing, Anew, are_of, count_after, emptied, left_after, recs_left, recs_without, threads_alone}
 use Rattle.omf_trimming.specs.WithoutLaws.{left_segment}
 use Rattle.omf_trimming.specs.declared.without.LeftPublics.TheVariants.{Nameless}
+use Rattle.omf_trimming.proofs.PastLaws.{fixing-selected, flat-past, past-alone, past-append, past-false, past-split, past-true, segments-past, threads-are}
 use Rattle.omf_trimming.proofs.RecLaws.{all-left, has-the-rest}
 use Rattle.omf_trimming.proofs.TripleLaws.{instances-are-triples}
 
@@ -173,6 +174,10 @@ begins-late : (m : List Rec) (n kind : ℕ) (c : Contents) (p : Rec) → (marked
 begins-late m n kind (Segment s) p = (refl, refl)
 begins-late m n kind _ p = (refl, refl)
 
+none-defined : (name : List ℕ) (kind : ℕ) (c : Contents) → fixes_nothing c ≡ true → definitions_by name kind c ≡ []
+none-defined name kind (Fixups subs) e = refl
+none-defined name kind _ e = absurd cc
+
 module _ (name : List ℕ) where
   abbrev size_of : List Marked → ℕ
   size_of is = length (of_name name is)
@@ -226,7 +231,10 @@ module _ (name : List ℕ) where
   fewers (r ∷ rs) = let h = fewers rs in (fewer-next r rs h.0 h.1, h.0)
 
   fewer : (m : List Rec) → size_of (instances m) ≤ defined m
-  fewer m = (fewers m).0 m 0
+  fewer m =
+      let l = (fewers (past_threads m)).0 m 0 in
+      let same : defined (past_threads m) ≡ defined m = ap (λ (ns : List ℕ). length ns) (flat-past (λ r. definitions_by name r.kind r.contents) (λ r t. none-defined name r.kind r.contents t) m) in
+      omega (arith, l, same)
 
 -- ---- places do not matter
 
@@ -276,7 +284,7 @@ from-alone m count (r ∷ rs) =
     (ap (λ (n : ℕ). marked_from (map alone m) n (map alone rs)) (count-alone count r.contents) ∙ from-alone m (count_after count r.contents) rs)
 
 instances-alone : (m : List Rec) → instances (map alone m) ≡ instances m
-instances-alone m = from-alone m 0 m
+instances-alone m = ap (marked_from (map alone m) 0) (past-alone m) ∙ from-alone m 0 (past_threads m)
 
 items-alone : (name : List ℕ) (n : ℕ) (items : List (At PublicItem)) → map (λ x. n) (filter (λ x. bytes_eq x.item.name name) (map unplaced items)) ≡ map (λ x. n) (filter (λ x. bytes_eq x.item.name name) items)
 items-alone name n [] = refl
@@ -394,32 +402,77 @@ module _ (gone : List ℕ) where
   mark-stays before r (Comment a b t) k h = refl
   mark-stays before r _ k h = none-number k h
 
+  either-none : (t : Rec) (b : Bool) (l k : Left) → past_threads (recs_left t l) ≡ [] → past_threads (recs_left t k) ≡ [] → past_threads (recs_left t (cond b l k)) ≡ []
+  either-none t true l k e h = e
+  either-none t false l k e h = h
+
+  -- A FIXUPP without a FIXUP stays one.
+  none-left-of : (before : List Rec) (kind : ℕ) (c : Contents) → fixes_nothing c ≡ true → past_threads (left_of before (T kind c)) ≡ []
+  none-left-of before kind (Fixups subs) e =
+      either-none (T kind (Fixups subs)) (are_of gone (last_data before)) (Anew (Fixups (threads_alone subs))) Whole (past-true (T kind (Fixups (threads_alone subs))) [] (threads-are subs)) (past-true (T kind (Fixups subs)) [] e)
+  none-left-of before kind _ e = absurd cc
+
+  none-past : (before rs : List Rec) → past_threads rs ≡ [] → past_threads (with_before left_of before rs) ≡ []
+  none-past before [] e = refl
+  none-past before (r ∷ rs) e = elim (cases_Bool (fixes_nothing r.contents)) [
+    | inl t ↦
+        past-append (left_of before r) (with_before left_of (before ++ r ∷ []) rs)
+        ∙ ap₂ (λ (xs ys : List Rec). xs ++ ys) (none-left-of before r.kind r.contents t) (none-past (before ++ r ∷ []) rs (sym (past-true r rs t) ∙ e))
+    | inr t ↦ nothing r (past_threads rs) (sym (past-false r rs t) ∙ e)
+  ]
+    where
+      nothing : {A : Type 0} (x : Rec) (xs : List Rec) → x ∷ xs ≡ [] → A
+      nothing x xs e = absurd cc
+
+  -- What stays of a record that fixes something, and of the FIXUPPs without a FIXUP before it.
+  one-past : (before own : List Rec) (r : Rec) (rest : List Rec) → past_threads own ≡ [] → fixes_nothing r.contents ≡ false → left_of (before ++ own) r ≡ r ∷ []
+      → past_threads (with_before left_of before (own ++ r ∷ rest)) ≡ r ∷ past_threads (with_before left_of ((before ++ own) ++ r ∷ []) rest)
+  one-past before own r rest e f h =
+      let later = with_before left_of ((before ++ own) ++ r ∷ []) rest in
+      ap past_threads (with-more left_of before own (r ∷ rest))
+      ∙ past-append (with_before left_of before own) (left_of (before ++ own) r ++ later)
+      ∙ ap₂ (λ (xs ys : List Rec). xs ++ past_threads (ys ++ later)) (none-past before own e) h
+      ∙ past-false r later f
+
   stays : (m : List Rec) (i : Marked) → IsInstance m i → is_one_of gone i.segment ≡ false → IsInstance (recs_without Nameless gone m) i
   stays m i w h =
-      let front = recs_without Nameless gone w.before in
-      let second = w.before ++ w.segdef ∷ [] in
-      let third = second ++ w.pubdef ∷ [] in
-      let back = with_before left_of (third ++ w.mark ∷ []) w.after in
-      let rest = has-the-rest Nameless gone w.before in
+      let a = past-split m w.before w.segdef (w.pubdef ∷ w.mark ∷ w.after) w.split in
+      let b = past-split a.back [] w.pubdef (w.mark ∷ w.after) a.back_is in
+      let d = past-split b.back [] w.mark w.after b.back_is in
+      let front = recs_without Nameless gone a.front in
+      let second = a.front ++ w.segdef ∷ [] in
+      let third = (second ++ b.front) ++ w.pubdef ∷ [] in
+      let back = with_before left_of ((third ++ d.front) ++ w.mark ∷ []) d.back in
+      let rest = has-the-rest Nameless gone a.front in
       let whole = has-the-rest Nameless gone m in
-      let same : length (segments front) ≡ length (segments w.before) =
-      ap (λ (xs : List SegInfo). length xs) rest.left_segments ∙ length-map {B = SegInfo} (enumerate_from 1 (segments w.before)) (left_segment Nameless gone) ∙ length-enumerate_from 1 (segments w.before) in
+      let known : length (segments a.front) ≡ length (segments w.before) = ap (λ (xs : List SegInfo). length xs) (sym (segments-past a.front)) ∙ ap (λ (xs : List Rec). length (segments xs)) a.front_is in
+      let same : length (segments (past_threads front)) ≡ length (segments a.front) =
+      ap (λ (xs : List SegInfo). length xs) (segments-past front ∙ rest.left_segments) ∙ length-map {B = SegInfo} (enumerate_from 1 (segments a.front)) (left_segment Nameless gone) ∙ length-enumerate_from 1 (segments a.front) in
       let index = w.index_is in
+      let own : length (segments a.front) + 1 ≡ i.segment = omega (arith, known, index) in
+      let p = one-public i.segment w.pubdef.kind w.pubdef.contents i.name w.named in
+      let all : m ≡ a.front ++ w.segdef ∷ (b.front ++ w.pubdef ∷ (d.front ++ w.mark ∷ d.back)) =
+      a.whole ∙ ap (λ (xs : List Rec). a.front ++ w.segdef ∷ xs) (b.whole ∙ ap (λ (xs : List Rec). b.front ++ w.pubdef ∷ xs) d.whole) in
       record {
-        before = front;
+        before = past_threads front;
         segdef = w.segdef;
         pubdef = w.pubdef;
         mark = w.mark;
-        after = back;
+        after = past_threads back;
         split =
-            ap (recs_without Nameless gone) w.split ∙ with-more left_of [] w.before (w.segdef ∷ w.pubdef ∷ w.mark ∷ w.after)
-            ∙ ap (λ (rs : List Rec). front ++ rs)
-            (ap₂ (λ (xs ys : List Rec). xs ++ ys) (segment-stays w.before w.segdef w.item w.segment_is (ap (is_one_of gone) (sym w.index_is) ∙ h))
-            (ap₂ (λ (xs ys : List Rec). xs ++ ys) (public-stays second w.pubdef i.segment i.name (one-public i.segment w.pubdef.kind w.pubdef.contents i.name w.named) h)
-            (ap (λ (xs : List Rec). xs ++ back) (mark-stays third w.mark w.mark.contents i.selection w.selected))));
+            ap (λ (xs : List Rec). past_threads (recs_without Nameless gone xs)) all
+            ∙ ap past_threads (with-more left_of [] a.front (w.segdef ∷ (b.front ++ w.pubdef ∷ (d.front ++ w.mark ∷ d.back))))
+            ∙ past-append front (with_before left_of a.front (w.segdef ∷ (b.front ++ w.pubdef ∷ (d.front ++ w.mark ∷ d.back))))
+            ∙ ap (λ (xs : List Rec). past_threads front ++ xs)
+            (ap (λ (xs : List Rec). past_threads (xs ++ with_before left_of second (b.front ++ w.pubdef ∷ (d.front ++ w.mark ∷ d.back)))) (segment-stays a.front w.segdef w.item w.segment_is (ap (is_one_of gone) own ∙ h))
+            ∙ past-false w.segdef (with_before left_of second (b.front ++ w.pubdef ∷ (d.front ++ w.mark ∷ d.back))) (ap fixes_nothing w.segment_is)
+            ∙ ap (λ (xs : List Rec). w.segdef ∷ xs)
+            (one-past second b.front w.pubdef (d.front ++ w.mark ∷ d.back) b.front_is (ap fixes_nothing p.is) (public-stays (second ++ b.front) w.pubdef i.segment i.name p h)
+            ∙ ap (λ (xs : List Rec). w.pubdef ∷ xs)
+            (one-past third d.front w.mark d.back d.front_is (fixing-selected w.mark.contents i.selection w.selected) (mark-stays (third ++ d.front) w.mark w.mark.contents i.selection w.selected))));
         item = w.item;
         segment_is = w.segment_is;
-        index_is = omega (arith, same, index);
+        index_is = omega (arith, same, known, index);
         size_is = w.size_is;
         named = w.named;
         selected = w.selected;
@@ -484,7 +537,7 @@ module _ (name : List ℕ) (f : Marked → Bool) (m : List Rec) where
   left-by h [] e = none-left (definitions-left name (passing f (instances m)) m ∙ ap (filter (keeps name (passing f (instances m)))) (h.only ∙ ap (λ (js : List Marked). map (λ i. i.segment) js) e))
   left-by h (i ∷ []) e =
       let gone = passing f (instances m) in
-      let a = apart m 0 m in
+      let a = apart m 0 (past_threads m) in
       let among : is_one_of gone i.segment ≡ f i = only-passes f named (instances m) i a.1 e in
       let d : definitions name rest_of_module ≡ filter (keeps name gone) (i.segment ∷ []) =
       definitions-left name gone m ∙ ap (filter (keeps name gone)) (h.only ∙ ap (λ (js : List Marked). map (λ j. j.segment) js) e) in

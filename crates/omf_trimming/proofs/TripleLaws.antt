@@ -5,7 +5,7 @@ use Rattle.std.proofs.lemmas.List.Elements.{Contains-append_cases, Contains-appe
 use Rattle.omf_records.specs.Values.{Contents, Rec, Segment, SegmentItem}
 use Rattle.omf_check.specs.Tables.{segment_length, segments}
 use Rattle.omf_lowering.specs.Marks.{selection_by}
-use Rattle.omf_trimming.specs.Choice.{Marked, data_of, marked_at, marked_from, marked_if, name_by}
+use Rattle.omf_trimming.specs.Choice.{Marked, data_of, marked_at, marked_from, marked_if, name_by, past_threads}
 use Rattle.omf_trimming.specs.ChoiceLaws.{InstancesAreTriples, IsInstance}
 use Rattle.omf_trimming.specs.Without.{count_after}
 use Rattle.omf_trimming.proofs.RestLaws.{count-is, segments-more}
@@ -26,7 +26,7 @@ module _ (m before : List Rec) (r : Rec) (i : Marked) where
   abbrev own : ℕ
   own = length (segments before) + 1
 
-  by-options : (p mark : Rec) (after : List Rec) (item : SegmentItem) → m ≡ before ++ r ∷ p ∷ mark ∷ after → r.contents ≡ Segment item → (o : Option (List ℕ)) (s : Option ℕ)
+  by-options : (p mark : Rec) (after : List Rec) (item : SegmentItem) → past_threads m ≡ before ++ r ∷ p ∷ mark ∷ after → r.contents ≡ Segment item → (o : Option (List ℕ)) (s : Option ℕ)
       → name_by own p.kind p.contents ≡ o → selection_by mark.contents ≡ s → Contains (marked_if m own (segment_length r.kind item) o s) i → IsInstance m i
   by-options p mark after item e is (Some name) (Some selection) n k h = subst (IsInstance m) (contains-one _ i h) (record {
     before = before;
@@ -46,13 +46,13 @@ module _ (m before : List Rec) (r : Rec) (i : Marked) where
   by-options p mark after item e is None s n k h = contains-none i h
   by-options p mark after item e is (Some name) None n k h = contains-none i h
 
-  at-front : (rest : List Rec) → m ≡ before ++ r ∷ rest → (c : Contents) → r.contents ≡ c → Contains (marked_at m own r.kind c rest) i → IsInstance m i
+  at-front : (rest : List Rec) → past_threads m ≡ before ++ r ∷ rest → (c : Contents) → r.contents ≡ c → Contains (marked_at m own r.kind c rest) i → IsInstance m i
   at-front [] e (Segment item) is h = contains-none i h
   at-front (p ∷ []) e (Segment item) is h = contains-none i h
   at-front (p ∷ mark ∷ after) e (Segment item) is h = by-options p mark after item e is (name_by own p.kind p.contents) (selection_by mark.contents) refl refl h
   at-front rest e _ is h = contains-none i h
 
-found : (m before rest : List Rec) (i : Marked) → m ≡ before ++ rest → Contains (marked_from m (length (segments before)) rest) i → IsInstance m i
+found : (m before rest : List Rec) (i : Marked) → past_threads m ≡ before ++ rest → Contains (marked_from m (length (segments before)) rest) i → IsInstance m i
 found m before [] i e h = contains-none i h
 found m before (r ∷ rest) i e h =
     elim (Contains-append_cases (marked_at m (length (segments before) + 1) r.kind r.contents rest) (marked_from m (count_after (length (segments before)) r.contents) rest) i h) [
@@ -88,6 +88,6 @@ listed m i w done (r ∷ front) e =
 
 pub instances-are-triples : InstancesAreTriples
 instances-are-triples m i = (
-  found m [] m i refl,
+  found m [] (past_threads m) i refl,
   λ w. subst (λ (rs : List Rec). Contains (marked_from m 0 rs) i) (sym w.split) (listed m i w [] w.before refl),
 )

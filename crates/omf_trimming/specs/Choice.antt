@@ -1,14 +1,15 @@
 -- The choice among the COMDATs of one name in several modules, in the order of a link (TIS OMF 1.1, "COMDAT": a linker takes one instance, and leaves the others out
 -- with their fixups; the selection criteria).
 use Rattle.std.specs.Prelude.{ℕ, ◌+◌, List, [], ◌∷◌, ◌++◌, map, flat_map, filter, bytes_eq, Bool, false, not, ◌==◌, ◌&&◌, ◌||◌, Option, Some, None, if◌then◌else◌}
-use Rattle.std.specs.List.{AllZip}
+use Rattle.std.specs.List.{AllZip, list_any}
 use Rattle.std.specs.Cmp.Lexicographic.{pointwise}
 use Rattle.omf_frame.specs.Bytes.{with_before}
 use Rattle.omf_frame.specs.Types.{is_local}
-use Rattle.omf_records.specs.Values.{At, Contents, DataItem, Iterated, Plain, PublicItem, Publics, Rec, Segment}
+use Rattle.omf_records.specs.Values.{At, Contents, DataItem, Fixups, Iterated, Plain, PublicItem, Publics, Rec, Segment}
 use Rattle.omf_check.specs.Module.{Module, recs_of}
 use Rattle.omf_check.specs.Tables.{segment_length}
 use Rattle.omf_lowering.specs.Marks.{selection_by}
+use Rattle.omf_lowering.specs.Unrolled.{is_fixup}
 use Rattle.omf_trimming.specs.Without.{IsWithout, count_after}
 use Rattle.omf_trimming.specs.declared.without.LeftPublics.TheVariants.{Nameless}
 
@@ -59,9 +60,18 @@ abbrev pub marked_from : List Rec → ℕ → List Rec → List Marked
 marked_from m count [] = []
 marked_from m count (r ∷ rest) = marked_at m (count + 1) r.kind r.contents rest ++ marked_from m (count_after count r.contents) rest
 
+-- A FIXUPP without a FIXUP: it is empty, or sets THREADs alone (TIS OMF 1.1, "FIXUPP").
+abbrev pub fixes_nothing : Contents → Bool
+fixes_nothing (Fixups subs) = not (list_any (λ s. is_fixup s.item) subs)
+fixes_nothing _ = false
+
+-- The records of a module without these: such a FIXUPP is of no segment, wherever it is.
+abbrev pub past_threads : List Rec → List Rec
+past_threads m = filter (λ r. not (fixes_nothing r.contents)) m
+
 -- The instances of a module.
 abbrev pub instances : List Rec → List Marked
-instances m = marked_from m 0 m
+instances m = marked_from m 0 (past_threads m)
 
 -- Whether a selection lets a linker take one instance for another: 0, no match, never; 1, pick any, always; 2, same size, if the sizes are equal; 3, exact match, if the
 -- sizes and the data are equal; others never.

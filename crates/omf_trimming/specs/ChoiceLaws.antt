@@ -8,7 +8,7 @@ use Rattle.omf_check.specs.Module.{Module, records_in, recs_of, typed_modules}
 use Rattle.omf_check.specs.Tables.{segment_length, segments}
 use Rattle.omf_check.specs.WellFormed.{IsWellFormed}
 use Rattle.omf_lowering.specs.Marks.{selection_by}
-use Rattle.omf_trimming.specs.Choice.{AreChosen, Marked, agree, data_of, instances, name_by, with_left_out}
+use Rattle.omf_trimming.specs.Choice.{AreChosen, Marked, agree, data_of, instances, name_by, past_threads, with_left_out}
 use Rattle.omf_trimming.specs.Without.{recs_without}
 use Rattle.omf_trimming.specs.declared.without.LeftPublics.TheVariants.{Nameless}
 
@@ -24,14 +24,14 @@ UnmarkedStay = (ms out : List Module) → All HasNoMark ms → AreChosen ms out 
 abbrev pub FirstStays : Type 0
 FirstStays = (m o : Module) (ms out : List Module) → AreChosen (m ∷ ms) (o ∷ out) → o ≡ m
 
--- An instance of a module: three records one after another, a SEGDEF, a PUBDEF of one name whose base is that segment, and a mark.
+-- An instance of a module: three records, a SEGDEF, a PUBDEF of one name whose base is that segment, and a mark; nothing is between them but FIXUPPs without a FIXUP.
 pub record IsInstance (m : List Rec) (i : Marked) : Type 0 where
   pub before : List Rec
   pub segdef : Rec
   pub pubdef : Rec
   pub mark : Rec
   pub after : List Rec
-  pub split : m ≡ before ++ segdef ∷ pubdef ∷ mark ∷ after
+  pub split : past_threads m ≡ before ++ segdef ∷ pubdef ∷ mark ∷ after
   pub item : SegmentItem
   pub segment_is : segdef.contents ≡ Segment item
   pub index_is : i.segment ≡ length (segments before) + 1

@@ -29,7 +29,7 @@ fn all_left_out(alloc: Global, modules: &[Checked]) -> Result<Vec<Vec<u16>>, All
 }
 
 /// Accepted modules in the order of a link, each without the instances that a linker leaves out. An instance is a COMDAT as `lowered` replaces it: a SEGDEF, a PUBDEF
-/// of one name in that segment, and a mark. The first instance of a name stays. One of a later module is left out if the selections of both allow it: its public name, its
+/// of one name in that segment, and a mark, with nothing between them but FIXUPPs without a FIXUP. The first instance of a name stays. One of a later module is left out if the selections of both allow it: its public name, its
 /// data and their fixups go, and its segment stays with a length of 0, so that all indices are the same. One that is not left out stays, and its name is then defined
 /// twice. A module that nothing is left out of is returned as it is.
 ///

@@ -5,7 +5,7 @@ use Rattle.std.specs.BTreeMap.{BTreeMap, get_by}
 use Rattle.omf_names.specs.Names.{name_cmp}
 use Rattle.omf_records.specs.Values.{Rec}
 use Rattle.omf_lowering.specs.Marks.{selection_by}
-use Rattle.omf_trimming.specs.Choice.{Marked, first_named, is_left_out, marked_after, marked_from, marked_if}
+use Rattle.omf_trimming.specs.Choice.{Marked, first_named, is_left_out, marked_after, marked_from, marked_if, past_threads}
 use Rattle.omf_trimming.specs.declared.choice.marked.Begun.{Begun}
 use Rattle.omf_trimming.specs.declared.choice.marked.Begun.TheVariants.{Named, Nothing, Segment}
 
@@ -32,7 +32,7 @@ ended m _ selection = []
 
 -- The instances to come.
 abbrev pub to_come : List Rec → ℕ → Begun → List Rec → List Marked
-to_come m count b left = begun_rest m count b left ++ marked_from m count left
+to_come m count b left = begun_rest m count b (past_threads left) ++ marked_from m count (past_threads left)
 
 -- A table has the first of these instances for each name.
 abbrev pub AreFirsts : BTreeMap (Bor (List ℕ)) Marked → List Marked → Type 0

@@ -1,16 +1,19 @@
 //! The instances of a module: COMDATs as `lowered` replaces them.
 
-ghost use Rattle.std.specs.Prelude.{◌≡◌, ◌==◌, ◌≤◌, ◌+◌, ◌∷◌, ◌++◌, IfOk, IfSome, IfNone, OnOk, None, Some, List, true};
+ghost use Rattle.std.specs.Prelude.{◌≡◌, ◌==◌, ◌≤◌, ◌+◌, ◌∷◌, ◌++◌, IfOk, IfSome, IfNone, OnOk, None, Some, List, ℕ, true};
+ghost use Rattle.std.specs.List.{list_any};
+ghost use Rattle.omf_check.specs.Inner.Contents.{references_seen};
 ghost use Rattle.omf_check.specs.Module.{recs_of};
 ghost use Rattle.omf_check.specs.Tables.{segment_length};
 ghost use Rattle.omf_records.specs.Values.{Rec};
 ghost use Rattle.omf_lowering.specs.Marks.{selection_by};
-ghost use Rattle.omf_trimming.specs.Choice.{instances, name_by, only_name};
+ghost use Rattle.omf_lowering.specs.Unrolled.{is_fixup};
+ghost use Rattle.omf_trimming.specs.Choice.{fixes_nothing, instances, marked_after, marked_if, name_by, only_name, past_threads};
 ghost use Rattle.omf_trimming.specs.Inner.Choosing.{begun_rest, ended, marked_named, option_list};
 
-use omf_check::{Checked, Publics, Undecoded};
+use omf_check::{Checked, Publics, References, Undecoded};
 use omf_lowering::selection_of;
-use omf_records::{Items, Public, Segment};
+use omf_records::{Items, Part, Public, Segment, Subrecord};
 use std::alloc::{AllocError, Global};
 use std::marker::Model;
 
@@ -135,13 +138,85 @@ fn ended_by<'a>(
     })
 }
 
+/// Whether a subrecord is a FIXUP.
+fn is_fixup(subrecord: &Subrecord<'_>) -> bool
+    ensures { result ≡ is_fixup subrecord.now }
+{
+    match &subrecord.part {
+        Part::Thread { .. } => false,
+        Part::Fixup { .. } => true,
+    }
+}
+
+/// Whether one of the subrecords is a FIXUP.
+fn has_fixup(subrecords: Items<Subrecord<'_>>) -> bool
+    ensures { result ≡ list_any (λ s. is_fixup s.item) subrecords.entry }
+{
+    for next in subrecords {
+        if is_fixup(&next.item) {
+            return true;
+        }
+    }
+    false
+}
+
+/// Whether these are those of a FIXUPP without a FIXUP.
+fn fix_nothing(references: &References<'_>) -> bool
+    ensures { result ≡ fixes_nothing (references_seen references.now).contents }
+{
+    match references {
+        References::Fixups { subrecords, .. } => !has_fixup(subrecords.iter()),
+        References::ModEnd { .. } => false,
+    }
+}
+
+/// Whether a record is a FIXUPP without a FIXUP.
+fn fixes_nothing(record: &Undecoded<'_>) -> bool
+    ensures { result ≡ fixes_nothing record.now.contents }
+{
+    match record.as_references() {
+        Some(references) => fix_nothing(&references),
+        None => false,
+    }
+}
+
+/// What a record begins after a SEGDEF of this length; a FIXUPP without a FIXUP is passed over.
+fn after_segment<'a>(size: u64, segments: u64, record: &Undecoded<'a>) -> Begun<'a>
+    ensures { (m rest : List Rec) → marked_after m segments size (past_threads (record.now ∷ rest)) ≡ begun_rest m segments result (past_threads rest) }
+{
+    if fixes_nothing(record) {
+        return Begun::Segment { size };
+    }
+    begun_after(size, segments, record)
+}
+
+/// What is begun after a record that follows a SEGDEF and a PUBDEF: nothing, whether it is a mark or not. A FIXUPP without a FIXUP is passed over.
+fn after_name<'a>(segment: u16, size: u64, name: &'a [u8], record: &Undecoded<'a>) -> Begun<'a>
+    ensures { (m rest : List Rec) (count : ℕ) → marked_named m segment size (Some name.entry.now) (past_threads (record.now ∷ rest))
+        ≡ marked_if m segment size (Some name.entry.now) (selection_by record.now.contents) ++ begun_rest m count result (past_threads rest) }
+{
+    if fixes_nothing(record) {
+        return Begun::Named {
+            segment,
+            size,
+            name,
+        };
+    }
+    Begun::Nothing
+}
+
 /// What a record that is no SEGDEF begins, after what the last records begin, with this number of SEGDEFs so far.
 fn next<'a>(begun: &Begun<'a>, segments: u64, record: &Undecoded<'a>) -> Begun<'a>
-    ensures { (m rest : List Rec) → begun_rest m segments begun.now (record.now ∷ rest) ≡ ended m begun.now (selection_by record.now.contents) ++ begun_rest m segments result rest }
+    ensures { (m rest : List Rec) → begun_rest m segments begun.now (past_threads (record.now ∷ rest)) ≡ ended m begun.now (selection_by record.now.contents) ++ begun_rest m segments result (past_threads rest) }
 {
     match begun {
-        Begun::Segment { size } => begun_after(*size, segments, record),
-        Begun::Nothing | Begun::Named { .. } => Begun::Nothing,
+        Begun::Nothing => Begun::Nothing,
+        Begun::Segment { size } => after_segment(*size, segments, record),
+        Begun::Named {
+            segment,
+            size,
+            name,
+        } => after_name(*segment, *size, name, record),
     }
 }
 
@@ -163,8 +238,8 @@ fn push_some<'a>(found: &mut Vec<Marked<'a>>, marked: Option<Marked<'a>>) -> Res
     Ok(())
 }
 
-/// The instances of a module: each is a SEGDEF, a PUBDEF of one name in its segment, and a mark, one after another. No other record is decoded, but a PUBDEF after
-/// a SEGDEF.
+/// The instances of a module: each is a SEGDEF, a PUBDEF of one name in its segment, and a mark, with nothing between them but FIXUPPs without a FIXUP. No other record
+/// is decoded, but a PUBDEF after a SEGDEF.
 pub(crate) fn instances<'a>(
     alloc: Global,
     module: &'a Checked,

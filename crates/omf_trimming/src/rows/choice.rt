@@ -11,9 +11,11 @@ ghost use Rattle.omf_trimming.specs.Clashes.{clashes};
 ghost use Rattle.omf_trimming.specs.ChoiceRows.{exact_match, in_module, left_out_after, no_match, pick_any, same_size, with_mark, with_other_data, with_other_size};
 ghost use Rattle.omf_lowering.specs.Rows.{base, f_data, f_public, f_segment};
 
-/// An instance: a SEGDEF, a PUBDEF of one name in that segment, and a mark, one after another. Without one of them there is none.
+/// An instance: a SEGDEF, a PUBDEF of one name in that segment, and a mark, with at most THREADs between them. Without one of them there is none.
 pub fn instances_of_modules()
     ensures one { instances (recs_of (with_mark pick_any)) ≡ record { name = codes "f"; segment = 2; selection = 1; size = 3; data_pieces = (0xA0 ∷ 0 ∷ 0xB8 ∷ 0 ∷ 0 ∷ []) ∷ [] } ∷ [] }
+    ensures threads { instances (recs_of (base ++ f_segment ++ hex (codes "9C 03 00 00 01 60") ++ f_public ++ hex (codes "9C 01 00 63") ++ pick_any ++ f_data ++ M)) ≡ instances (recs_of (with_mark pick_any)) }
+    ensures fixup { instances (recs_of (base ++ f_segment ++ hex (codes "9C 08 00 00 01 C4 01 04 01 01 90") ++ f_public ++ pick_any ++ f_data ++ M)) ≡ [] }
     ensures unmarked { instances (recs_of (base ++ f_segment ++ f_public ++ f_data ++ M)) ≡ [] }
     ensures unnamed { instances (recs_of (base ++ f_segment ++ pick_any ++ f_data ++ M)) ≡ [] }
     ensures local { instances (recs_of (base ++ f_segment ++ hex (codes "B7 0A 00 00 02 01 66 00 00 00 00 00 D6") ++ pick_any ++ f_data ++ M)) ≡ [] }
