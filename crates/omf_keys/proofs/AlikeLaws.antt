@@ -1,4 +1,4 @@
--- Modules of equal keys are alike one by one.
+-- Modules of equal keys have the same pieces one by one.
 use Rattle.std.proofs.Common.{List, [], ◌∷◌}
 use Rattle.std.specs.List.{AllZip}
 use Rattle.omf_check.specs.Module.{Module, typed_modules}

@@ -82,7 +82,7 @@ module _ (places : PlacesByKeys) (externals : ExternalsByKeys) (moves : MoversBy
     those : ys ≡ others ns ms members made
     those = sym (members-at 0 ns made.placements made.movers)
 
-    -- What is said of the members is said of the others, if it is of these two.
+    -- What holds of the members holds of the others, if it does of these two.
     pub carried : (P : List Member → Type 0) → (P xs → P ys) → P members → P (others ns ms members made)
     carried P over p = subst P those (over (subst P these p))
 

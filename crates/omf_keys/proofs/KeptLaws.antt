@@ -28,7 +28,7 @@ module _ {A : Type 0} (k : ℕ → Contents → List A) (is : IsKeptTable k) whe
   pub same-records : (m n : List Rec) → bare_pieces m ≡ bare_pieces n → flat_map (λ r. k r.kind r.contents) m ≡ flat_map (λ r. k r.kind r.contents) n
   same-records m n h = same-table kept_of (λ kind fs. refl) (λ r. k r.kind r.contents) (λ earlier r. kept-piece earlier r.kind r.contents) m n h
 
--- Whatever a test says.
+-- Whatever a test gives.
 pub either : {A : Type 0} (b : Bool) (x : A) → cond b x x ≡ x
 either true x = refl
 either false x = refl

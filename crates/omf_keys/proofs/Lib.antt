@@ -22,3 +22,4 @@ pub mod SymbolLaws
 pub mod FileLaws
 pub mod RestLaws
 pub mod WithoutLaws
+pub mod ChosenLaws

@@ -73,6 +73,6 @@ module _ {X Y : Type 0} (R : X → Y → Type 0) where
   zip-beside (x ∷ xs) (y ∷ ys) [] h = tt
   zip-beside (x ∷ xs) (y ∷ ys) (z ∷ zs) h = ((h.0, refl), zip-beside xs ys zs h.1)
 
-  -- What is said of each pair with one value is said of pairs with equal ones.
+  -- What holds of each pair with one value holds of pairs with equal ones.
   pub by-value : {Z B : Type 0} (f : X × Z → B) (g : Y × Z → B) → ((x : X) (y : Y) (z : Z) → R x y → f (x, z) ≡ g (y, z)) → (a : X × Z) (b : Y × Z) → Beside a b → f a ≡ g b
   by-value {Z} f g same a b h = same a.0 b.0 a.1 h.0 ∙ ap (λ (z : Z). g (b.0, z)) h.1

@@ -152,7 +152,7 @@ source-lines j m n pl h =
 
 -- ---- the map
 
--- What is said of each module with one value, of modules with equal values.
+-- The same of each module with one value, for modules with equal values.
 enum-beside : {Z : Type 0} (f : ℕ × (List Rec × Z) → List ℕ) → ((j : ℕ) (m n : List Rec) (z : Z) → AreAlike m n → f (j, (m, z)) ≡ f (j, (n, z)))
     → (xs ys : List (List Rec × Z)) → AllZip (λ a b. Beside AreAlike a b) xs ys → flat_map f (enumerate_from 1 xs) ≡ flat_map f (enumerate_from 1 ys)
 enum-beside f same xs ys all = enum-flat (λ a b. Beside AreAlike a b) f f (λ j. by-value AreAlike (λ a. f (j, a)) (λ b. f (j, b)) (same j)) 1 xs ys all

@@ -1,4 +1,4 @@
--- Modules lay the same chunks, have the same portions of memory, and the same start.
+-- Modules have the same chunks, the same portions of memory, and the same start.
 use Rattle.std.proofs.Common.{◌≡◌, ℕ, ◌+◌, List, [], ◌∷◌, ◌++◌, refl, sym, ◌∙◌, ap, ap₂}
 use Rattle.std.specs.Prelude.{map, flat_map, filter_map, zip, Option, Some, None}
 use Rattle.std.specs.List.{cons_option}

@@ -67,7 +67,7 @@ name-told m a = name-of m.profile m.bytes (records_in m.bytes) (well-read m.prof
 pub same-names : (m n : Module) → IsAcceptedModule m → IsAcceptedModule n → bare_pieces (recs_of m.bytes) ≡ bare_pieces (recs_of n.bytes) → module_name (recs_of m.bytes) ≡ module_name (recs_of n.bytes)
 same-names m n a b h = name-told m a ∙ ap first_name h ∙ sym (name-told n b)
 
--- Modules that are alike and have one name.
+-- Modules of the same pieces and one name.
 pub record AreNamesakes (m n : List Rec) : Type 0 where
   pub alike : AreAlike m n
   pub name : module_name m ≡ module_name n

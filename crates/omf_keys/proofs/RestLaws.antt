@@ -98,10 +98,10 @@ threads-set (s ∷ subs) b k = elim (cases_Bool (is_thread s.item)) [
 
 -- ---- the bare pieces of the records after others
 
-abbrev bare_from : List Rec → List Rec → List Piece
+abbrev pub bare_from : List Rec → List Rec → List Piece
 bare_from before m = flat_map one_by_one (with_before normal_at before m)
 
-bare-told : (m : List Rec) → bare_pieces m ≡ bare_from [] m
+pub bare-told : (m : List Rec) → bare_pieces m ≡ bare_from [] m
 bare-told m = single-normal (pieces m) ∙ ap (flat_map one_by_one) (normal-pieces m)
 
 -- Places do not matter.

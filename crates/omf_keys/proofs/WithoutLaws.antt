@@ -35,7 +35,7 @@ module _ (well : RestsAreWellFormed) (typed : RestsAreTyped) where
   is-left s ss m o a w = subst (IsLeft (s ∷ ss) m) (sym w) (left-bytes (s ∷ ss) m a)
 
   module _ (decide : CanonicalsDecide) (unique : SkeletonsAreUnique) (stand : FixupsStandAlone) (joined : SkeletonsAreJoined) (pieces : PiecesByKeys) where
-    -- Accepted modules that are alike have one key.
+    -- Accepted modules of the same pieces have one key.
     pub one-key : (m n : Module) → IsAcceptedModule m → IsAcceptedModule n → AreAlike (recs_of m.bytes) (recs_of n.bytes) → HaveOneKey m n
     one-key m n a b h = record {
       first = a;

@@ -1,7 +1,7 @@
 //! Laws about modules of equal keys, each the contract of an empty function.
 
 ghost use Rattle.omf_keys.specs.Laws.{PiecesByKeys, TablesByKeys, MeaningsByKeys, ExternalsByKeys};
-ghost use Rattle.omf_keys.specs.Chosen.{WithoutByKeys};
+ghost use Rattle.omf_keys.specs.Chosen.{ChosenByKeys, WithoutByKeys};
 ghost use Rattle.omf_keys.specs.Files.{ExesByKeys, ComsByKeys, MapsByKeys, SymbolsByKeys};
 ghost use Rattle.omf_keys.specs.Maps.{ListingsByKeys};
 ghost use Rattle.omf_keys.specs.Memory.{MemoriesByKeys, TextsByKeys};
@@ -146,4 +146,12 @@ pub fn without_by_keys()
     fixups_stand_alone();
     skeletons_are_joined();
     pieces_by_keys();
+}
+
+/// After the choice among COMDATs modules of equal keys have equal keys.
+pub fn chosen_by_keys()
+    ensures { ChosenByKeys }
+{
+    pieces_by_keys();
+    without_by_keys();
 }
