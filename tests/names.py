@@ -145,8 +145,8 @@ def keys(head, row):
 
 
 def cells(line):
-    """The keys of an object as cells, with names as CSV escapes them."""
-    shown = {key: escaped(it, True).replace('""', '"') if key in ("file", "name", "segment", "symbol") else it for key, it in line.items()}
+    """The keys of an object as cells, with names as CSV escapes them. A module's number is in the cell of a member's."""
+    shown = {"member" if key == "module" else key: escaped(it, True).replace('""', '"') if key in ("file", "name", "segment", "symbol") else it for key, it in line.items()}
     return {key: str(it).lower() if isinstance(it, bool) else str(it) for key, it in shown.items()}
 
 
@@ -164,28 +164,49 @@ def lists(folder, what, names):
         same((what, "csv", words), read_csv(run("--names", "--csv", *words, what, folder=folder)), [cells(it) for it in expected])
 
 
+# The first with a byte of an LEDATA changed, and why that is refused: 8 records up to the SEGDEFs, 8 of externals and comments on them, 8 of publics, 4 comments.
+BAD = KINDS.replace(b"\x90\x90\xC3\x90", b"\x90\x90\xC3\x91")
+REFUSAL = {"refused": 6, "reason": "Checksum", "record": 28, "at": KINDS.index(b"\xA0\x08\x00\x01\0\0\x90\x90"), "within": 10}
+REFUSAL_LINE = f"refused 6 Checksum record 28 at {REFUSAL['at']} within 10"
+
+
+def lists_of_parts(folder, what, parts, end, last):
+    """All lists of a file with both modules, a refused one between them, and a fault `last` of its pages, if there is one: each part has the words of its lines and its keys."""
+    (first, of_first), (bad, of_bad), (odd, of_odd) = parts
+    refusal, accepted = {**of_bad, **REFUSAL}, ({**of_first, "records": 32, "bytes": len(KINDS)}, {**of_odd, "records": len(ODD) + 2, "bytes": len(ODD_MODULE)})
+    names = [*(text_line(f"{what}: {first}: ", it) for it in KINDS_NAMES), f"{what}: {bad}: {REFUSAL_LINE}", *(text_line(f"{what}: {odd}: ", it) for it in ODD_NAMES), *last]
+    same((what, "names"), run("--names", what, status=1, folder=folder).splitlines(), names)
+    expected = [*(keys(of_first, it) for it in KINDS_NAMES), refusal, *(keys(of_odd, it) for it in ODD_NAMES), *end]
+    same((what, "names json"), [json.loads(it) for it in run("--names", "--json", what, status=1, folder=folder).splitlines()], expected)
+    same((what, "names csv"), read_csv(run("--names", "--csv", what, status=1, folder=folder)), [cells(it) for it in expected])
+    verdicts = [f"{what}: {first}: OK 32 records, {len(KINDS)} bytes", f"{what}: {bad}: {REFUSAL_LINE}", f"{what}: {odd}: OK {len(ODD) + 2} records, {len(ODD_MODULE)} bytes", *last]
+    same((what, "verdicts"), run("--verdict", what, status=1, folder=folder).splitlines(), verdicts)
+    expected = [accepted[0], refusal, accepted[1], *end]
+    same((what, "verdicts json"), [json.loads(it) for it in run("--verdict", "--json", what, status=1, folder=folder).splitlines()], expected)
+    rows = list(csv.DictReader(io.StringIO(run("--verdict", "--csv", what, status=1, folder=folder), newline=""), strict=True))
+    same((what, "verdicts csv"), [{key: it for key, it in row.items() if it != ""} for row in rows], [cells(it) for it in expected])
+
+
+def parts_named(what, key):
+    """The words of the lines of the modules in a file, and their keys."""
+    shown = (("kinds.asm", "kinds.asm"), ("kinds.asm", "kinds.asm"), ('x\\x22,y', 'x",y'))
+    return [(f'{key} {index} "{words}"', {"file": what, key: index, "name": it}) for index, (words, it) in enumerate(shown)]
+
+
+def several(folder):
+    """A file of modules with padding after each, and with another byte after the padding of the last."""
+    (folder / "three.obj").write_bytes(KINDS + b"\x1A\x1A" + BAD + b"\0" + ODD_MODULE + b"\x1A\0")
+    lists_of_parts(folder, "three.obj", parts_named("three.obj", "module"), [], [])
+    (folder / "padded.obj").write_bytes(ODD_MODULE + bytes(3))
+    same("padded", run("--verdict", "padded.obj", folder=folder), f"padded.obj: OK {len(ODD) + 2} records, {len(ODD_MODULE)} bytes\n")
+
+
 def library(folder):
-    """A library of both modules, of a refused one between them, and with no F1H: pages of 16 bytes."""
-    bad = KINDS.replace(b"\x90\x90\xC3\x90", b"\x90\x90\xC3\x91")
+    """A library of modules with no F1H: pages of 16 bytes."""
     pad = lambda data: data + bytes(-len(data) % 16)
-    (folder / "three.lib").write_bytes(pad(record(0xF0, bytes(12))) + pad(KINDS) + pad(bad) + pad(ODD_MODULE))
-    at = KINDS.index(b"\xA0\x08\x00\x01\0\0\x90\x90")
-    # 8 records up to the SEGDEFs, 8 of externals and comments on them, 8 of publics, 4 comments.
-    number = 28
-    first, last = ({"file": "three.lib", "member": index, "name": it} for index, it in ((0, "kinds.asm"), (2, 'x",y')))
-    refusal = {"file": "three.lib", "member": 1, "name": "kinds.asm", "refused": 6, "reason": "Checksum", "record": number, "at": at, "within": 10}
+    (folder / "three.lib").write_bytes(pad(record(0xF0, bytes(12))) + pad(KINDS) + pad(BAD) + pad(ODD_MODULE))
     end = {"file": "three.lib", "fault": "NoEnd", "member": 3, "at": (folder / "three.lib").stat().st_size}
-    verdict = f"refused 6 Checksum record {number} at {at} within 10"
-    expected = [*(keys(first, it) for it in KINDS_NAMES), refusal, *(keys(last, it) for it in ODD_NAMES), end]
-    lines = [*(text_line('three.lib: member 0 "kinds.asm": ', it) for it in KINDS_NAMES), f'three.lib: member 1 "kinds.asm": {verdict}',
-             *(text_line('three.lib: member 2 "x\\x22,y": ', it) for it in ODD_NAMES), f"three.lib: fault NoEnd member 3 at {end['at']}"]
-    same("library", run("--names", "three.lib", status=1, folder=folder).splitlines(), lines)
-    same("library json", [json.loads(it) for it in run("--names", "--json", "three.lib", status=1, folder=folder).splitlines()], expected)
-    same("library csv", read_csv(run("--names", "--csv", "three.lib", status=1, folder=folder)), [cells(it) for it in expected])
-    verdicts = [{**first, "records": 32, "bytes": len(KINDS)}, refusal, {**last, "records": len(ODD) + 2, "bytes": len(ODD_MODULE)}, end]
-    same("verdicts json", [json.loads(it) for it in run("--verdict", "--json", "three.lib", status=1, folder=folder).splitlines()], verdicts)
-    rows = list(csv.DictReader(io.StringIO(run("--verdict", "--csv", "three.lib", status=1, folder=folder), newline=""), strict=True))
-    same("verdicts csv", [{key: it for key, it in row.items() if it != ""} for row in rows], [cells(it) for it in verdicts])
+    lists_of_parts(folder, "three.lib", parts_named("three.lib", "member"), [end], [f"three.lib: fault NoEnd member 3 at {end['at']}"])
     if shutil.which("sqlite3"):
         (folder / "three.csv").write_text(run("--names", "--csv", "three.lib", status=1, folder=folder), encoding="latin-1")
         done = subprocess.run(["sqlite3", "three.db", ".import --csv three.csv names", "SELECT count(*), count(DISTINCT symbol) FROM names WHERE kind <> ''"], cwd=folder, capture_output=True, text=True, check=False)
@@ -359,6 +380,7 @@ def look_at_written():
         lists(folder, "kinds.obj", KINDS_NAMES)
         lists(folder, 'odd ",.obj', ODD_NAMES)
         library(folder)
+        several(folder)
         misused(folder)
         if shutil.which("nasm"):
             assembled(folder)

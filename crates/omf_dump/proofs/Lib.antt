@@ -3,6 +3,7 @@ pub mod BlockLaws
 pub mod DeltaLaws
 pub mod ExpandedLaws
 pub mod FileLaws
+pub mod FurtherLaws
 pub mod GivesLaws
 pub mod HeaderLaws
 pub mod ItemLaws

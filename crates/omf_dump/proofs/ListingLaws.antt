@@ -9,8 +9,9 @@ use Rattle.omf_library.specs.Spans.{AreSpansIn}
 use Rattle.omf_library.specs.declared.spans.Span.{Span}
 use Rattle.omf_library.specs.declared.spans.SpanFault.{SpanFault}
 use Rattle.omf_dump.specs.Library.{Shows}
-use Rattle.omf_dump.specs.Listing.{AreListed, IsEndListed, IsLibraryListed, IsListed, member_head}
+use Rattle.omf_dump.specs.Listing.{AreListed, IsEndListed, IsLibraryListed, IsListed, position_head}
 use Rattle.omf_dump.specs.declared.format.Listing.{Listing}
+use Rattle.omf_dump.specs.declared.position.Position.TheVariants as position
 
 or_swaps : (a b c : Bool) → ((a || b) || c) ≡ (a || (b || c))
 or_swaps true b c = refl
@@ -30,7 +31,7 @@ all_left l head members old = ([], Appends-nil old, λ others more j. j)
 
 pub one_listed : (l : Listing) (head : List ℕ) (number : ℕ) (m : Span) (left members : List Span) (is_refused is_faulty either : Bool) (old mid new : Option (List ℕ))
     → IsLeft l head number (m ∷ left) members is_refused old mid
-    → Shows mid new (IsListed l (head ++ member_head l.shape number m.bytes.now) m.bytes.now is_faulty) → either ≡ (is_refused || is_faulty)
+    → Shows mid new (IsListed l (head ++ position_head l.shape (position.Member number) m.bytes.now) m.bytes.now is_faulty) → either ≡ (is_refused || is_faulty)
     → IsLeft l head (number + 1) left members either old new
 one_listed l head number m left members is_refused is_faulty either old mid new h s e = (
   h.0 ++ s.0,
@@ -73,7 +74,7 @@ library_listed l head bytes members end page shown has_refused is_faulty either 
 -- a turn: the first member of those that are left is listed
 pub turn : (l : Listing) (head : List ℕ) (number : ℕ) (m : Span) (rest left members : List Span) (is_refused is_faulty either : Bool) (old mid new : Option (List ℕ))
     → rest ≡ m ∷ left → IsLeft l head number rest members is_refused old mid
-    → Shows mid new (IsListed l (head ++ member_head l.shape number m.bytes.now) m.bytes.now is_faulty) → either ≡ (is_refused || is_faulty)
+    → Shows mid new (IsListed l (head ++ position_head l.shape (position.Member number) m.bytes.now) m.bytes.now is_faulty) → either ≡ (is_refused || is_faulty)
     → IsLeft l head (number + 1) left members either old new
 turn l head number m rest left members is_refused is_faulty either old mid new r h s e
     = one_listed l head number m left members is_refused is_faulty either old mid new (subst (λ (ms : List Span). IsLeft l head number ms members is_refused old mid) r h) s e

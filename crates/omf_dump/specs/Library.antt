@@ -36,6 +36,20 @@ after_member skipped [] = []
 after_member (suc skipped) (b ∷ bytes) = after_member skipped bytes
 after_member zero (kind ∷ bytes) = if is_end kind then after_front (kind ∷ bytes) else after_member (record_len (kind ∷ bytes) - 1) bytes
 
+-- Bytes without those of one value at their front.
+abbrev pub without : ℕ → List ℕ → List ℕ
+without v [] = []
+without v (b ∷ bytes) = if b == v then without v bytes else b ∷ bytes
+
+-- Bytes without the padding at their front: bytes of one value, 00H or 1AH. omf-link takes the same for padding.
+abbrev pub unpadded : List ℕ → List ℕ
+unpadded [] = []
+unpadded (b ∷ bytes) = if b == 0x00 then without 0x00 (b ∷ bytes) else if b == 0x1A then without 0x1A (b ∷ bytes) else b ∷ bytes
+
+-- The bytes after the module at the front and its padding; none if no module begins there.
+abbrev pub after_module : List ℕ → List ℕ
+after_module bytes = if is_header (front_kind bytes) then unpadded (after_member 0 bytes) else []
+
 -- The title of a member: its number from 0, its page, its offset in the library; and its name, that of its THEADR or LHEADR, if it is all there.
 abbrev pub module_name : List ℕ → List Field
 module_name bytes = name_before (codes "name") (λ rest. []) (counted (front_record bytes).body)

@@ -4,7 +4,7 @@ ghost use Rattle.std.specs.Prelude.{◌≡◌, ◌<◌, ◌++◌, IfOk};
 ghost use Rattle.omf_frame.specs.Bytes.{AddsText};
 ghost use Rattle.omf_dump.specs.Csv.{csv_name};
 ghost use Rattle.omf_dump.specs.Library.{Shows};
-ghost use Rattle.omf_dump.specs.Listing.{AreListed, IsEndListed, IsInputListed, IsLibraryListed, IsListed, IsListedAs, columns, fault_cells, fault_name, fault_object, fault_spot, fault_text, fault_words, file_head, header_line, lone_head, member_head, member_name};
+ghost use Rattle.omf_dump.specs.Listing.{AreListed, AreModulesListed, IsEndListed, IsInputListed, IsLibraryListed, IsListed, IsListedAs, columns, fault_cells, fault_name, fault_object, fault_spot, fault_text, fault_words, file_head, first_position, header_line, lone_head, member_name, numbered_head, position_head};
 ghost use Rattle.omf_dump.specs.Render.{name_beside};
 ghost use Rattle.omf_library.specs.Library.{HasHeader, page_size};
 
@@ -12,12 +12,15 @@ use crate::comment::counted;
 use crate::csv::put_csv_quoted;
 use crate::fault::DumpFault;
 use crate::format::{Format, Listing, Shape, Subject};
+use crate::later::front_kind;
 use crate::library::{front_contents, is_either};
 use crate::naming::show_names;
 use crate::output::send;
+use crate::padding::after_module;
+use crate::position::Position;
 use crate::value::{put_name, put_quoted};
 use crate::verdict::{put_count, put_gap, show_verdict};
-use omf_frame::Sink;
+use omf_frame::{Sink, is_header};
 use omf_host::put_decimal;
 use omf_library::{Span, SpanFault, read_header, spans_in};
 use std::alloc::{AllocError, Global};
@@ -64,7 +67,7 @@ fn put_file(text: &mut Vec<u8>, shape: Shape, file: &[u8]) -> Result<(), AllocEr
     }
 }
 
-/// The name of the member that these bytes begin with.
+/// The name of the module that these bytes begin with.
 fn put_member_name(text: &mut Vec<u8>, format: Format, bytes: &[u8]) -> Result<(), AllocError>
     ensures { AddsText result text.old.items text.new.items (name_beside format (member_name bytes.now)) }
 {
@@ -88,18 +91,27 @@ fn put_member_cell(text: &mut Vec<u8>, bytes: &[u8]) -> Result<(), AllocError>
     }
 }
 
-/// The number and the name of the member that these bytes begin with.
-fn put_member(text: &mut Vec<u8>, shape: Shape, number: u64, bytes: &[u8]) -> Result<(), AllocError>
-    ensures { AddsText result text.old.items text.new.items (member_head shape number bytes.now) }
+/// The number and the name of the module that these bytes begin with, after the word for it.
+fn put_numbered(
+    text: &mut Vec<u8>,
+    shape: Shape,
+    word: &str,
+    number: u64,
+    bytes: &[u8],
+) -> Result<(), AllocError>
+    ensures { AddsText result text.old.items text.new.items (numbered_head shape word.now number bytes.now) }
 {
     match shape {
         Shape::Text => {
-            put_count(text, b"member ", number)?;
+            text.extend_from_slice(word.as_bytes())?;
+            put_count(text, b" ", number)?;
             put_member_name(text, Format::Text, bytes)?;
             text.extend_from_slice(b": ")
         }
         Shape::Json => {
-            put_count(text, b",\"member\":", number)?;
+            text.extend_from_slice(b",\"")?;
+            text.extend_from_slice(word.as_bytes())?;
+            put_count(text, b"\":", number)?;
             put_member_name(text, Format::Json, bytes)
         }
         Shape::Csv => {
@@ -110,19 +122,46 @@ fn put_member(text: &mut Vec<u8>, shape: Shape, number: u64, bytes: &[u8]) -> Re
     }
 }
 
-/// The head of the line of a member.
-fn member_head(
+/// The same of the only module of a file: these cells are empty.
+fn put_lone(text: &mut Vec<u8>, shape: Shape) -> Result<(), AllocError>
+    ensures { AddsText result text.old.items text.new.items (lone_head shape) }
+{
+    match shape {
+        Shape::Text => Ok(()),
+        Shape::Json => Ok(()),
+        Shape::Csv => text.extend_from_slice(b",,"),
+    }
+}
+
+/// Where the module that these bytes begin with is in its file, with its name if it is not the only one.
+fn put_position(
+    text: &mut Vec<u8>,
+    shape: Shape,
+    position: Position,
+    bytes: &[u8],
+) -> Result<(), AllocError>
+    ensures { AddsText result text.old.items text.new.items (position_head shape position bytes.now) }
+{
+    match position {
+        Position::Alone => put_lone(text, shape),
+        Position::Member(number) => put_numbered(text, shape, "member", number, bytes),
+        Position::Module(number) => put_numbered(text, shape, "module", number, bytes),
+    }
+}
+
+/// The head of a line of the module that these bytes begin with, after the file's.
+fn line_head(
     alloc: Global,
     shape: Shape,
     head: &[u8],
-    number: u64,
+    position: Position,
     bytes: &[u8],
 ) -> Result<Vec<u8>, AllocError>
-    ensures { IfOk result (λ v. v.items ≡ head.now ++ member_head shape number bytes.now) }
+    ensures { IfOk result (λ v. v.items ≡ head.now ++ position_head shape position bytes.now) }
 {
     let mut text = Vec::new(alloc);
     text.extend_from_slice(head)?;
-    put_member(&mut text, shape, number, bytes)?;
+    put_position(&mut text, shape, position, bytes)?;
     Ok(text)
 }
 
@@ -142,17 +181,17 @@ fn show_as<K: Sink>(
     }
 }
 
-/// Writes the lines of a member. Returns whether it is refused.
-fn show_member<K: Sink>(
+/// Writes the lines of the module that these bytes begin with. Returns whether it is refused.
+fn show_at<K: Sink>(
     writer: &mut K,
     listing: Listing,
     head: &Vec<u8>,
-    number: u64,
+    position: Position,
     bytes: &[u8],
 ) -> Result<bool, DumpFault>
-    ensures { IfOk result (λ is_refused. Shows (K.seen writer.old).bytes (K.seen writer.new).bytes (IsListed listing (head.now.items ++ member_head listing.shape number bytes.now) bytes.now is_refused)) }
+    ensures { IfOk result (λ is_refused. Shows (K.seen writer.old).bytes (K.seen writer.new).bytes (IsListed listing (head.now.items ++ position_head listing.shape position bytes.now) bytes.now is_refused)) }
 {
-    let Ok(own) = member_head(*head.allocator(), listing.shape, head, number, bytes) else {
+    let Ok(own) = line_head(*head.allocator(), listing.shape, head, position, bytes) else {
         return Err(DumpFault::Memory);
     };
     let is_refused = show_as(writer, listing.subject, listing, own, bytes)?;
@@ -172,7 +211,8 @@ fn show_members<K: Sink>(
     let mut number: u64 = 0;
     let mut rest = members;
     while let [member, others @ ..] = rest {
-        let is_faulty = show_member(writer, listing, head, number, member.bytes)?;
+        let position = Position::Member(number);
+        let is_faulty = show_at(writer, listing, head, position, member.bytes)?;
         is_refused = is_either(is_refused, is_faulty);
         number += 1;
         rest = others;
@@ -307,36 +347,41 @@ fn file_head(alloc: Global, shape: Shape, file: &[u8]) -> Result<Vec<u8>, AllocE
     Ok(text)
 }
 
-/// Ends the head of a line of a file that is no library: a member's cells are empty.
-fn put_lone(text: &mut Vec<u8>, shape: Shape) -> Result<(), AllocError>
-    ensures { AddsText result text.old.items text.new.items (lone_head shape) }
+/// Where the first module of a file is in it, by what follows that and its padding.
+fn first_position(rest: &[u8]) -> Position
+    ensures { result ≡ first_position rest.now }
 {
-    match shape {
-        Shape::Text => Ok(()),
-        Shape::Json => Ok(()),
-        Shape::Csv => text.extend_from_slice(b",,"),
+    if is_header(front_kind(rest)) {
+        Position::Module(0)
+    } else {
+        Position::Alone
     }
 }
 
-/// Writes the lines of a file that is no library. Returns whether it is refused.
-fn show_lone<K: Sink>(
+/// Writes the lines of a file that is no library: those of the module that it begins with, and of the modules that follow. Returns whether one of them is
+/// refused.
+fn show_modules<K: Sink>(
     writer: &mut K,
     listing: Listing,
-    head: Vec<u8>,
+    head: &Vec<u8>,
     bytes: &[u8],
 ) -> Result<bool, DumpFault>
-    ensures { IfOk result (λ is_refused. Shows (K.seen writer.old).bytes (K.seen writer.new).bytes (IsListed listing (head.items ++ lone_head listing.shape) bytes.now is_refused)) }
+    ensures { IfOk result (λ is_refused. Shows (K.seen writer.old).bytes (K.seen writer.new).bytes (AreModulesListed listing head.now.items bytes.now is_refused)) }
 {
-    let mut own = head;
-    let Ok(()) = put_lone(&mut own, listing.shape) else {
-        return Err(DumpFault::Memory);
-    };
-    let is_refused = show_as(writer, listing.subject, listing, own, bytes)?;
+    let mut rest = after_module(bytes);
+    let mut is_refused = show_at(writer, listing, head, first_position(rest), bytes)?;
+    let mut number: u64 = 1;
+    while is_header(front_kind(rest)) {
+        let position = Position::Module(number);
+        let is_faulty = show_at(writer, listing, head, position, rest)?;
+        is_refused = is_either(is_refused, is_faulty);
+        number += 1;
+        rest = after_module(rest);
+    }
     Ok(is_refused)
 }
 
-/// Writes the list of a file: the lines of each member of a library, or else those of the module that the bytes begin with. Returns whether
-/// something is refused.
+/// Writes the list of a file: the lines of each member of a library, or else those of each module. Returns whether something is refused.
 ///
 /// # Errors
 ///
@@ -359,7 +404,7 @@ pub(crate) fn list_input<K: Sink>(
             Ok(is_refused)
         }
         Err(_) => {
-            let is_refused = show_lone(writer, listing, head, input)?;
+            let is_refused = show_modules(writer, listing, &head, input)?;
             Ok(is_refused)
         }
     }
