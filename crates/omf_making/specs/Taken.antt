@@ -6,8 +6,9 @@ use Rattle.omf_image.specs.Limits.{profile_limits}
 use Rattle.omf_check.specs.Checking.{Decides}
 use Rattle.omf_check.specs.Refusal.{IsRefused}
 use Rattle.omf_check.specs.declared.profile.Profile.{Profile}
+use Rattle.omf_lowered.specs.Checked.{IsRefusedAsWritten, IsUnlowered}
 use Rattle.omf_lowered.specs.Mended.{shown}
-use Rattle.omf_lowered.specs.Modules.{IsLoweredModule, IsModuleRefused}
+use Rattle.omf_lowered.specs.Modules.{IsLoweredModule}
 use Rattle.omf_library.specs.Library.{HasHeader, library_end, next_page, page_size}
 use Rattle.omf_library.specs.declared.member.Member.{Member}
 use Rattle.omf_making.specs.declared.taken.Judgement.{Judgement}
@@ -38,20 +39,11 @@ pub record IsLoweringOf (profile : Profile) (bytes : List ℕ) (t : Taken) : Typ
 abbrev pub IsTaken : Profile → List ℕ → Taken → Type 0
 IsTaken profile bytes t = IsAcceptedAs profile bytes t ⊎ ((own : Refusal) × IsRefusedBy profile bytes own × IsLoweringOf profile bytes t)
 
--- The check refuses the lowering of the module that bytes begin with.
-pub record IsLoweringRefused (profile : Profile) (bytes : List ℕ) : Type 0 where
-  pub lowered : List ℕ
-  pub rest : List ℕ
-  pub lowering : IsLoweredModule bytes lowered rest
-  pub why : Reason
-  pub at : Place
-  pub refused : IsRefused profile profile_limits lowered why at
-
--- A program takes no module of bytes: the check refuses it and its lowering; or it has none, for a reason that is shown if
--- the check's own is one that a lowering mends.
+-- A program takes no module of bytes: the check refuses it and, at a record that the lowering wrote, its lowering; or it has
+-- none, or the check refuses that at a record of the bytes: this is shown if the check's own reason is one that a lowering mends.
 abbrev pub IsUntaken : Profile → List ℕ → Refusal → Type 0
 IsUntaken profile bytes r = (own : Refusal) × IsRefusedBy profile bytes own
-    × ((IsLoweringRefused profile bytes × (r ≡ own)) ⊎ ((why : Reason) × (at : Place) × IsModuleRefused bytes why at × (r ≡ shown own.reason own (record { reason = why; place = at }))))
+    × ((IsRefusedAsWritten profile bytes × (r ≡ own)) ⊎ ((why : Reason) × (at : Place) × IsUnlowered profile bytes why at × (r ≡ shown own.reason own (record { reason = why; place = at }))))
 
 -- What a program takes of bytes, or why it takes nothing.
 abbrev pub IsJudgement : Profile → List ℕ → Judgement → Type 0

@@ -1,12 +1,12 @@
 //! Modules as a program takes them: one that the check refuses by its lowering.
 
 ghost use Rattle.std.specs.Prelude.{◌≡◌, ◌-◌, length, IfErr, IfNone, IfOk, IfSome};
-ghost use Rattle.omf_lowered.specs.Modules.{IsModuleFault};
-ghost use Rattle.omf_making.specs.Taken.{IsJudgement, IsLoweringOf, IsLoweringRefused, IsRefusedBy};
+ghost use Rattle.omf_lowered.specs.Checked.{IsRefusedAsWritten, IsUnloweredBy};
+ghost use Rattle.omf_making.specs.Taken.{IsJudgement, IsLoweringOf, IsRefusedBy};
 
 use omf_check::{CheckFault, Checked, Profile, check_with};
 use omf_frame::{Bytes, Framer, Place, Reason};
-use omf_lowered::{LoweringFault, lowered_module, shown};
+use omf_lowered::{LoweringFault, lowered_module, place_in, shown};
 use std::alloc::{AllocError, Global};
 
 /// A module that a program takes.
@@ -42,11 +42,11 @@ fn length_before(bytes: &[u8], rest: &[u8]) -> usize
     bytes.len().saturating_sub(rest.len())
 }
 
-/// The lowering of the module that bytes begin with; none if it is refused.
+/// The lowering of the module that bytes begin with; none if it is refused at a record that the lowering wrote.
 ///
 /// # Errors
 ///
-/// The fault of `lowered_module`; `Memory` if out of memory.
+/// The fault of `lowered_module`, or of the check of the lowering; `Memory` if out of memory.
 fn lowering_of(
     alloc: Global,
     framer: &mut Framer,
@@ -54,8 +54,8 @@ fn lowering_of(
     bytes: &[u8],
 ) -> Result<Option<Taken>, LoweringFault>
     ensures some { IfOk result (λ found. IfSome found (IsLoweringOf profile bytes.now)) }
-    ensures none { IfOk result (λ found. IfNone found (IsLoweringRefused profile bytes.now)) }
-    ensures fault { IfErr result (IsModuleFault bytes.now) }
+    ensures none { IfOk result (λ found. IfNone found (IsRefusedAsWritten profile bytes.now)) }
+    ensures fault { IfErr result (IsUnloweredBy profile bytes.now) }
 {
     let lower = match lowered_module(alloc, bytes) {
         Ok(lower) => lower,
@@ -70,7 +70,16 @@ fn lowering_of(
         })),
         Err(CheckFault::Memory) => Err(LoweringFault::Memory),
         Err(CheckFault::Read) => unreachable!(),
-        Err(CheckFault::Refused { .. }) => Ok(None),
+        Err(CheckFault::Refused { reason, place }) => match place_in(
+            alloc,
+            bytes,
+            &lower.bytes,
+            place,
+        ) {
+            Ok(Some(place)) => Err(LoweringFault::Refused { reason, place }),
+            Ok(None) => Ok(None),
+            Err(_) => Err(LoweringFault::Memory),
+        },
     }
 }
 

@@ -1,5 +1,6 @@
 use Rattle.std.proofs.Common.{◌∙◌, ap, refl}
 use Rattle.std.specs.Prelude.{Some}
+use Rattle.omf_lowered.proofs.CheckedLaws.{fault_is}
 use Rattle.omf_making.proofs.TakenLaws.{lowered_size}
 use Rattle.omf_making.proofs.taken.lowering_of.Goals as goal
 
@@ -16,3 +17,6 @@ returns-in-Ok-check_with-clause-some c =
       sized = lowered_size c.args.bytes.now bytes rest c.length_before-length.result c.in-Ok.ensures.ok c.length_before-length.ensures;
       marked = refl;
     }
+
+pub returns-in-Err-clause-fault : goal.returns-in-Err-clause-fault
+returns-in-Err-clause-fault c = fault_is c.args.profile c.args.bytes.now c.in-Err.fault c.in-Err.ensures.err
