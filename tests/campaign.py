@@ -64,6 +64,7 @@ def targets(folder):
     yield Target("frames", "OMF_LINK", "", ["tests/frames.py", *timed], r"^(\d+) modules linked")
     yield Target("virtual", "OMF_LINK", "", ["tests/virtual.py", *timed], r"^(\d+) modules lowered")
     yield Target("chosen", "OMF_LINK", "", ["tests/chosen.py", *timed], r"^(\d+) links")
+    yield Target("keys", "OMF OMF_LINK", "", ["tests/keys.py", *timed], r"^(\d+) links")
     yield Target("modules", "OMF OMF_PLACE", "", ["tests/modules.py", "--made", "SEED", "SECONDS", kept, "--", "--real"], r"^(\d+) modules")
     for one in GUIDED:
         variables = {"WORK": str(folder / "guided"), "SEED": "SEED"}

@@ -137,6 +137,7 @@ def stages():
     yield Stage("frames", ["tests/frames.py"], "OMF_LINK", "", 600, r"^(\d+) modules linked")
     yield Stage("taken", ["tests/taken.py"], "OMF_LINK", "", 600, r"^(\d+) files linked")
     yield Stage("chosen", ["tests/chosen.py"], "OMF_LINK", "", 600, r"^(\d+) links")
+    yield Stage("keys", ["tests/keys.py"], "OMF OMF_LINK", "", 1800, r"^(\d+) links")
     yield Stage("flat", ["tests/flat.py"], "OMF_LINK", "gcc|clang qemu-system-i386", 1800, r"^(\d+) programs")
     yield Stage("find", ["tests/find.py"], "OMF_FIND OMF_LINK OMF_LIB", "", 600, r"^(\d+) runs")
     made = ["bench/find_programs.py", "--members", "500", "--code", "12000", "--own", "3000"]
@@ -146,7 +147,7 @@ def stages():
     pages = ["README.md", *sorted(str(it.relative_to(ROOT)) for it in (ROOT / "docs").glob("*.md"))]
     yield Stage("shown commands", ["tests/shown.sh", *pages], " ".join([*PROGRAMS, "LIBOMF"]), "", 1800, r"^(\d+) commands, \d+ failed, (\d+) left out")
     yield from fuzz()
-    seeded = ["dump", "library", "exe", "com", "placement", "linktext", "find", "lower", "executed", "flat", "taken", "chosen", "frames", "virtual", "names", "found", "modules", "conformance"]
+    seeded = ["dump", "library", "exe", "com", "placement", "linktext", "find", "lower", "executed", "flat", "taken", "chosen", "keys", "frames", "virtual", "names", "found", "modules", "conformance"]
     yield Stage("campaign", ["tests/campaign.py", "--hours", f"{MINUTES / 60:.3f}", "--target", *seeded], " ".join(PROGRAMS), "", 120 * MINUTES + 3600, r"^(\d+) tries")
 
 
