@@ -32,7 +32,7 @@ LARGEST, MOST_INPUT = 1000, 1 << 16
 # What a program may have with these options.
 PROGRAM_ALLOW = [it for kind in ("group", "mixed", "near", "twice") for it in ("--allow", kind)]
 # The place of a fault in a record, which another spelling moves.
-PLACE = re.compile(rb" record \d+(?: at \d+)?(?: within \d+)?")
+PLACE = re.compile(rb" record \d+(?: at \d+)?(?: within \d+)?|(?<=input) at \d+(?=:)")
 
 
 class Fields:
