@@ -1,7 +1,7 @@
 -- The modules of a program, one after another; and as many placements and movers as modules.
-use Rattle.std.proofs.Common.{◌≡◌, ℕ, zero, suc, ◌+◌, ◌<◌, ◌≤◌, ◌∙◌, List, [], ◌∷◌, ◌++◌, length, drop, get_or, refl, sym, ap, arith, append-nil, append_assoc, inl, inr}
+use Rattle.std.proofs.Common.{◌≡◌, ℕ, zero, suc, ◌+◌, ◌<◌, ◌≤◌, ◌∙◌, List, [], ◌∷◌, ◌++◌, length, drop, get_or, refl, sym, ap, subst, arith, append-nil, append_assoc, inl, inr}
 use Rattle.std.proofs.Math.Seq.{drop-nil}
-use Rattle.std.specs.Prelude.{◌⊎◌, zip, Some, Ok, Err, IsOk}
+use Rattle.std.specs.Prelude.{◌⊎◌, zip, None, Some, Result, Ok, Err, IfOk, IsOk, is_some}
 use Rattle.std.specs.List.{AllZip}
 use Rattle.std.proofs.lemmas.List.{length-map}
 use Rattle.std.proofs.lemmas.Option.{slice_get-get_or}
@@ -16,11 +16,18 @@ use Rattle.omf_placement.specs.Derive.{PlacedModule, placed_modules}
 use Rattle.omf_placement.specs.Inner.Derived.{derived}
 use Rattle.omf_placement.specs.Placement.{Places}
 use Rattle.omf_placement.proofs.DeriveLaws.{derived-fit}
-use Rattle.omf_output.specs.Exe.Members.{Member}
+use Rattle.omf_output.specs.Exe.Derived.{AreMovers}
+use Rattle.omf_output.specs.Exe.Exe.{exe}
+use Rattle.omf_output.specs.Exe.Linked.{exe_fault, linked, linked_at}
+use Rattle.omf_output.specs.Exe.Loading.{loaded}
+use Rattle.omf_output.specs.declared.exe.fault.ExeFault.{ExeFault}
+use Rattle.omf_output.specs.declared.exe.link.ExeFile.{ExeFile}
+use Rattle.omf_output.specs.Exe.Members.{Member, portions, stack}
 use Rattle.omf_output.specs.Exe.Moved.{Movers}
+use Rattle.omf_output.proofs.DerivingLaws.{movers-many, same-movers}
 use Rattle.omf_placement.proofs.ListLaws.{next-at}
 use Rattle.omf_drafting.specs.Fit.{FitsSoFar}
-use Rattle.omf_exe.specs.Program.{AreLaid, IsExternalFault, at_0, members_from, weak_of}
+use Rattle.omf_exe.specs.Program.{AreLaid, AreMade, ArePlaced, AreSettled, IsExternalFault, IsProgramOf, at_0, members_from, weak_of}
 use Rattle.omf_drafting.proofs.FitLaws.{places-fit}
 
 next : {A : Type 0} (xs : List A) (j : ℕ) (x : A) → x ≡ get_or xs j x → j < length xs → drop j xs ≡ x ∷ drop (j + 1) xs
@@ -84,8 +91,36 @@ pub placements-many : (ms : List Module) (pls out : List Places) (given : List G
 placements-many ms pls out given e d =
     kept-many (placed_modules ms pls) out (derived-fit (placed_modules ms pls) given out d) ∙ zip-many (typed_modules ms) pls (e ∙ sym (typed-many ms)) ∙ typed-many ms
 
+pub placed-many : (ms : List Module) (out : List Places) → ArePlaced ms out → length out ≡ length ms
+placed-many ms out p = placements-many ms p.places out (weak_of ms p.places) (laid-many ms p.places p.laid) p.derived
+
+pub moved-many : (ms : List Module) (out : List Places) (mvs : List Movers) → AreSettled ms out mvs → length mvs ≡ length ms
+moved-many ms out mvs s = movers-many ms (placed_modules ms s.placed.places) mvs s.moving
+
+-- Modules whose externals are derived at their places are settled there with their movers.
+pub are-settled : (ms : List Module) (pls out seen : List Places) (gs : List Given) (mvs : List Movers) → AreLaid ms pls → gs ≡ weak_of ms pls
+    → derived (placed_modules ms pls) gs ≡ Ok out → seen ≡ out → AreMovers (typed_modules ms) (placed_modules ms seen) mvs → AreSettled ms out mvs
+are-settled ms pls out seen gs mvs l g d s m =
+    let kept : AllZip KeepsPlace (placed_modules ms pls) out = derived-fit (placed_modules ms pls) gs out d in
+    record {
+      placed = record { places = pls; laid = l; derived = ap (λ (xs : List Given). derived (placed_modules ms pls) xs) (sym g) ∙ d };
+      moving = same-movers (typed_modules ms) pls out kept mvs (subst (λ (xs : List Places). AreMovers (typed_modules ms) (placed_modules ms xs) mvs) s m);
+    }
+
+-- Their members.
+pub are-made : (ms : List Module) (out pls : List Places) (mvs seen : List Movers) (members : List Member) → AreSettled ms out mvs → pls ≡ out → seen ≡ mvs → members ≡ members_from 0 ms pls seen → AreMade ms members
+are-made ms out pls mvs seen members s e f m =
+    record { placements = out; movers = mvs; settled = s; numbered = m ∙ ap (λ (xs : List Places). members_from 0 ms xs seen) e ∙ ap (λ (xs : List Movers). members_from 0 ms out xs) f }
+
+-- The program of members.
+pub program-of : (most : ℕ) (ms : List Module) (members seen : List Member) (r : Result ExeFile ExeFault) → AreMade ms members → seen ≡ members → IfOk r (λ e. e.bytes.items ≡ exe most (linked seen))
+    → IfOk r (λ e. (k : ℕ) → loaded e.bytes.items k ≡ linked_at k seen) → IfOk r (λ e. e.has_stack ≡ is_some (stack (portions seen))) → IfOk r (λ _. exe_fault seen ≡ None)
+    → IfOk r (λ e. IsProgramOf most ms e.bytes.items e.has_stack)
+program-of most ms members seen (Ok e) made s file loads has none = record { members = seen; made = subst (AreMade ms) (sym s) made; file = file; loads = loads; stack = has; none = none }
+program-of most ms members seen (Err f) made s file loads has none = tt
+
 -- The fault of a derivation at places where the modules are laid.
-pub placing-fault : (ms : List Module) (pls : List Places) (gs : List Given) (f : DeriveFault) → AreLaid ms pls → gs ≡ weak_of ms pls
+pub external-fault : (ms : List Module) (pls : List Places) (gs : List Given) (f : DeriveFault) → AreLaid ms pls → gs ≡ weak_of ms pls
     → ((f ≡ fault.Memory) × IsOk (derived (placed_modules ms pls) gs)) ⊎ (derived (placed_modules ms pls) gs ≡ Err f) → IsExternalFault ms f
-placing-fault ms pls gs f l g (inl h) = record { places = pls; laid = l; fault = inl h.0 }
-placing-fault ms pls gs f l g (inr e) = record { places = pls; laid = l; fault = inr (ap (λ (xs : List Given). derived (placed_modules ms pls) xs) (sym g) ∙ e) }
+external-fault ms pls gs f l g (inl h) = record { places = pls; laid = l; fault = inl h.0 }
+external-fault ms pls gs f l g (inr e) = record { places = pls; laid = l; fault = inr (ap (λ (xs : List Given). derived (placed_modules ms pls) xs) (sym g) ∙ e) }

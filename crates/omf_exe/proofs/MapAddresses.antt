@@ -9,11 +9,10 @@ use Rattle.omf_placement.specs.Inner.Derived.{derived}
 use Rattle.omf_placement.specs.Placement.{Places}
 use Rattle.omf_output.specs.Exe.Members.{Member}
 use Rattle.omf_output.specs.Exe.Moved.{Movers}
-use Rattle.omf_output.proofs.DerivingLaws.{movers-many}
 use Rattle.omf_exe.specs.Laws.{MapsShowPrograms, ShowsAddressesOf}
 use Rattle.omf_exe.specs.Program.{AreLaid, AreMade, IsMapOf, members_from, weak_of}
 use Rattle.omf_map.specs.Far.{IsProgramMap}
-use Rattle.omf_exe.proofs.ExeLaws.{laid-many, placements-many}
+use Rattle.omf_exe.proofs.ExeLaws.{moved-many, placed-many}
 
 -- As many placements and movers as modules: the members have each placement.
 places-kept : (j : ℕ) (ms : List Module) (pls : List Places) (mvs : List Movers) → length pls ≡ length ms → length mvs ≡ length ms → map (λ (m : Member). m.places) (members_from j ms pls mvs) ≡ pls
@@ -33,12 +32,13 @@ laid-once ms pls qls a b =
 shown-of : (ms shown : List Module) (text : List ℕ) (members : List Member) → IsMapOf ms shown text → AreMade ms members → ShowsAddressesOf shown members text
 shown-of ms shown text members m a =
     let p = m.placed in
-    let here : derived (placed_modules ms a.places) (weak_of ms a.places) ≡ Ok m.placements
-    = subst (λ (pls : List Places). derived (placed_modules ms pls) (weak_of ms pls) ≡ Ok m.placements) (laid-once ms p.places a.places p.laid a.laid) p.derived in
-    let s : Ok m.placements ≡ Ok a.placements = sym here ∙ a.derived in
+    let q = a.settled.placed in
+    let here : derived (placed_modules ms q.places) (weak_of ms q.places) ≡ Ok m.placements
+    = subst (λ (pls : List Places). derived (placed_modules ms pls) (weak_of ms pls) ≡ Ok m.placements) (laid-once ms p.places q.places p.laid q.laid) p.derived in
+    let s : Ok m.placements ≡ Ok a.placements = sym here ∙ q.derived in
     let same : m.placements ≡ a.placements = cc in
-    let placed = placements-many ms a.places a.placements (weak_of ms a.places) (laid-many ms a.places a.laid) a.derived in
-    let moved = movers-many ms (placed_modules ms a.places) a.movers a.moving in
+    let placed = placed-many ms a.placements q in
+    let moved = moved-many ms a.placements a.movers a.settled in
     subst (λ (pls : List Places). IsProgramMap shown pls text) (same ∙ sym (places-kept 0 ms a.placements a.movers placed moved) ∙ ap (λ (xs : List Member). map (λ (x : Member). x.places) xs) (sym a.numbered)) m.printed
 
 pub maps-show-programs : MapsShowPrograms

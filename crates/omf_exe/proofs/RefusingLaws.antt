@@ -1,11 +1,11 @@
 -- Refusals and their reasons; what a look answers where it finds something.
-use Rattle.std.proofs.Common.{◌≡◌, ◌∙◌, Bool, List, false, inl, inr, subst, sym, true}
-use Rattle.std.specs.Prelude.{IfErr, IfOk, Option, Result, Some, is_some}
+use Rattle.std.proofs.Common.{◌≡◌, ◌∙◌, Bool, List, false, subst, sym, true}
+use Rattle.std.specs.Prelude.{Err, IfErr, IfOk, Ok, Option, Result, Some, is_some}
 use Rattle.std.proofs.lemmas.Bool.{true≢false}
 use Rattle.std.proofs.lemmas.Result.{IfErr-weaker, IfOk-weaker}
 use Rattle.omf_check.specs.Module.{Module}
 use Rattle.omf_exe.specs.declared.refusal.Refusal.{Refusal}
-use Rattle.omf_exe.specs.Refusing.{Finds, IsNotAllowed, IsRefusalFor, is_out_of_memory}
+use Rattle.omf_exe.specs.Refusing.{Finds, IsLooked, IsNotAllowed, IsRefusalFor, is_out_of_memory}
 
 -- Out of memory is for any reason.
 pub no-memory : {Reason : Type 0} (r : Refusal) → is_out_of_memory r ≡ true → IsRefusalFor Reason r
@@ -20,12 +20,13 @@ pub at-both : {A : Type 0} (P : List Module → A → Type 0) (ms ns : List Modu
 at-both P ms ns x y a b h = subst (λ zs. P zs y) a (subst (P ms) b h)
 
 -- The answer of a look that finds something, by what is allowed.
-module _ {A T : Type 0} (IsFirst : Option A → Type 0) (x : A) (found : IsFirst (Some x)) (is_allowed : Bool) (r : Result (Option T) Refusal) where
-  pub look-found : IfOk r (λ line. is_some line ≡ true) → IfOk r (λ line. Finds IsFirst (is_some line))
-  look-found h = IfOk-weaker r (λ line. is_some line ≡ true) (λ line. Finds IsFirst (is_some line)) (λ line e. subst (Finds IsFirst) (sym e) (x, found)) h
+module _ {A T : Type 0} (IsFirst : Option A → Type 0) (x : A) (found : IsFirst (Some x)) (is_allowed : Bool) where
+  pub look-shown : (r : Result (Option T) Refusal) → IfOk r (λ line. is_some line ≡ true) → IfOk r (λ _. is_allowed ≡ true) → IfOk r (λ line. IsLooked IsFirst is_allowed (is_some line))
+  look-shown (Ok line) s t = (subst (Finds IsFirst) (sym s) (x, found), λ f. absurd (true≢false (sym t ∙ f)))
+  look-shown (Err f) s t = tt
 
-  pub look-refused : (ms : List Module) → IfErr r (IsRefusalFor (is_allowed ≡ false)) → IfErr r (IsRefusalFor (IsNotAllowed IsFirst is_allowed ms))
-  look-refused ms h = for-other (λ f. inr (f, (x, found))) r h
+  pub look-refused : (r : Result (Option T) Refusal) → IfErr r (IsRefusalFor (is_allowed ≡ false)) → IfErr r (IsRefusalFor (IsNotAllowed IsFirst is_allowed))
+  look-refused r h = for-other (λ f. (f, (x, found))) r h
 
 -- What is allowed is not forbidden.
 pub look-strict : {T : Type 0} (is_allowed : Bool) (r : Result (Option T) Refusal) → IfOk r (λ _. is_allowed ≡ true) → is_allowed ≡ false → IfOk r (λ line. is_some line ≡ false)

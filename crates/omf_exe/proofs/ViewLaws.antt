@@ -47,7 +47,7 @@ symbols-for P Q h kind (Some a) (Some text) s = h _ _ _ s
 
 -- The map of the modules without the names, at the placements of the program.
 pub listed-map : (o : LeftOut) (files : List InputFile) (p shown : ProgramModules) (placements : List Places) → AreTrimmed Gone o p.modules shown.modules → shown.from ≡ p.from → ArePlaced p.modules placements
-    → (l : List ℕ) → IsListedAt files shown placements l → IsListedMap o files p l
+    → (l : List ℕ) → IsListedAt files shown.from shown.modules placements l → IsListedMap o files p l
 listed-map o files p shown placements named from placed l a = record {
   shown = shown.modules;
   named = named;

@@ -1,4 +1,5 @@
 pub mod Taking
 pub mod Input
+pub mod Settling
 pub mod Views
 pub mod Unlowered

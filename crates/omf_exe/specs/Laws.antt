@@ -76,4 +76,4 @@ placements_at k members = map (λ m. (member_at k m).places) members
 -- paragraphs, if and only if each of these is below 2^32.
 abbrev pub ExternalsAreLoaded : Type 0
 ExternalsAreLoaded = (ms : List Module) (members : List Member) (made : AreMade ms members) (k : ℕ) → All (ModuleHolds profile_limits) (typed_modules ms)
-    → (derived_at (typed_modules ms) (all_moved k made.movers made.places) ≡ Ok (placements_at k members)) ↔ AreLow (placements_at k members)
+    → (derived_at (typed_modules ms) (all_moved k made.movers made.settled.placed.places) ≡ Ok (placements_at k members)) ↔ AreLow (placements_at k members)

@@ -10,7 +10,7 @@ use Rattle.omf_exe.specs.Input.{AreOfFiles, AreOfFolded}
 use Rattle.omf_exe.specs.Listing.{list_text}
 use Rattle.omf_exe.specs.Origins.{AreAllWith, AreFrom}
 use Rattle.omf_exe.specs.Program.{AreSymbolsOf, IsBetweenOf, IsComOf, IsLongOf, IsMapOf, IsMixedOf, IsNearOf, IsProgramOf, ProgramModules}
-use Rattle.omf_exe.specs.Refusing.{AreNoComProgram, AreNoProgram, AreNotAdded, AreNotFollowed, AreUnplaced, Finds, GiveNoFolded, GiveNoModules, HaveNamesTwice, IsNotAllowed}
+use Rattle.omf_exe.specs.Refusing.{AreNoComProgram, AreNoProgram, AreNotAdded, AreNotFollowed, AreUnplaced, GiveNoFolded, GiveNoModules, HaveNamesTwice, IsAllowed, IsLooked, IsNotAllowed}
 use Rattle.omf_exe.specs.Stack.{other_stack, stack_line}
 use Rattle.omf_trimming.specs.Choice.{AreChosen}
 use Rattle.omf_trimming.specs.Trimmed.{AreTrimmed}
@@ -63,10 +63,6 @@ abbrev pub IsAlone : ProgramKind → List Module → Type 0
 IsAlone Exe ms = IsBetweenOf ms None
 IsAlone Com ms = ⊤
 
--- What is found is allowed.
-abbrev pub IsAllowed : Bool → Bool → Type 0
-IsAllowed is_allowed is_found = is_allowed ≡ false → is_found ≡ false
-
 -- The map of modules of files: the list of the modules, and after it the map of the program. It shows the modules without the names of the segments that are left out.
 pub record IsListedMap (o : LeftOut) (files : List InputFile) (p : ProgramModules) (map : List ℕ) : Type 0 where
   pub shown : List Module
@@ -109,9 +105,9 @@ pub record AreNamedSymbols (o : LeftOut) (ms : List Module) (tool : Tool) (load 
 pub record IsMadeOf (options : ExeOptions) (p : ProgramModules) (made : MadeProgram) : Type 0 where
   pub program : AreBytesOf options.kind (maximum options) p.modules made.bytes.items made.lacks_stack
   pub alone : IsAlone options.kind p.modules
-  pub long : Finds (IsLongOf p.modules) (is_some made.long) × IsAllowed options.allows_long (is_some made.long)
-  pub mixed : Finds (IsMixedOf p.modules) (is_some made.mixed) × IsAllowed options.allows_mixed (is_some made.mixed)
-  pub near : Finds (IsNearOf p.modules) (is_some made.near) × IsAllowed options.allows_near (is_some made.near)
+  pub long : IsLooked (IsLongOf p.modules) options.allows_long (is_some made.long)
+  pub mixed : IsLooked (IsMixedOf p.modules) options.allows_mixed (is_some made.mixed)
+  pub near : IsLooked (IsNearOf p.modules) options.allows_near (is_some made.near)
   pub twice : HaveNamesTwice p.modules (is_some made.repeated) × IsAllowed options.allows_twice (is_some made.repeated)
   pub stack : option_map string_bytes made.stack ≡ option_map stack_line (other_stack options.kind options.stack made.bytes.items)
 
@@ -132,13 +128,17 @@ pub record IsMade (options : ExeOptions) (p : ProgramFiles) (made : MadeProgram)
   pub map : IsMapIf (IsListedMap options.unreached p.files (record { modules = linked; from = all.from })) options.kind (is_some options.map) made.bytes.items made.map
   pub symbols : AreSymbolsIf (AreNamedSymbols options.unreached linked) options.kind options.symbols made.symbols
 
--- Why nothing is written of modules: there is no program of them; they have no places; or a look finds what is not allowed.
+-- Why nothing is written of modules: they have no places; a look finds what is not allowed; there is no program of them at their placements; or more than one
+-- public has a name, and that is not allowed.
 abbrev pub IsLookFault : ExeOptions → List Module → Type 0
 IsLookFault options ms =
-    IsNotAllowed (IsMixedOf ms) options.allows_mixed ms ⊎ (IsNotAllowed (IsLongOf ms) options.allows_long ms ⊎ (IsNotAllowed (IsNearOf ms) options.allows_near ms ⊎ ((options.kind ≡ Exe) × IsNotAllowed (IsBetweenOf ms) false ms)))
+    IsNotAllowed (IsMixedOf ms) options.allows_mixed ⊎ (IsNotAllowed (IsLongOf ms) options.allows_long ⊎ (IsNotAllowed (IsNearOf ms) options.allows_near ⊎ ((options.kind ≡ Exe) × IsNotAllowed (IsBetweenOf ms) false)))
+
+abbrev pub IsNotSettledOf : ExeOptions → List Module → Type 0
+IsNotSettledOf options ms = AreUnplaced ms ⊎ IsLookFault options ms
 
 abbrev pub IsNotMadeOf : ExeOptions → List Module → Type 0
-IsNotMadeOf options ms = HaveNoBytes options.kind ms ⊎ (IsLookFault options ms ⊎ (AreUnplaced ms ⊎ ((options.allows_twice ≡ false) × HaveNamesTwice ms true)))
+IsNotMadeOf options ms = IsNotSettledOf options ms ⊎ (HaveNoBytes options.kind ms ⊎ ((options.allows_twice ≡ false) × HaveNamesTwice ms true))
 
 -- Why nothing is written of modules: their aliases are not followed; or nothing is written of those with the defaults.
 pub record IsNotMadeWith (options : ExeOptions) (all : List Module) : Type 0 where

@@ -9,6 +9,8 @@ use Rattle.omf_placement.specs.Derive.{placed_modules}
 use Rattle.omf_placement.specs.Inner.Derived.{derived}
 use Rattle.omf_placement.specs.Placement.{Places}
 use Rattle.omf_placement.specs.Weak.{with_weak}
+use Rattle.omf_layout.specs.declared.fault.LayoutFault.{LayoutFault}
+use Rattle.omf_layout.specs.declared.fault.LayoutFault.TheVariants as layout
 use Rattle.omf_layout.specs.declared.options.Frames.TheVariants.{Real}
 use Rattle.omf_layout.specs.declared.options.Options.{Options}
 use Rattle.omf_layout.specs.Several.Laying.{laid}
@@ -26,11 +28,7 @@ use Rattle.omf_map.specs.Far.{IsProgramMap}
 use Rattle.omf_symbols.specs.Placed.{placed_symbols}
 use Rattle.omf_symbols.specs.Text.{symbols_text}
 use Rattle.omf_host.specs.declared.tool.Tool.{Tool}
-use Rattle.omf_exe.specs.declared.fault.ComProgramFault.{ComProgramFault}
 use Rattle.omf_exe.specs.declared.input.Origin.{Origin}
-use Rattle.omf_exe.specs.declared.fault.ComProgramFault.TheVariants as no_com
-use Rattle.omf_exe.specs.declared.fault.PlacingFault.{PlacingFault}
-use Rattle.omf_exe.specs.declared.fault.PlacingFault.TheVariants as no_place
 use Rattle.omf_output.specs.Near.{first_near}
 use Rattle.omf_output.specs.Stacks.{first_between}
 use Rattle.omf_output.specs.declared.stacks.Interval.{Interval}
@@ -39,8 +37,6 @@ use Rattle.omf_warnings.specs.Long.{first_long}
 use Rattle.omf_combining.specs.Mixed.{first_mixed}
 use Rattle.omf_combining.specs.declared.mixed.CodePart.{CodePart}
 use Rattle.omf_warnings.specs.declared.wide.FarMember.{FarMember}
-use Rattle.omf_exe.specs.declared.fault.ProgramFault.{ProgramFault}
-use Rattle.omf_exe.specs.declared.fault.ProgramFault.TheVariants as fault
 
 -- The modules of a program, and the origin of each; one that the linker added has none.
 pub record ProgramModules : Type 0 where
@@ -67,14 +63,22 @@ pub record AreLaid (ms : List Module) (places : List Places) : Type 0 where
 abbrev pub weak_of : List Module → List Places → List Given
 weak_of ms places = with_weak (placed_modules ms places) []
 
--- The modules of a program: each with the placement that is derived at these places, and with what moves of it.
-pub record AreMade (ms : List Module) (members : List Member) : Type 0 where
+-- The placements of the modules of a program: those that are derived at their places.
+pub record ArePlaced (ms : List Module) (placements : List Places) : Type 0 where
   pub places : List Places
-  pub placements : List Places
-  pub movers : List Movers
   pub laid : AreLaid ms places
   pub derived : derived (placed_modules ms places) (weak_of ms places) ≡ Ok placements
-  pub moving : AreMovers (typed_modules ms) (placed_modules ms places) movers
+
+-- The same with what moves of each module.
+pub record AreSettled (ms : List Module) (placements : List Places) (movers : List Movers) : Type 0 where
+  pub placed : ArePlaced ms placements
+  pub moving : AreMovers (typed_modules ms) (placed_modules ms placed.places) movers
+
+-- The modules of a program: each with its placement, and with what moves of it.
+pub record AreMade (ms : List Module) (members : List Member) : Type 0 where
+  pub placements : List Places
+  pub movers : List Movers
+  pub settled : AreSettled ms placements movers
   pub numbered : members ≡ members_from 0 ms placements movers
 
 -- The bytes of the program, and whether it has a stack. Its header asks for a maximum of paragraphs after the image. What DOS loads at paragraph k, for every k, is what these modules are at their placements moved
@@ -105,17 +109,9 @@ pub record IsBetweenOf (ms : List Module) (found : Option Interval) : Type 0 whe
 
 -- The first near reference into another frame, with the modules at the placements of their program.
 pub record IsNearOf (ms : List Module) (found : Option Stray) : Type 0 where
-  pub places : List Places
   pub placements : List Places
-  pub laid : AreLaid ms places
-  pub derived : derived (placed_modules ms places) (weak_of ms places) ≡ Ok placements
+  pub placed : ArePlaced ms placements
   pub first : found ≡ first_near ms placements
-
--- The placements of the modules of a program.
-pub record ArePlaced (ms : List Module) (placements : List Places) : Type 0 where
-  pub places : List Places
-  pub laid : AreLaid ms places
-  pub derived : derived (placed_modules ms places) (weak_of ms places) ≡ Ok placements
 
 -- The map of a program: of the modules that it shows, at the placements of the program's.
 pub record IsMapOf (ms shown : List Module) (text : List ℕ) : Type 0 where
@@ -129,28 +125,21 @@ pub record AreSymbolsOf (tool : Tool) (load : ℕ) (ms shown : List Module) (tex
   pub placed : ArePlaced ms placements
   pub printed : text ≡ symbols_text tool (placed_symbols load (placed_modules shown placements))
 
--- Why modules are no program: a segment does not end below 2^20; an external has no place; or the modules so placed have a fault. Memory may run out at any time.
+-- Why modules have no places: a segment does not end below 2^20; or an external has no place. Memory may run out at any time.
+abbrev pub IsLayoutFault : List Module → LayoutFault → Type 0
+IsLayoutFault ms layout.Memory = ⊤
+IsLayoutFault ms layout.NoRoom = arranged_places at_0 (typed_modules ms) ≡ None
+
 pub record IsExternalFault (ms : List Module) (f : DeriveFault) : Type 0 where
   pub places : List Places
   pub laid : AreLaid ms places
   pub fault : (f ≡ no_external.Memory) ⊎ (derived (placed_modules ms places) (weak_of ms places) ≡ Err f)
 
+-- Why modules at their placements are no program: they have a fault.
 pub record IsMemberFault (ms : List Module) (f : ExeFault) : Type 0 where
   pub members : List Member
   pub made : AreMade ms members
   pub fault : IsExeFault members f
-
-abbrev pub IsProgramFault : List Module → ProgramFault → Type 0
-IsProgramFault ms fault.Memory = ⊤
-IsProgramFault ms fault.NoRoom = arranged_places at_0 (typed_modules ms) ≡ None
-IsProgramFault ms (fault.External f) = IsExternalFault ms f
-IsProgramFault ms (fault.Exe f) = IsMemberFault ms f
-
--- The same before the modules are linked.
-abbrev pub IsPlacingFault : List Module → PlacingFault → Type 0
-IsPlacingFault ms no_place.Memory = ⊤
-IsPlacingFault ms no_place.NoRoom = arranged_places at_0 (typed_modules ms) ≡ None
-IsPlacingFault ms (no_place.External f) = IsExternalFault ms f
 
 -- ---- .COM programs
 
@@ -164,12 +153,8 @@ pub record IsComOf (ms : List Module) (bytes : List ℕ) : Type 0 where
   pub short : length bytes + (256 + stack_bytes (portions members)) ≤ 65534
   pub none : com_fault members ≡ None
 
--- Why modules are no .COM program: they have no places; or, at their places, they have a fault.
+-- Why modules at their placements are no .COM program: they have a fault.
 pub record IsMemberComFault (ms : List Module) (f : ComFault) : Type 0 where
   pub members : List Member
   pub made : AreMade ms members
   pub fault : IsComFault members f
-
-abbrev pub IsComProgramFault : List Module → ComProgramFault → Type 0
-IsComProgramFault ms (no_com.Placing f) = IsPlacingFault ms f
-IsComProgramFault ms (no_com.Modules f) = IsMemberComFault ms f

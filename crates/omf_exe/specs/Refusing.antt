@@ -8,6 +8,7 @@ use Rattle.omf_layout.specs.declared.own.fault.CommunalsFault.TheVariants as com
 use Rattle.omf_layout.specs.declared.own.order.OrderFault.{OrderFault}
 use Rattle.omf_layout.specs.declared.own.order.OrderFault.TheVariants as dos
 use Rattle.omf_layout.specs.Own.Order.{ask_dos_order}
+use Rattle.omf_layout.specs.Several.Placing.{arranged_places}
 use Rattle.omf_library.specs.declared.fault.LibraryFault.{LibraryFault}
 use Rattle.omf_library.specs.declared.fault.LibraryFault.TheVariants as library
 use Rattle.omf_library.specs.declared.judged.LibraryMember.{LibraryMember}
@@ -29,15 +30,9 @@ use Rattle.omf_exe.specs.Clashing.{clash_lines}
 use Rattle.omf_exe.specs.Input.{AllGive, IsInputFault, IsMemberFolded}
 use Rattle.omf_exe.specs.Lowered.{is_link_memory}
 use Rattle.omf_exe.specs.Ordering.{IsClassOrderingFault, IsOrderingFault}
-use Rattle.omf_exe.specs.Program.{IsComProgramFault, IsPlacingFault, IsProgramFault}
+use Rattle.omf_exe.specs.Program.{IsExternalFault, IsMemberComFault, IsMemberFault, at_0}
 use Rattle.omf_exe.specs.Sharing.{AreShared, IsSharingFault, with_added}
 use Rattle.omf_exe.specs.Taken.{IsFirstRefused}
-use Rattle.omf_exe.specs.declared.fault.ComProgramFault.{ComProgramFault}
-use Rattle.omf_exe.specs.declared.fault.ComProgramFault.TheVariants as no_com
-use Rattle.omf_exe.specs.declared.fault.PlacingFault.{PlacingFault}
-use Rattle.omf_exe.specs.declared.fault.PlacingFault.TheVariants as no_place
-use Rattle.omf_exe.specs.declared.fault.ProgramFault.{ProgramFault}
-use Rattle.omf_exe.specs.declared.fault.ProgramFault.TheVariants as no_program
 use Rattle.omf_exe.specs.declared.input.InputFault.{InputFault}
 use Rattle.omf_exe.specs.declared.input.InputFault.TheVariants as input
 use Rattle.omf_exe.specs.declared.joining.JoiningFault.{JoiningFault}
@@ -112,29 +107,14 @@ abbrev pub is_derive_memory : DeriveFault → Bool
 is_derive_memory derive.Memory = true
 is_derive_memory _ = false
 
-abbrev pub is_placing_memory : PlacingFault → Bool
-is_placing_memory no_place.Memory = true
-is_placing_memory no_place.NoRoom = false
-is_placing_memory (no_place.External f) = is_derive_memory f
-
 abbrev pub is_exe_memory : ExeFault → Bool
 is_exe_memory exe.Memory = true
 is_exe_memory _ = false
 
-abbrev pub is_memory : ProgramFault → Bool
-is_memory no_program.Memory = true
-is_memory no_program.NoRoom = false
-is_memory (no_program.External f) = is_derive_memory f
-is_memory (no_program.Exe f) = is_exe_memory f
-
-abbrev pub is_modules_memory : ComFault → Bool
-is_modules_memory com_fault.Memory = true
-is_modules_memory (com_fault.Exe f) = is_exe_memory f
-is_modules_memory _ = false
-
-abbrev pub is_com_memory : ComProgramFault → Bool
-is_com_memory (no_com.Placing f) = is_placing_memory f
-is_com_memory (no_com.Modules f) = is_modules_memory f
+abbrev pub is_com_memory : ComFault → Bool
+is_com_memory com_fault.Memory = true
+is_com_memory (com_fault.Exe f) = is_exe_memory f
+is_com_memory _ = false
 
 -- ---- the reasons
 
@@ -204,14 +184,14 @@ AreNotFollowed ms = (f : FollowingFault) × (is_following_memory f ≡ false) ×
 
 -- Why modules have no places in a program.
 abbrev pub AreUnplaced : List Module → Type 0
-AreUnplaced ms = (f : PlacingFault) × (is_placing_memory f ≡ false) × IsPlacingFault ms f
+AreUnplaced ms = (arranged_places at_0 (typed_modules ms) ≡ None) ⊎ ((f : DeriveFault) × (is_derive_memory f ≡ false) × IsExternalFault ms f)
 
--- Why modules are no program, and no .COM program.
+-- Why modules at their placements are no program, and no .COM program.
 abbrev pub AreNoProgram : List Module → Type 0
-AreNoProgram ms = (f : ProgramFault) × (is_memory f ≡ false) × IsProgramFault ms f
+AreNoProgram ms = (f : ExeFault) × (is_exe_memory f ≡ false) × IsMemberFault ms f
 
 abbrev pub AreNoComProgram : List Module → Type 0
-AreNoComProgram ms = (f : ComProgramFault) × (is_com_memory f ≡ false) × IsComProgramFault ms f
+AreNoComProgram ms = (f : ComFault) × (is_com_memory f ≡ false) × IsMemberComFault ms f
 
 -- ---- looks
 
@@ -220,9 +200,16 @@ abbrev pub Finds : {A : Type 0} → (Option A → Type 0) → Bool → Type 0
 Finds {A} IsFirst true = (x : A) × IsFirst (Some x)
 Finds {A} IsFirst false = IsFirst None
 
--- Why a look refuses modules: they have no places; or it finds what is not allowed.
-abbrev pub IsNotAllowed : {A : Type 0} → (Option A → Type 0) → Bool → List Module → Type 0
-IsNotAllowed IsFirst is_allowed ms = AreUnplaced ms ⊎ ((is_allowed ≡ false) × Finds IsFirst true)
+-- What is found is allowed.
+abbrev pub IsAllowed : Bool → Bool → Type 0
+IsAllowed is_allowed is_found = is_allowed ≡ false → is_found ≡ false
+
+-- What a look shows: what it finds, if that is allowed; else it refuses the modules.
+abbrev pub IsLooked : {A : Type 0} → (Option A → Type 0) → Bool → Bool → Type 0
+IsLooked IsFirst is_allowed is_found = Finds IsFirst is_found × IsAllowed is_allowed is_found
+
+abbrev pub IsNotAllowed : {A : Type 0} → (Option A → Type 0) → Bool → Type 0
+IsNotAllowed IsFirst is_allowed = (is_allowed ≡ false) × Finds IsFirst true
 
 -- How many publics have a name: more than one have some name, or one at most has each.
 abbrev pub count_of : List Module → List ℕ → ℕ

@@ -27,9 +27,9 @@ pub(crate) fn memory() -> Refusal
 }
 
 /// A line, if there is memory for it.
-pub(crate) fn in_line(line: Result<Vec<u8>, AllocError>) -> Refusal {
+pub(crate) fn in_line(line: Result<String, AllocError>) -> Refusal {
     match line {
-        Ok(line) => Refusal::Line(line),
+        Ok(line) => Refusal::Line(line.into_bytes()),
         Err(AllocError) => memory(),
     }
 }

@@ -7,12 +7,10 @@ ghost use Rattle.omf_exe.specs.Listing.{file_text, origin_at, title_text};
 ghost use Rattle.omf_exe.specs.Refusing.{AreTwiceLines, HaveNamesTwice};
 
 use crate::clashing::put_clashes;
-use crate::fault::{ComProgramFault, PlacingFault, ProgramFault};
 use crate::input::Origin;
-use crate::making::placements_of;
 use crate::ordering::OrderingFault;
 use crate::sharing::SharingFault;
-use omf_aliases::FollowingFault;
+use omf_aliases::{FollowingFault, circle_lines};
 use omf_check::{Checked, entry_of};
 use omf_cmd::{RunFault, fault_line};
 use omf_combining::CodePart;
@@ -29,7 +27,7 @@ use omf_linking::space::Owner;
 use omf_output::exe::{ComFault, ExeFault, FarAddress};
 use omf_output::near::Stray;
 use omf_output::stacks::Interval;
-use omf_placement::DeriveFault;
+use omf_placement::{DeriveFault, Placement};
 use omf_reloc::{Cause, ReachFault};
 use omf_text::print_quoted;
 use omf_warnings::{FarMember, Finding, Range, put_line, put_range};
@@ -42,6 +40,19 @@ const TOO_HIGH: &str = "the program ends after 1048576";
 /// What is wrong with an offset in a frame that is not the segment of a .COM file.
 const OTHER_FRAME: &str =
     ": counts from another frame: a .COM file has one segment, put code and data in one group";
+
+/// What a linker finds in the modules of a program.
+#[derive(Clone, Copy)]
+pub(crate) enum Found {
+    /// Two parts of one segment, of which one is 16-bit and the other 32-bit.
+    Mixed(CodePart, CodePart),
+    /// A segment, or a member of a group, that ends too far from its frame.
+    Long(FarMember),
+    /// A near reference into another frame.
+    Near(Stray),
+    /// A segment between the parts of the stack.
+    Between(Interval),
+}
 
 /// A program's modules with their origins, and the files.
 #[derive(Clone, Copy)]
@@ -129,104 +140,57 @@ impl<'a> Origins<'a> {
         Ok(Some(lines))
     }
 
-    /// The line of a segment, or of a member of a group, that ends too far from its frame.
-    pub(crate) fn long_line(&self, alloc: Global, far: FarMember) -> Result<String, AllocError> {
+    /// The line of what a linker finds.
+    pub(crate) fn found_line(&self, alloc: Global, found: Found) -> Result<String, AllocError> {
         let labels = self.labels(alloc)?;
         let named = Labeled {
             labels: &labels,
             modules: self.modules,
         };
         let mut text = String::new(alloc);
-        put_line(&mut text, named, Finding::Group(far))?;
+        put_found(&mut text, named, found)?;
         Ok(text)
     }
 
-    /// The line of a segment between the parts of the stack.
-    pub(crate) fn stack_line(&self, alloc: Global, found: Interval) -> Result<Vec<u8>, AllocError> {
+    /// The lines of the names that no module or more than one defines, of the COMDATs that are not left out, and of circles of aliases.
+    pub(crate) fn undefined_lines(&self, alloc: Global) -> Result<String, AllocError> {
         let labels = self.labels(alloc)?;
         let named = Labeled {
             labels: &labels,
             modules: self.modules,
         };
-        let mut text = String::new(alloc);
-        text.push_str("stack: ")?;
-        put_range(&mut text, named, range_of(found))?;
-        text.push_str(" is between its parts\n")?;
-        Ok(text.into_bytes())
+        let mut lines = unresolved(alloc, named)?;
+        lines.push_str(circle_lines(alloc, self.modules)?.as_str())?;
+        Ok(lines)
     }
 
-    /// The line of two parts of one segment of which one is 16-bit and the other 32-bit.
-    pub(crate) fn mixed_line(
+    /// The lines of externals without a place.
+    pub(crate) fn external_lines(
         &self,
         alloc: Global,
-        parts: (CodePart, CodePart),
+        fault: DeriveFault,
     ) -> Result<String, AllocError> {
         let labels = self.labels(alloc)?;
         let named = Labeled {
             labels: &labels,
             modules: self.modules,
         };
-        let mut text = String::new(alloc);
-        text.push_str("mixed: ")?;
-        put_code_part(&mut text, named, parts.0)?;
-        text.push_str(", ")?;
-        put_code_part(&mut text, named, parts.1)?;
-        text.push_str("\n")?;
-        Ok(text)
+        external_lines(alloc, named, fault)
     }
 
-    /// The line of a near reference into another frame.
-    pub(crate) fn near_line(&self, alloc: Global, stray: Stray) -> Result<String, AllocError> {
-        let labels = self.labels(alloc)?;
-        let named = Labeled {
-            labels: &labels,
-            modules: self.modules,
-        };
-        let mut text = String::new(alloc);
-        put_stray(&mut text, named, stray)?;
-        Ok(text)
-    }
-
-    /// The lines of a program's fault.
-    pub(crate) fn line_of(
+    /// The line of a fault of the modules at these placements.
+    pub(crate) fn fault_line(
         &self,
         alloc: Global,
-        fault: ProgramFault,
-    ) -> Result<Vec<u8>, AllocError> {
+        placements: &[Placement],
+        fault: ComFault,
+    ) -> Result<String, AllocError> {
         let labels = self.labels(alloc)?;
         let named = Labeled {
             labels: &labels,
             modules: self.modules,
         };
-        let lines = match fault {
-            ProgramFault::Memory => line(alloc, "memory")?,
-            ProgramFault::NoRoom => line(alloc, TOO_HIGH)?,
-            ProgramFault::External(fault) => external_lines(alloc, named, fault)?,
-            ProgramFault::Exe(fault) => exe_line(alloc, named, fault)?,
-        };
-        Ok(lines.into_bytes())
-    }
-
-    /// The lines of a .COM program's fault.
-    pub(crate) fn com_line_of(
-        &self,
-        alloc: Global,
-        fault: ComProgramFault,
-    ) -> Result<Vec<u8>, AllocError> {
-        let labels = self.labels(alloc)?;
-        let named = Labeled {
-            labels: &labels,
-            modules: self.modules,
-        };
-        let lines = match fault {
-            ComProgramFault::Placing(PlacingFault::Memory) => line(alloc, "memory")?,
-            ComProgramFault::Placing(PlacingFault::NoRoom) => line(alloc, TOO_HIGH)?,
-            ComProgramFault::Placing(PlacingFault::External(fault)) => {
-                external_lines(alloc, named, fault)?
-            }
-            ComProgramFault::Modules(fault) => com_line(alloc, named, fault)?,
-        };
-        Ok(lines.into_bytes())
+        com_line(alloc, named, placements, fault)
     }
 }
 
@@ -242,6 +206,26 @@ fn put_code_part(text: &mut String, named: Labeled<'_>, part: CodePart) -> Resul
     } else {
         " is 16-bit"
     })
+}
+
+/// Appends the line of what a linker finds.
+fn put_found(text: &mut String, named: Labeled<'_>, found: Found) -> Result<(), AllocError> {
+    match found {
+        Found::Mixed(first, second) => {
+            text.push_str("mixed: ")?;
+            put_code_part(text, named, first)?;
+            text.push_str(", ")?;
+            put_code_part(text, named, second)?;
+            text.push_str("\n")
+        }
+        Found::Long(far) => put_line(text, named, Finding::Group(far)),
+        Found::Near(stray) => put_stray(text, named, stray),
+        Found::Between(part) => {
+            text.push_str("stack: ")?;
+            put_range(text, named, range_of(part))?;
+            text.push_str(" is between its parts\n")
+        }
+    }
 }
 
 /// A segment and its addresses, as lines show them.
@@ -262,6 +246,11 @@ fn line(alloc: Global, words: &str) -> Result<String, AllocError> {
     text.push_str(words)?;
     text.push('\n')?;
     Ok(text)
+}
+
+/// The line of modules that have no room.
+pub(crate) fn too_high_line(alloc: Global) -> Result<String, AllocError> {
+    line(alloc, TOO_HIGH)
 }
 
 /// The line of a part of a module, with what is wrong with it.
@@ -315,15 +304,14 @@ fn external_lines(
     }
 }
 
-/// By how many bytes a reference of a module of a program does not fit; none if that is not known.
+/// By how many bytes a reference of a module at its placement does not fit; none if that is not known.
 fn miss_in(
-    alloc: Global,
     modules: &[Checked],
+    placements: &[Placement],
     module: u32,
     place: Place,
     cause: Cause,
 ) -> Option<u64> {
-    let placements = placements_of(alloc, modules)?;
     let number = module as usize;
     miss_of(modules.get(number)?, placements.get(number)?, place, cause)
 }
@@ -340,6 +328,7 @@ fn with_miss(alloc: Global, line: &str, bytes: u64) -> Result<String, AllocError
 fn far_line(
     alloc: Global,
     named: Labeled<'_>,
+    placements: &[Placement],
     module: u32,
     fault: ReachFault,
 ) -> Result<String, AllocError> {
@@ -362,17 +351,22 @@ fn far_line(
         return Ok(text);
     }
     let line = reach_line(alloc, named, module, fault)?;
-    match miss_in(alloc, named.modules, module, place, cause) {
+    match miss_in(named.modules, placements, module, place, cause) {
         Some(bytes) => with_miss(alloc, &line, bytes),
         None => Ok(line),
     }
 }
 
 /// The line of a fault of the modules at their placements.
-fn exe_line(alloc: Global, named: Labeled<'_>, fault: ExeFault) -> Result<String, AllocError> {
+fn exe_line(
+    alloc: Global,
+    named: Labeled<'_>,
+    placements: &[Placement],
+    fault: ExeFault,
+) -> Result<String, AllocError> {
     match fault {
         ExeFault::Memory => line(alloc, "memory"),
-        ExeFault::Reach { module, fault } => far_line(alloc, named, module, fault),
+        ExeFault::Reach { module, fault } => far_line(alloc, named, placements, module, fault),
         ExeFault::Movers { module } => module_line(alloc, named, module, " movers"),
         ExeFault::Stays { module, place } => {
             part_line(
@@ -418,11 +412,16 @@ fn long_line(alloc: Global, end: u64, stack: u64) -> Result<String, AllocError> 
     Ok(text)
 }
 
-/// The line of a fault of the modules of a .COM program at their placements.
-fn com_line(alloc: Global, named: Labeled<'_>, fault: ComFault) -> Result<String, AllocError> {
+/// The line of a fault of the modules at their placements; those of an .EXE program are among those of a .COM program.
+fn com_line(
+    alloc: Global,
+    named: Labeled<'_>,
+    placements: &[Placement],
+    fault: ComFault,
+) -> Result<String, AllocError> {
     match fault {
         ComFault::Memory => line(alloc, "memory"),
-        ComFault::Exe(fault) => exe_line(alloc, named, fault),
+        ComFault::Exe(fault) => exe_line(alloc, named, placements, fault),
         ComFault::Start(start) => start_line(alloc, start),
         ComFault::Low { module, place } => {
             part_line(
@@ -476,11 +475,11 @@ pub(crate) fn library_line(
     files: &[InputFile],
     file: usize,
     fault: LibraryFault,
-) -> Result<Vec<u8>, AllocError> {
+) -> Result<String, AllocError> {
     let mut text = String::new(alloc);
     put_library(alloc, &mut text, files, file, fault)?;
     text.push('\n')?;
-    Ok(text.into_bytes())
+    Ok(text)
 }
 
 /// Appends what is wrong with communals.
@@ -503,7 +502,7 @@ fn put_communals(text: &mut String, fault: &CommunalsFault<'_>) -> Result<(), Al
 }
 
 /// The line of communals that are not shared.
-pub(crate) fn sharing_line(alloc: Global, fault: &SharingFault<'_>) -> Result<Vec<u8>, AllocError> {
+pub(crate) fn sharing_line(alloc: Global, fault: &SharingFault<'_>) -> Result<String, AllocError> {
     let mut text = String::new(alloc);
     match fault {
         SharingFault::Communals(fault) => put_communals(&mut text, fault)?,
@@ -517,11 +516,11 @@ pub(crate) fn sharing_line(alloc: Global, fault: &SharingFault<'_>) -> Result<Ve
         }
     }
     text.push('\n')?;
-    Ok(text.into_bytes())
+    Ok(text)
 }
 
 /// The line of modules that are not put in DOS order.
-pub(crate) fn ordering_line(alloc: Global, fault: OrderingFault) -> Result<Vec<u8>, AllocError> {
+pub(crate) fn ordering_line(alloc: Global, fault: OrderingFault) -> Result<String, AllocError> {
     let mut text = String::new(alloc);
     match fault {
         OrderingFault::Order(OrderFault::TooMany) => text.push_str(
@@ -534,11 +533,11 @@ pub(crate) fn ordering_line(alloc: Global, fault: OrderingFault) -> Result<Vec<u
         }
     }
     text.push('\n')?;
-    Ok(text.into_bytes())
+    Ok(text)
 }
 
 /// The line of the fault of modules whose aliases are not followed.
-pub(crate) fn following_line(alloc: Global, fault: FollowingFault) -> Result<Vec<u8>, AllocError> {
+pub(crate) fn following_line(alloc: Global, fault: FollowingFault) -> Result<String, AllocError> {
     let mut text = String::new(alloc);
     match fault {
         FollowingFault::Memory => text.push_str("memory")?,
@@ -551,5 +550,5 @@ pub(crate) fn following_line(alloc: Global, fault: FollowingFault) -> Result<Vec
         }
     }
     text.push('\n')?;
-    Ok(text.into_bytes())
+    Ok(text)
 }

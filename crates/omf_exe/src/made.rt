@@ -1,18 +1,24 @@
 //! What is written of a DOS program: its bytes, its map, its symbols, and lines of what is found in it.
 
-ghost use Rattle.std.specs.Prelude.{◌≡◌, ◌≤◌, IfErr, IfOk, None, false, is_some, length, option_map, string_bytes, true};
-ghost use Rattle.omf_exe.specs.Making.{AreBytesOf, HaveNoBytes, IsAllowed, IsAlone, IsLookFault, IsMadeOf, IsNotMadeOf};
+ghost use Rattle.std.specs.Prelude.{◌≡◌, ◌≤◌, IfErr, IfOk, None, length, option_map, string_bytes, true};
+ghost use Rattle.omf_exe.specs.Making.{AreBytesOf, HaveNoBytes, IsMadeOf, IsNotMadeOf};
+ghost use Rattle.omf_exe.specs.Program.{ArePlaced};
 ghost use Rattle.omf_exe.specs.declared.options.ProgramKind.TheVariants.{Exe};
-ghost use Rattle.omf_exe.specs.Program.{IsBetweenOf, IsLongOf, IsMixedOf, IsNearOf};
-ghost use Rattle.omf_exe.specs.Refusing.{Finds, IsNotAllowed, IsRefusalFor, is_out_of_memory};
+ghost use Rattle.omf_exe.specs.Refusing.{IsRefusalFor, is_out_of_memory};
 ghost use Rattle.omf_exe.specs.Stack.{other_stack, stack_line};
 
 use crate::files::memory;
 use crate::length::stack_line;
+use crate::lines::Origins;
+use crate::looks::{Looked, repeated, settled_of};
 use crate::options::{ExeOptions, ProgramKind};
-use crate::program::LinkedModules;
+use crate::program::ProgramModules;
 use crate::refusal::Refusal;
+use crate::settling::SettledModules;
+use crate::unlinked::of_program;
 use omf_linking::InputFile;
+use omf_output::exe::ComFault;
+use omf_placement::Placement;
 use std::alloc::{AllocError, Global};
 
 /// A program, its map, its symbols, and lines of what is found in it.
@@ -48,74 +54,33 @@ struct ProgramBytes {
 /// The bytes of the program of modules. An .EXE file asks DOS for at most `most` paragraphs after its image.
 fn bytes_of(
     alloc: Global,
-    modules: &LinkedModules<'_>,
-    files: &[InputFile],
+    program: Origins<'_>,
+    settled: &SettledModules<'_>,
     kind: ProgramKind,
     most: u16,
 ) -> Result<ProgramBytes, Refusal>
-    ensures bytes { IfOk result (λ b. AreBytesOf kind most modules.now.modules b.bytes.items b.lacks_stack) }
-    ensures refused { IfErr result (IsRefusalFor (HaveNoBytes kind modules.now.modules)) }
+    ensures bytes { IfOk result (λ b. AreBytesOf kind most settled.now b.bytes.items b.lacks_stack) }
+    ensures refused { IfErr result (IsRefusalFor (HaveNoBytes kind settled.now)) }
 {
     match kind {
-        ProgramKind::Exe => {
-            let file = modules.exe(alloc, files, most)?;
-            Ok(ProgramBytes {
+        ProgramKind::Exe => match settled.exe(alloc, most) {
+            Ok(file) => Ok(ProgramBytes {
                 bytes: file.bytes,
                 lacks_stack: !file.has_stack,
-            })
-        }
-        ProgramKind::Com => {
-            let bytes = modules.com(alloc, files)?;
-            Ok(ProgramBytes {
+            }),
+            Err(fault) => {
+                let fault = ComFault::Exe(fault);
+                Err(of_program(alloc, program, settled.placements(), fault))
+            }
+        },
+        ProgramKind::Com => match settled.com(alloc) {
+            Ok(bytes) => Ok(ProgramBytes {
                 bytes,
                 lacks_stack: false,
-            })
-        }
+            }),
+            Err(fault) => Err(of_program(alloc, program, settled.placements(), fault)),
+        },
     }
-}
-
-/// Looks whether the stack of an .EXE file is alone.
-fn look_at_stack(
-    alloc: Global,
-    modules: &LinkedModules<'_>,
-    files: &[InputFile],
-    kind: ProgramKind,
-) -> Result<(), Refusal>
-    ensures alone { IfOk result (λ _. IsAlone kind modules.now.modules) }
-    ensures refused { IfErr result (IsRefusalFor ((kind ≡ Exe) × IsNotAllowed (IsBetweenOf modules.now.modules) false modules.now.modules)) }
-{
-    match kind {
-        ProgramKind::Exe => modules.stack_is_alone(alloc, files),
-        ProgramKind::Com => Ok(()),
-    }
-}
-
-/// The lines of what the linker finds where it looks.
-#[derive(Drop)]
-struct Looks {
-    long: Option<String>,
-    near: Option<String>,
-    mixed: Option<String>,
-}
-
-/// What the linker finds where it looks, if it is allowed.
-fn looks_of(
-    alloc: Global,
-    modules: &LinkedModules<'_>,
-    files: &[InputFile],
-    options: &ExeOptions<'_>,
-) -> Result<Looks, Refusal>
-    ensures alone { IfOk result (λ _. IsAlone options.now.kind modules.now.modules) }
-    ensures mixed { IfOk result (λ l. Finds (IsMixedOf modules.now.modules) (is_some l.mixed) × IsAllowed options.now.allows_mixed (is_some l.mixed)) }
-    ensures long { IfOk result (λ l. Finds (IsLongOf modules.now.modules) (is_some l.long) × IsAllowed options.now.allows_long (is_some l.long)) }
-    ensures near { IfOk result (λ l. Finds (IsNearOf modules.now.modules) (is_some l.near) × IsAllowed options.now.allows_near (is_some l.near)) }
-    ensures refused { IfErr result (IsRefusalFor (IsLookFault options.now modules.now.modules)) }
-{
-    let mixed = modules.mixed(alloc, files, options.allows_mixed)?;
-    let long = modules.long(alloc, files, options.allows_long)?;
-    let near = modules.near(alloc, files, options.allows_near)?;
-    look_at_stack(alloc, modules, files, options.kind)?;
-    Ok(Looks { long, near, mixed })
 }
 
 /// The line of the length of the stack of a program with these bytes, if it is another than the options ask for.
@@ -134,7 +99,14 @@ fn stack_note(
     }
 }
 
-/// The program of modules, with what is found in it, and without a map or symbols. A look refuses before there is a fault of the program, but for a name that is
+/// A program without a map and symbols, and the placements of its modules.
+#[derive(Drop)]
+pub(crate) struct PlacedProgram {
+    pub(crate) made: MadeProgram,
+    pub(crate) placements: Vec<Placement>,
+}
+
+/// The program of modules, with what is found in it. A look refuses before there is a fault of the program, but for a name that is
 /// not defined.
 ///
 /// # Errors
@@ -143,34 +115,31 @@ fn stack_note(
 /// than one public has, if they are not allowed. Out of memory.
 pub(crate) fn made_of(
     alloc: Global,
-    modules: &LinkedModules<'_>,
+    modules: &ProgramModules,
     files: &[InputFile],
     options: &ExeOptions<'_>,
-) -> Result<MadeProgram, Refusal>
-    ensures made { IfOk result (IsMadeOf options.now modules.now) }
-    ensures map { IfOk result (λ made. made.map ≡ None) }
-    ensures symbols { IfOk result (λ made. made.symbols ≡ None) }
+) -> Result<PlacedProgram, Refusal>
+    ensures made { IfOk result (λ p. IsMadeOf options.now modules.now p.made) }
+    ensures map { IfOk result (λ p. p.made.map ≡ None) }
+    ensures symbols { IfOk result (λ p. p.made.symbols ≡ None) }
+    ensures placed { IfOk result (λ p. ArePlaced modules.now.modules p.placements.items) }
+    ensures one_each { IfOk result (λ p. length p.placements.items ≡ length modules.now.modules) }
     ensures refused { IfErr result (IsRefusalFor (IsNotMadeOf options.now modules.now.modules)) }
 {
+    let program = modules.origins(files);
+    let looked = settled_of(alloc, program, options)?;
+    let Looked {
+        settled,
+        mixed,
+        long,
+        near,
+    } = looked;
     let most = options.maximum();
-    let ProgramBytes { bytes, lacks_stack } = match bytes_of(
-        alloc,
-        modules,
-        files,
-        options.kind,
-        most,
-    ) {
-        Ok(program) => program,
-        Err(Refusal::Undefined(lines)) => return Err(Refusal::Undefined(lines)),
-        Err(refusal) => {
-            looks_of(alloc, modules, files, options)?;
-            return Err(refusal);
-        }
-    };
-    let Looks { long, near, mixed } = looks_of(alloc, modules, files, options)?;
+    let linked = bytes_of(alloc, program, &settled, options.kind, most)?;
+    let ProgramBytes { bytes, lacks_stack } = linked;
     let stack = stack_note(alloc, options, &bytes)?;
-    let repeated = modules.repeated(alloc, files, options.allows_twice)?;
-    Ok(MadeProgram {
+    let repeated = repeated(alloc, program, &settled, options.allows_twice)?;
+    let made = MadeProgram {
         bytes,
         lacks_stack,
         map: None,
@@ -180,5 +149,9 @@ pub(crate) fn made_of(
         mixed,
         repeated,
         stack,
+    };
+    Ok(PlacedProgram {
+        made,
+        placements: settled.into_placements(),
     })
 }

@@ -2,9 +2,8 @@
 
 ghost use Rattle.std.specs.Prelude.{◌≡◌};
 ghost use Rattle.omf_exe.specs.Lowered.{is_link_memory};
-ghost use Rattle.omf_exe.specs.Refusing.{is_com_memory, is_communals_memory, is_derive_memory, is_exe_memory, is_following_memory, is_library_memory, is_memory, is_modules_memory, is_order_memory, is_ordering_memory, is_placing_memory, is_sharing_memory};
+ghost use Rattle.omf_exe.specs.Refusing.{is_com_memory, is_communals_memory, is_derive_memory, is_exe_memory, is_following_memory, is_library_memory, is_order_memory, is_ordering_memory, is_sharing_memory};
 
-use crate::fault::{ComProgramFault, PlacingFault, ProgramFault};
 use crate::ordering::OrderingFault;
 use crate::sharing::SharingFault;
 use omf_aliases::FollowingFault;
@@ -89,7 +88,7 @@ pub(crate) fn is_ordering_memory(fault: OrderingFault) -> bool
 }
 
 /// Whether a fault of an external is that memory ran out.
-fn is_derive_memory(fault: DeriveFault) -> bool
+pub(crate) fn is_derive_memory(fault: DeriveFault) -> bool
     ensures { result ≡ is_derive_memory fault }
 {
     match fault {
@@ -97,17 +96,6 @@ fn is_derive_memory(fault: DeriveFault) -> bool
         DeriveFault::Undefined { .. } => false,
         DeriveFault::Twice { .. } => false,
         DeriveFault::TooHigh { .. } => false,
-    }
-}
-
-/// Whether a fault of places is that memory ran out.
-pub(crate) fn is_placing_memory(fault: PlacingFault) -> bool
-    ensures { result ≡ is_placing_memory fault }
-{
-    match fault {
-        PlacingFault::Memory => true,
-        PlacingFault::NoRoom => false,
-        PlacingFault::External(fault) => is_derive_memory(fault),
     }
 }
 
@@ -130,21 +118,9 @@ fn is_exe_memory(fault: ExeFault) -> bool
     }
 }
 
-/// Whether a fault of a program is that memory ran out.
-pub(crate) fn is_memory(fault: ProgramFault) -> bool
-    ensures { result ≡ is_memory fault }
-{
-    match fault {
-        ProgramFault::Memory => true,
-        ProgramFault::NoRoom => false,
-        ProgramFault::External(fault) => is_derive_memory(fault),
-        ProgramFault::Exe(fault) => is_exe_memory(fault),
-    }
-}
-
 /// Whether a fault of the modules of a .COM program at their placements is that memory ran out.
-fn is_modules_memory(fault: ComFault) -> bool
-    ensures { result ≡ is_modules_memory fault }
+pub(crate) fn is_com_memory(fault: ComFault) -> bool
+    ensures { result ≡ is_com_memory fault }
 {
     match fault {
         ComFault::Memory => true,
@@ -154,16 +130,6 @@ fn is_modules_memory(fault: ComFault) -> bool
         ComFault::Words { .. } => false,
         ComFault::Frame { .. } => false,
         ComFault::TooLong { .. } => false,
-    }
-}
-
-/// Whether a fault of a .COM program is that memory ran out.
-pub(crate) fn is_com_memory(fault: ComProgramFault) -> bool
-    ensures { result ≡ is_com_memory fault }
-{
-    match fault {
-        ComProgramFault::Placing(fault) => is_placing_memory(fault),
-        ComProgramFault::Modules(fault) => is_modules_memory(fault),
     }
 }
 

@@ -56,7 +56,7 @@ pub(crate) fn module_line(
     file: usize,
     reason: Reason,
     place: Place,
-) -> Result<Vec<u8>, AllocError> {
+) -> Result<String, AllocError> {
     let mut text = String::new(alloc);
     let bytes = match files.get(file) {
         Some(file) => file.bytes(),
@@ -68,7 +68,7 @@ pub(crate) fn module_line(
     put_fault(alloc, &mut text, &RunFault::Refused { reason, place })?;
     put_type(&mut text, bytes, start)?;
     text.push('\n')?;
-    Ok(text.into_bytes())
+    Ok(text)
 }
 
 /// The line of a member that is refused: `file "NAME" module 2 "MEMBER" refused ..`, and at its end the type of the record at fault.
@@ -77,7 +77,7 @@ fn member_line(
     files: &[InputFile],
     origin: Origin,
     refused: &RefusedMember,
-) -> Result<Vec<u8>, AllocError> {
+) -> Result<String, AllocError> {
     let mut text = String::new(alloc);
     let bytes = match files.get(origin.file) {
         Some(file) => file.bytes(),
@@ -96,7 +96,7 @@ fn member_line(
     put_fault(alloc, &mut text, &fault)?;
     put_type(&mut text, bytes, offset.saturating_add(start as usize))?;
     text.push('\n')?;
-    Ok(text.into_bytes())
+    Ok(text)
 }
 
 /// The refusal of modules that are not joined: of the first needed member that is refused. `from` are the origins of all members.

@@ -1,19 +1,21 @@
 //! What is written of the modules of a program: its bytes, and its map and its symbols if they are asked for.
 
-ghost use Rattle.std.specs.Prelude.{◌≡◌, ◌≤◌, IfErr, IfOk, is_some, length, true};
+ghost use Rattle.std.specs.Prelude.{◌≡◌, ◌≤◌, IfErr, IfOk, is_some, length};
 ghost use Rattle.omf_exe.specs.Inner.Views.{AreSymbolsAt, IsListedAt};
 ghost use Rattle.omf_exe.specs.Making.{AreNamedSymbols, AreSymbolsIf, IsListedMap, IsMadeOf, IsMapIf, IsNotMadeOf};
-ghost use Rattle.omf_exe.specs.Refusing.{IsRefusalFor, is_out_of_memory};
+ghost use Rattle.omf_exe.specs.Refusing.{IsRefusalFor};
 ghost use Rattle.omf_exe.specs.declared.options.ProgramKind.TheVariants.{Exe};
 
-use crate::made::{MadeProgram, made_of};
+use crate::files::memory;
+use crate::made::{MadeProgram, PlacedProgram, made_of};
 use crate::options::ExeOptions;
 use crate::program::ProgramModules;
 use crate::refusal::Refusal;
-use crate::views::{ShownModules, map_of, symbols_of};
+use crate::views::{map_of, symbols_of};
 use omf_linking::InputFile;
+use omf_placement::Placement;
 use omf_trimming::LeftPublics;
-use std::alloc::Global;
+use std::alloc::{AllocError, Global};
 use std::mem::forget;
 
 /// What becomes of the memory of the modules once their program is made.
@@ -25,6 +27,13 @@ pub enum Leftovers {
     Left,
 }
 
+/// The modules that a map and symbols show, with the placements of the program.
+#[derive(Drop)]
+struct ShownModules {
+    modules: ProgramModules,
+    placements: Vec<Placement>,
+}
+
 /// A program with its map and its symbols, as far as the options ask for them.
 fn with_views(
     alloc: Global,
@@ -32,17 +41,17 @@ fn with_views(
     shown: &ShownModules,
     files: &[InputFile],
     options: &ExeOptions<'_>,
-) -> Result<MadeProgram, Refusal>
+) -> Result<MadeProgram, AllocError>
     requires placed { length shown.now.placements.items ≡ length shown.now.modules.modules }
     requires long { options.now.kind ≡ Exe → 28 ≤ length made.bytes.items }
     ensures same { IfOk result (λ all. all ≡ record made { map = all.map; symbols = all.symbols }) }
-    ensures map { IfOk result (λ all. IsMapIf (IsListedAt files.now shown.now.modules shown.now.placements.items) options.now.kind (is_some options.now.map) all.bytes.items all.map) }
+    ensures map { IfOk result (λ all. IsMapIf (IsListedAt files.now shown.now.modules.from shown.now.modules.modules shown.now.placements.items) options.now.kind (is_some options.now.map) all.bytes.items all.map) }
     ensures symbols { IfOk result (λ all. AreSymbolsIf (AreSymbolsAt shown.now.modules.modules shown.now.placements.items) options.now.kind options.now.symbols all.symbols) }
-    ensures refused { IfErr result (λ r. is_out_of_memory r ≡ true) }
 {
     let mut all = made;
-    let map = map_of(alloc, shown, files, options, &all.bytes)?;
-    let symbols = symbols_of(alloc, shown, options)?;
+    let program = shown.modules.origins(files);
+    let map = map_of(alloc, program, &shown.placements, options, &all.bytes)?;
+    let symbols = symbols_of(alloc, program.modules, &shown.placements, options)?;
     all.map = map;
     all.symbols = symbols;
     Ok(all)
@@ -65,23 +74,23 @@ pub(crate) fn written_of(
     ensures symbols { IfOk result (λ m. AreSymbolsIf (AreNamedSymbols options.now.unreached modules.modules) options.now.kind options.now.symbols m.symbols) }
     ensures refused { IfErr result (IsRefusalFor (IsNotMadeOf options.now modules.modules)) }
 {
-    let linked = modules.linked(alloc)?;
-    let made = made_of(alloc, &linked, files, options)?;
+    let program = made_of(alloc, &modules, files, options)?;
+    let PlacedProgram { made, placements } = program;
     if !options.shows_names() {
         if leftovers == Leftovers::Left {
-            forget(linked);
+            forget(placements);
             forget(modules);
         }
         return Ok(made);
     }
-    let placements = linked.placements(alloc, files)?;
-    drop(linked);
     let named = modules.trimmed(alloc, options.unreached, LeftPublics::Gone)?;
     let shown = ShownModules {
         modules: named,
         placements,
     };
-    let all = with_views(alloc, made, &shown, files, options)?;
+    let Ok(all) = with_views(alloc, made, &shown, files, options) else {
+        return Err(memory());
+    };
     if leftovers == Leftovers::Left {
         forget(shown);
     }

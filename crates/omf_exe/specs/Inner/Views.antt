@@ -1,5 +1,5 @@
 -- What a map and symbols of modules have at given placements.
-use Rattle.std.specs.Prelude.{◌≡◌, ℕ, List, ◌++◌}
+use Rattle.std.specs.Prelude.{◌≡◌, ℕ, List, ◌++◌, Option}
 use Rattle.omf_check.specs.Module.{Module, typed_modules}
 use Rattle.omf_linking.specs.File.{InputFile}
 use Rattle.omf_placement.specs.Derive.{placed_modules}
@@ -9,12 +9,12 @@ use Rattle.omf_symbols.specs.Placed.{placed_symbols}
 use Rattle.omf_symbols.specs.Text.{symbols_text}
 use Rattle.omf_host.specs.declared.tool.Tool.{Tool}
 use Rattle.omf_exe.specs.Listing.{list_text}
-use Rattle.omf_exe.specs.Program.{ProgramModules}
+use Rattle.omf_exe.specs.declared.input.Origin.{Origin}
 
-pub record IsListedAt (files : List InputFile) (p : ProgramModules) (placements : List Places) (map : List ℕ) : Type 0 where
+pub record IsListedAt (files : List InputFile) (from : List (Option Origin)) (ms : List Module) (placements : List Places) (map : List ℕ) : Type 0 where
   pub text : List ℕ
-  pub listed : map ≡ list_text files p.from (typed_modules p.modules) ++ text
-  pub printed : IsProgramMap p.modules placements text
+  pub listed : map ≡ list_text files from (typed_modules ms) ++ text
+  pub printed : IsProgramMap ms placements text
 
 abbrev pub AreSymbolsAt : List Module → List Places → Tool → ℕ → List ℕ → Type 0
 AreSymbolsAt ms placements tool load text = text ≡ symbols_text tool (placed_symbols load (placed_modules ms placements))

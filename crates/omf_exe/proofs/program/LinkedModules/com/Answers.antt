@@ -1,8 +1,0 @@
-use Rattle.std.proofs.Common.{◌≡◌, rules, subst}
-use Rattle.omf_exe.specs.Program.{IsComProgramFault}
-use Rattle.omf_exe.proofs.program.LinkedModules.com.Goals as goal
-
-pub returns-in-Err-clause-refused : goal.returns-in-Err-clause-refused
-returns-in-Err-clause-refused c =
-    let same : c.deref.result.now ≡ c.args.self.now.modules = search rules in
-    λ e. (c.in-Err.fault, c.com_refused.ensures e, subst (λ ms. IsComProgramFault ms c.in-Err.fault) same c.in-Err.ensures.fault)
