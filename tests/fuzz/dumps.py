@@ -10,12 +10,18 @@ from records import compare_list, compare_text, compare_verdict, last_judged, lo
 BATCH = 16
 
 
+def after_padding(bytes_, at):
+    """The offset after bytes of one value, 00H or 1AH."""
+    value = bytes_[at:at + 1]
+    return len(bytes_) - len(bytes_[at:].lstrip(value)) if value in (b"\0", b"\x1A") else at
+
+
 def module_ends(bytes_):
-    """The offsets where the modules of a file begin, one after another, and where the last of them ends."""
+    """The offsets where the modules of a file begin, one after another, and where the last of them and its padding end."""
     at, ends = 0, [0]
     while bytes_[at:at + 1] in (b"\x80", b"\x82"):
         length = libraries.module_length(bytes_[at:])
-        at = len(bytes_) if length is None else at + length
+        at = len(bytes_) if length is None else after_padding(bytes_, at + length)
         ends.append(at)
     return ends if len(ends) > 1 else [0, len(bytes_)]
 

@@ -7,7 +7,7 @@ use Rattle.std.proofs.KnownBytes.{Appends-trans}
 use Rattle.std.proofs.lemmas.List.{append-nil}
 use Rattle.omf_frame.specs.Framing.{is_header}
 use Rattle.omf_dump.specs.Later.{front_kind}
-use Rattle.omf_dump.specs.Library.{AreNext, IsFileText, IsLeftShown, IsModuleText, IsNextShown, Member, Shows, after_member, end_at, first_end, module_title}
+use Rattle.omf_dump.specs.Library.{AreNext, IsFileText, IsLeftShown, IsModuleText, IsNextShown, Member, Shows, after_module, end_at, first_end, module_title}
 use Rattle.omf_dump.specs.declared.format.Mode.{Mode}
 use Rattle.omf_dump.proofs.LibraryLaws.{any_more, texts_more}
 
@@ -48,13 +48,13 @@ next_more mode bytes number at (x ∷ ms) to m h e s =
 
 -- one more
 pub next_turn : (mode : Mode) (bytes rest : List ℕ) (number at next : ℕ) (is_refused is_faulty either : Bool) (old mid new : Option (List ℕ)) → AreRead mode bytes number at is_refused old mid
-    → rest ≡ drop at bytes → is_header (front_kind rest) ≡ true → Shows mid new (IsNextShown mode number at rest is_faulty) → next ≡ length bytes - length (after_member 0 rest)
+    → rest ≡ drop at bytes → is_header (front_kind rest) ≡ true → Shows mid new (IsNextShown mode number at rest is_faulty) → next ≡ length bytes - length (after_module rest)
     → either ≡ (is_refused || is_faulty) → AreRead mode bytes (number + 1) next either old new
 next_turn mode bytes rest number at next is_refused is_faulty either old mid new w r h m n b =
     let headed : is_header (front_kind (drop at bytes)) ≡ true = subst (λ (x : List ℕ). is_header (front_kind x) ≡ true) r h in
     let s = subst (λ (x : List ℕ). Shows mid new (IsNextShown mode number at x is_faulty)) r m in
     let one : Member = record { is_refused = is_faulty; text = s.0 } in
-    let to : next ≡ end_at bytes at = n ∙ ap (λ (x : List ℕ). length bytes - length (after_member 0 x)) r in
+    let to : next ≡ end_at bytes at = n ∙ ap (λ (x : List ℕ). length bytes - length (after_module x)) r in
     let all : List Member = w.first ∷ w.others in
     let more : length (w.others ++ one ∷ []) ≡ length w.others + 1 = length-append w.others (one ∷ []) in
     let count = w.counted in

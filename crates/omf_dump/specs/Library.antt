@@ -111,8 +111,8 @@ pub record IsLibraryText (mode : Mode) (bytes : List ℕ) (is_refused : Bool) (t
   pub refused : is_refused ≡ (list_any (λ m. m.is_refused) members || is_fault (drop to bytes))
   pub whole : text ≡ flat_map (λ m. m.text) members ++ end_text mode.style.format (length members) to (drop to bytes)
 
--- What follows a module in its file: other modules, each after a line that names it by its number from 1, its offset and its name; or a line for the
--- bytes that are left.
+-- What follows a module and its padding in its file: other modules, each after a line that names it by its number from 1, its offset and its name; or
+-- a line for the bytes that are left.
 abbrev pub module_head : Format → ℕ → List ℕ
 module_head format.Text number = codes "module " ++ decimal number
 module_head format.Json number = codes "{\"module\":" ++ decimal number
@@ -140,15 +140,15 @@ IsLeftShown mode offset bytes text = text ≡ left_text mode.style.format offset
 abbrev pub IsNextShown : Mode → ℕ → ℕ → List ℕ → Bool → List ℕ → Type 0
 IsNextShown mode number offset bytes is_refused text = (own : List ℕ) × IsModuleText mode bytes is_refused own × (text ≡ module_title mode.style.format number offset bytes ++ own)
 
--- Where the module at an offset ends, and the one that the file begins with; a file that begins with no module has no others.
+-- Where the module at an offset and its padding end, and where those of the first one do; a file that begins with no module has no others.
 abbrev pub end_at : List ℕ → ℕ → ℕ
-end_at bytes at = length bytes - length (after_member 0 (drop at bytes))
+end_at bytes at = length bytes - length (after_module (drop at bytes))
 
 abbrev pub first_end : List ℕ → ℕ
-first_end bytes = if is_header (front_kind bytes) then length bytes - length (after_member 0 bytes) else length bytes
+first_end bytes = length bytes - length (after_module bytes)
 
--- Modules one after another: the first at the offset `at`, with this number, each next where the one before ends, while a THEADR or an LHEADR is
--- there; the last of them ends at `to`.
+-- Modules one after another: the first at the offset `at`, with this number, each next where the one before and its padding end, while a THEADR or
+-- an LHEADR is there; the last of them and its padding end at `to`.
 abbrev pub AreNext : Mode → List ℕ → ℕ → ℕ → List Member → ℕ → Type 0
 AreNext mode bytes number at [] to = at ≡ to
 AreNext mode bytes number at (m ∷ ms) to = (is_header (front_kind (drop at bytes)) ≡ true) × IsNextShown mode number at (drop at bytes) m.is_refused m.text

@@ -2,7 +2,7 @@
 
 ghost use Rattle.std.specs.Prelude.{◌≡◌, ◌-◌, ◌<◌, ◌≤◌, IfOk, length};
 ghost use Rattle.omf_frame.specs.Bytes.{AddsText};
-ghost use Rattle.omf_dump.specs.Library.{IsFileText, IsLeftShown, IsNextShown, Shows, after_member, first_end, left_fields, left_head, left_text, module_head, module_title, offset_field};
+ghost use Rattle.omf_dump.specs.Library.{IsFileText, IsLeftShown, IsNextShown, Shows, after_module, first_end, left_fields, left_head, left_text, module_head, module_title, offset_field};
 ghost use Rattle.omf_dump.specs.Render.{fields_text};
 
 use crate::answer::show_module;
@@ -11,9 +11,10 @@ use crate::fault::DumpFault;
 use crate::field::hexadecimal;
 use crate::format::{Format, Mode};
 use crate::item::{close_record, end_fields};
-use crate::later::{Rest, after_member, front_kind};
+use crate::later::{Rest, front_kind};
 use crate::library::{front_contents, is_either};
 use crate::output::send;
+use crate::padding::after_module;
 use crate::part::after;
 use omf_frame::{Sink, Width, is_header};
 use omf_host::put_decimal;
@@ -122,30 +123,26 @@ fn show_left<K: Sink>(
     Ok(())
 }
 
-/// The offset of what follows the module that `rest` begins with.
+/// The offset of what follows the module that `rest` begins with and its padding.
 fn end_at(bytes: &[u8], rest: &[u8]) -> usize
     requires { 0 < length rest.now × length rest.now ≤ length bytes.now }
-    ensures value { result ≡ length bytes.now - length (after_member 0 rest.now) }
+    ensures value { result ≡ length bytes.now - length (after_module rest.now) }
     ensures further { length bytes.now - length rest.now < result }
     ensures inside { result ≤ length bytes.now }
 {
-    bytes.len() - after_member(rest).len()
+    bytes.len() - after_module(rest).len()
 }
 
-/// The offset of what follows the module that a file begins with; of a file that begins with no module, its end.
+/// The offset of what follows the module that a file begins with and its padding; of a file that begins with no module, its end.
 fn first_end(bytes: &[u8]) -> usize
     ensures value { result ≡ first_end bytes.now }
     ensures inside { result ≤ length bytes.now }
 {
-    if is_header(front_kind(bytes)) {
-        bytes.len() - after_member(bytes).len()
-    } else {
-        bytes.len()
-    }
+    bytes.len() - after_module(bytes).len()
 }
 
-/// Writes what is shown of a file that is no library: the module that it begins with, the modules that follow, and how many bytes are left. Returns
-/// whether a module is refused.
+/// Writes what is shown of a file that is no library: the module that it begins with, the modules that follow, each after the padding of the one
+/// before, and how many bytes are left. Returns whether a module is refused.
 ///
 /// # Errors
 ///
