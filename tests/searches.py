@@ -161,7 +161,7 @@ def fault(row):
         done = subprocess.run(command, cwd=folder, env={**os.environ, "LIB": variable}, capture_output=True, text=True, timeout=60, check=False)
         told = [it.removeprefix("omf-link: ") for it in done.stderr.splitlines()]
         if isinstance(expected, list):
-            shown = re.findall(r'^module \d+ file "(.*)" module \d+$', (folder / "p.map").read_text(), re.M) if done.returncode == 0 else None
+            shown = re.findall(r'^module \d+ file "(.*?)" module \d+(?: ".*")?$', (folder / "p.map").read_text(), re.M) if done.returncode == 0 else None
             return None if shown == expected else f"modules of {shown}, status {done.returncode} {told}"
         status, lines = expected
         if done.returncode != status or lines is not None and told != lines:

@@ -1,13 +1,13 @@
 //! Lines of faults of programs, by the names of files, modules and segments.
 
-ghost use Rattle.std.specs.Prelude.{◌≡◌, ◌++◌, IfOk, IfSome, codes, decimal, is_some, string_bytes};
+ghost use Rattle.std.specs.Prelude.{◌≡◌, ◌++◌, IfOk, IfSome, codes, decimal, is_some, slice_get, string_bytes};
 ghost use Rattle.omf_frame.specs.Bytes.{AddsText};
 ghost use Rattle.omf_check.specs.Module.{recs_of};
-ghost use Rattle.omf_exe.specs.Listing.{file_text, origin_at, title_text};
+ghost use Rattle.omf_exe.specs.Listing.{file_text, member_text, origin_at, title_text};
 ghost use Rattle.omf_exe.specs.Refusing.{AreTwiceLines, HaveNamesTwice};
 
 use crate::clashing::put_clashes;
-use crate::input::Origin;
+use crate::input::{Origin, is_library};
 use crate::ordering::OrderingFault;
 use crate::sharing::SharingFault;
 use omf_aliases::{FollowingFault, circle_lines};
@@ -93,7 +93,25 @@ pub(crate) fn origin_at(from: &[Option<Origin>], number: usize) -> Option<Origin
     entry_of(from, number)?
 }
 
-/// Appends what a module is called: its origin; without one its name.
+/// Appends the name of a module after its number in its file, if that is a library: ` "NAME"`.
+fn put_member(
+    text: &mut String,
+    files: &[InputFile],
+    file: usize,
+    module: &Checked,
+) -> Result<(), AllocError>
+    ensures { AddsText result (string_bytes text.old) (string_bytes text.new) (member_text (slice_get files.now file) (recs_of «module».now.bytes)) }
+{
+    match files.get(file) {
+        Some(file) if is_library(file.bytes()) => {
+            text.push_str(" ")?;
+            print_quoted(text, module_name(module))
+        }
+        _ => Ok(()),
+    }
+}
+
+/// Appends what a module is called: its origin, and its name if it is a member of a library; without an origin its name.
 pub(crate) fn put_title(
     text: &mut String,
     files: &[InputFile],
@@ -103,7 +121,10 @@ pub(crate) fn put_title(
     ensures { AddsText result (string_bytes text.old) (string_bytes text.new) (title_text files.now from (recs_of «module».now.bytes)) }
 {
     match from {
-        Some(origin) => put_origin(text, files, origin.file, origin.number as u64),
+        Some(origin) => {
+            put_origin(text, files, origin.file, origin.number as u64)?;
+            put_member(text, files, origin.file, module)
+        }
         None => print_quoted(text, module_name(module)),
     }
 }
