@@ -71,7 +71,7 @@ complete -o default -o bashdefault -F _omf_lib omf-lib
 
 _omf_link() {
     local task=${COMP_WORDS[1]} before=${COMP_WORDS[COMP_CWORD-1]} current=${COMP_WORDS[COMP_CWORD]} words=
-    if [ "$COMP_CWORD" -eq 1 ]; then COMPREPLY=($(compgen -W "exe com image map bin hex srec draft lower --help --version" -- "$current")); return; fi
+    if [ "$COMP_CWORD" -eq 1 ]; then COMPREPLY=($(compgen -W "exe com image map bin hex srec draft join lower --help --version" -- "$current")); return; fi
     case "$task $before" in
         'exe -o') return;;
         'exe --map') return;;
@@ -114,6 +114,11 @@ _omf_link() {
         'draft --base') return;;
         'draft --flat') return;;
         'draft -o') return;;
+        'join -o') return;;
+        'join --order') return;;
+        'join -L') return;;
+        'join --library-path') return;;
+        'join --no-default-library') return;;
         'lower -o') return;;
     esac
     [[ $current == -* ]] || return
@@ -126,6 +131,7 @@ _omf_link() {
         'hex') words="--addresses --allow --ignore-case -t -o";;
         'srec') words="--addresses --allow --ignore-case -t -o";;
         'draft') words="--base --real --flat --ignore-case -o";;
+        'join') words="-o --order -L --library-path --no-default-libraries --no-default-library --ignore-case --keep-debug --eliminate";;
         'lower') words="-o";;
     esac
     COMPREPLY=($(compgen -W "$words" -- "$current"))

@@ -135,7 +135,8 @@ def made(source):
 def linked(folder, given, members):
     (folder / "a.obj").write_bytes(b"".join(given))
     (folder / "l.lib").write_bytes(taken.library(members))
-    return taken.linked(folder, "a.obj", "l.lib")[:3]
+    answer = taken.linked(folder, "a.obj", "l.lib")[:3]
+    return answer if answer[0] or taken.is_rejoined(folder, answer, "a.obj", "l.lib") else ("join", *answer)
 
 
 def differs(folder, seed):

@@ -2,7 +2,7 @@
 """Links generated modules with CEXTDEFs, BAKPATs and COMDATs, and compares with their lowerings by the reader of lowered.py: taken.py [--first SEED] [--count N | --seconds S]
 
 `omf-link exe` of a main module and such a file, or a library of its modules, must give what it gives of their lowerings: the same program and map, or the same
-lines. Where a record is at fault, it must name the file, the module and the record, and write nothing.
+lines. Where a record is at fault, it must name the file, the module and the record, and write nothing. The file that `omf-link join` makes of the files must give the same program.
 `omf-lib make` must make a library of the same modules, in which `omf-lib check` finds no fault, and which gives the same program; or refuse the module at fault.
 OMF_LINK and OMF_LIB name the programs (omf-link and omf-lib, if not set). The status is 1 where a file differs."""
 import os
@@ -43,6 +43,11 @@ def linked(folder, *files):
         (folder / made).unlink(missing_ok=True)
     done = subprocess.run([LINK, "exe", "-o", "p.exe", "--map", "p.map", *files], cwd=folder, stdin=subprocess.DEVNULL, capture_output=True, timeout=60, check=False)
     return done.returncode, done.stderr, *((folder / it).read_bytes() if (folder / it).exists() else None for it in ("p.exe", "p.map"))
+
+
+def is_rejoined(folder, answer, *files):
+    """Whether the file that `omf-link join` makes of these files gives the same program as they do."""
+    return run(folder, LINK, "join", "-o", "all.obj", *files)[0] == 0 and linked(folder, "all.obj")[2] == answer[2]
 
 
 def run(folder, *words):
@@ -109,6 +114,8 @@ def differs(folder, seed):
         made = kept(folder, bytes_, [])
         is_kept = isinstance(made, list) and any(b": refused " in it for it in made) and not (folder / "y").exists()
         return None if is_right and is_kept else (faults, answer, made)
+    if answer[0] == 0 and not is_rejoined(folder, answer, "main.obj", "x"):
+        return "join", answer[:2]
     made = kept(folder, bytes_, [name for it in modules for name in publics_of(lowered.Lowered(it).records)])
     (folder / "x").write_bytes(joined(lower))
     wanted = linked(folder, "main.obj", "x")

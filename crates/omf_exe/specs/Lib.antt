@@ -3,6 +3,7 @@ pub mod Clashing
 pub mod Input
 pub mod Laws
 pub mod Libraries
+pub mod Joined
 pub mod Listing
 pub mod Lowered
 pub mod WithCommunals

@@ -32,7 +32,7 @@ mod views;
 mod with_communals;
 mod written;
 
-pub use asked::{Call, call_of};
+pub use asked::{Call, Product, call_of};
 pub use candidates::library_files;
 pub use defaults::{missing_lines, sought};
 pub use joining::{Joined, JoiningFault, join_needed};

@@ -164,6 +164,13 @@ impl<'a> ExeOptions<'a> {
         }
     }
 
+    /// Whether none of the options is one of a program's file alone: its map and symbols, its stack and room, and what may be in it.
+    pub fn is_of_modules(&self) -> bool {
+        let sizes = self.stack.is_some() || self.max_alloc.is_some();
+        let allows = self.allows_twice || self.allows_long || self.allows_near || self.allows_mixed;
+        !self.shows_names() && !sizes && !allows
+    }
+
     /// Whether names of the modules are written: in a map, or as symbols.
     pub fn shows_names(&self) -> bool
         ensures { result ≡ (is_some self.now.map || is_some self.now.symbols) }

@@ -10,6 +10,7 @@ ghost use Rattle.omf_library.specs.declared.judged.LibraryMember.{LibraryMember}
 ghost use Rattle.omf_aliases.specs.Aliases.{AreFollowed};
 ghost use Rattle.omf_exe.specs.Adding.{AreOrderedBy, has_order};
 ghost use Rattle.omf_exe.specs.Input.{AllGive, AreOfFiles, AreOfFolded, IsMemberFolded};
+ghost use Rattle.omf_exe.specs.Joined.{all_bytes};
 ghost use Rattle.omf_exe.specs.Libraries.{sought};
 ghost use Rattle.omf_exe.specs.Ordering.{AreInClassOrder, AreOrdered};
 ghost use Rattle.omf_exe.specs.Origins.{AllFrom, AreAllWith, AreOfFilesFrom, AreOfFoldedFrom, origins_with};
@@ -43,6 +44,16 @@ use std::marker::Model;
 pub struct ProgramModules {
     modules: Vec<Checked>,
     from: Vec<Option<Origin>>,
+}
+
+/// Appends the bytes of modules, one after another.
+fn put_bytes(modules: &[Checked], bytes: &mut Vec<u8>) -> Result<(), AllocError>
+    ensures { OnOk result (bytes.new.items ≡ bytes.old.items ++ all_bytes modules.now) }
+{
+    for module in modules {
+        bytes.extend_from_slice(module.bytes())?;
+    }
+    Ok(())
 }
 
 /// Appends the origins of modules.
@@ -370,6 +381,19 @@ impl ProgramModules {
             Ok(modules) => Ok(ProgramModules { modules, from }),
             Err(fault) => Err(of_following(alloc, fault)),
         }
+    }
+
+    /// The bytes of the modules, one after another.
+    ///
+    /// # Errors
+    ///
+    /// `AllocError` if memory runs out.
+    pub(crate) fn bytes(&self, alloc: Global) -> Result<Vec<u8>, AllocError>
+        ensures { IfOk result (λ v. v.items ≡ all_bytes self.now.modules) }
+    {
+        let mut bytes = Vec::new(alloc);
+        put_bytes(&self.modules, &mut bytes)?;
+        Ok(bytes)
     }
 
     /// The names of libraries that the modules ask for, in order, each once, without those that are known.

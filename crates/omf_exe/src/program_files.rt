@@ -1,6 +1,7 @@
 //! The files of a program, and what is written of them.
 
 ghost use Rattle.std.specs.Prelude.{◌≡◌, ◌++◌, IfErr, IfOk, map};
+ghost use Rattle.omf_exe.specs.Joined.{IsJoinedFile, IsNotJoined};
 ghost use Rattle.omf_exe.specs.Libraries.{sought};
 ghost use Rattle.omf_exe.specs.Making.{AreOf, GiveNone, IsMade, IsNotMade};
 ghost use Rattle.omf_exe.specs.Origins.{AreFrom};
@@ -135,5 +136,25 @@ impl ProgramFiles {
         let trimmed = all.trimmed(alloc, options.unreached, LeftPublics::AtStart)?;
         let made = written_of(alloc, trimmed, &files, options, leftovers)?;
         Ok(made)
+    }
+
+    /// The modules of which `make` makes the program, one after another.
+    ///
+    /// # Errors
+    ///
+    /// The fault of the modules that are added; otherwise that of `followed`. Out of memory.
+    pub fn join(self, alloc: Global, options: &ExeOptions<'_>) -> Result<Vec<u8>, Refusal>
+        ensures joined { IfOk result (λ v. IsJoinedFile options.now self v.items) }
+        ensures refused { IfErr result (IsRefusalFor (IsNotJoined options.now self)) }
+    {
+        let ProgramFiles { modules, .. } = self;
+        let chosen = modules.chosen(alloc)?;
+        let added = chosen.with_added(alloc, options)?;
+        let all = added.following_aliases(alloc)?;
+        let trimmed = all.trimmed(alloc, options.unreached, LeftPublics::AtStart)?;
+        match trimmed.bytes(alloc) {
+            Ok(bytes) => Ok(bytes),
+            Err(AllocError) => Err(memory()),
+        }
     }
 }

@@ -30,6 +30,9 @@ pub(crate) const ABOUT: About = About {
            [--ignore-case] [-t TEXT] [-o FILE] [FILE ..]
        omf-link draft [--base ADDRESS] [--real | --flat SELECTOR]
            [--ignore-case] [-o FILE] [FILE ..]
+       omf-link join -o FILE [--order ORDER] [-L DIR ..] [--library-path DIR ..]
+           [--no-default-libraries] [--no-default-library NAME ..]
+           [--ignore-case] [--keep-debug] [--eliminate] FILE ..
        omf-link lower -o FILE FILE
 ",
     details: "
@@ -42,8 +45,11 @@ pub(crate) const ABOUT: About = About {
   map     the addresses of segments, publics and externals, as far as a text
           gives them
   draft   a text with addresses, to begin with
-  lower   the modules of a file, with segments in place of COMDATs, EXTDEFs in
-          place of CEXTDEFs, and with BAKPATs and NBKPATs applied
+  join    the modules of a program in one file, with those of libraries that
+          they need, for image, bin, hex, srec, map and draft
+  lower   the modules of a file as exe and com take them: COMDATs and virtual
+          segments are segments, CEXTDEFs are EXTDEFs, BAKPATs and NBKPATs are
+          applied, frames by number and alignments A = 6 and 7 are replaced
 
   -o FILE                  the output; without it, or where FILE is -, the
                            standard output
@@ -55,16 +61,18 @@ pub(crate) const ABOUT: About = About {
                            one more if that is odd
   --max-alloc PARAGRAPHS   exe: the paragraphs of 16 bytes after the image that
                            DOS is asked for at most (LINK's /CPARMAXALLOC)
-  --order ORDER            exe, com: dos: segments in the order of DOS linkers
-                           (LINK's /DOSSEG); input: as they come; a list of
-                           classes as CODE,DATA,BSS: these first, in this order
+  --order ORDER            exe, com, join: dos: segments in the order of DOS
+                           linkers (LINK's /DOSSEG); input: as they come; a list
+                           of classes as CODE,DATA,BSS: these first, in this
+                           order
   -L DIR, --library-path DIR
-                           exe, com: a folder for files, and for libraries that
-                           modules ask for; the folders of the variable LIB come
-                           after it
-  --no-default-libraries   exe, com: without the libraries that modules ask for
+                           exe, com, join: a folder for files, and for libraries
+                           that modules ask for; the folders of the variable LIB
+                           come after it
+  --no-default-libraries   exe, com, join: without the libraries that modules
+                           ask for
   --no-default-library NAME
-                           exe, com: without the library of this name
+                           exe, com, join: without the library of this name
   --allow KIND             a warning in place of a fault of this kind, for exe
                            and com: group (more than 64 KB), mixed (one segment
                            of 16-bit and 32-bit parts), near (a near call or
@@ -73,10 +81,10 @@ pub(crate) const ABOUT: About = About {
                            hex and srec also overlap, align and frame, not mixed
   --ignore-case            ignore the case of publics, externals and communals,
                            and show them in lower case
-  --keep-debug             exe, com: with the segments of debug information
-                           (classes DEBSYM, DEBTYP, DWARF) in memory
-  --eliminate              exe, com: without the segments of code that nothing
-                           reaches from the start and from data
+  --keep-debug             exe, com, join: with the segments of debug
+                           information (classes DEBSYM, DEBTYP, DWARF) in memory
+  --eliminate              exe, com, join: without the segments of code that
+                           nothing reaches from the start and from data
   --base ADDRESS           bin: the address of the first byte; draft: of the
                            first segment (default 10000)
   --size SIZE              bin: the number of bytes, hexadecimal, or as 64K
@@ -92,9 +100,9 @@ Numbers are hexadecimal, but for BYTES: 1000, 0x1000 and 1000H are one, and so
 are --base 1000 and --base=1000, or -L DIR and -LDIR. @FILE is the words of a
 file, and -- ends the options.
 
-The name of a module's file may lack .obj, and for exe and com it may be in
-another case than the file's own. Where a file is -, omf-link reads the
-standard input; without files also, but for exe and com. omf-link(1),
+The name of a module's file may lack .obj, and for exe, com and join it may be
+in another case than the file's own. Where a file is -, omf-link reads the
+standard input; without files also, but for these three. omf-link(1),
 docs/DOS.md and docs/ADDRESSES.md show examples, and explain each line that is
 printed.
 ",

@@ -1,4 +1,4 @@
-//! The tasks `omf-link exe` and `omf-link com`: a DOS program of modules and libraries.
+//! The tasks `omf-link exe` and `omf-link com`, a DOS program of modules and libraries, and `omf-link join`, its modules in one file.
 
 ghost use Rattle.std.specs.Prelude.{◌≡◌, IfSome, Some, is_some, option_map, true};
 
@@ -9,13 +9,16 @@ use crate::missing::{Missing, lines_of};
 use omf_drafting::asked::{Asked, sorted};
 use omf_drafting::host::{write_or_tell, write_three_or_tell};
 use omf_exe::host::tell_refusal;
-use omf_exe::{Call, ExeOptions, Leftovers, MadeProgram, Refusal, call_of};
+use omf_exe::{Call, ExeOptions, Leftovers, MadeProgram, Product, ProgramFiles, Refusal, call_of};
 use omf_frame::Sink;
 use omf_host::{OutputFile, RunFiles, Status, Streams, misused_by, refuse_clash, warn};
 use std::alloc::AllocError;
 
 /// The warning of a program without a stack.
 const NO_STACK: &str = "no stack: SS:SP is 0:0 from the load address\n";
+
+/// The line of files that give no module: a file without a module is no input of another task.
+const NO_MODULE: &str = "no module: of a library only members that a module needs are taken\n";
 
 /// Writes why there is no program; and, if a name is not defined, the libraries that were not found. Returns the status.
 fn refuse<K, E: Sink>(
@@ -30,6 +33,14 @@ fn refuse<K, E: Sink>(
         streams.report(rt.alloc(), lines.as_bytes())?;
     }
     Ok(status)
+}
+
+/// What is made of modules with these options, and where it is written.
+#[derive(Clone, Copy)]
+struct Job<'a, 'b> {
+    product: Product,
+    options: &'a ExeOptions<'b>,
+    output: Output<'a>,
 }
 
 /// The names of the files of a program, its map and its symbols.
@@ -140,6 +151,54 @@ fn write_program<K: Sink, E: Sink>(
     Ok(warn_of(rt, made, streams))
 }
 
+/// The modules of a program as an output under a name.
+fn joined_file<'a>(bytes: &'a [u8], name: &'a str) -> OutputFile<'a>
+    ensures name { result.name.now ≡ name.now }
+    ensures bytes { result.bytes.now ≡ bytes.now }
+{
+    OutputFile { name, bytes }
+}
+
+/// Writes the modules of a program to a file, and then, as warnings, the libraries that were not found; nothing if there is no module. Returns the status.
+fn write_joined<K: Sink, E: Sink>(
+    rt: &HostRuntime,
+    bytes: &[u8],
+    name: &str,
+    missing: &[Missing],
+    streams: &mut Streams<K, E>,
+) -> Result<Status, AllocError> {
+    if bytes.is_empty() {
+        streams.report(rt.alloc(), NO_MODULE.as_bytes())?;
+        return Ok(Status::Refused);
+    }
+    let lines = lines_of(rt.alloc(), missing)?;
+    let status = write_or_tell(rt, joined_file(bytes, name), None, streams)?;
+    if status != Status::Done {
+        return Ok(status);
+    }
+    Ok(warn(rt.alloc(), streams, lines.as_bytes()))
+}
+
+/// Makes what is asked for of the modules of files, and writes it. Nothing is written if it has a fault. Returns the status.
+fn on_program<K: Sink, E: Sink>(
+    rt: &HostRuntime,
+    program: ProgramFiles,
+    job: Job<'_, '_>,
+    missing: &[Missing],
+    streams: &mut Streams<K, E>,
+) -> Result<Status, AllocError> {
+    match job.product {
+        Product::Program(_) => match program.make(rt.alloc(), job.options, Leftovers::Left) {
+            Ok(made) => write_program(rt, &made, job.output, streams),
+            Err(refusal) => refuse(rt, &refusal, missing, streams),
+        },
+        Product::Modules => match program.join(rt.alloc(), job.options) {
+            Ok(bytes) => write_joined(rt, &bytes, job.output.name, missing, streams),
+            Err(refusal) => refuse(rt, &refusal, missing, streams),
+        },
+    }
+}
+
 /// Refuses one or two outputs that are one of these inputs, or one another. Returns the status then.
 fn refuse_two<'a, K, E: Sink>(
     rt: &HostRuntime,
@@ -179,41 +238,52 @@ fn refuse_outputs<'a, K, E: Sink>(
     }
 }
 
-/// Makes a program of files with these options, and writes it. Nothing is written if it has a fault. Returns the status.
+/// Reads files and the libraries that their modules ask for, makes what is asked for, and writes it. Returns the status.
 fn with_options<K: Sink, E: Sink>(
     rt: &HostRuntime,
     asked: &Asked,
-    options: &ExeOptions<'_>,
-    output: Output<'_>,
+    job: Job<'_, '_>,
     streams: &mut Streams<K, E>,
 ) -> Result<Status, AllocError> {
-    let folders = Folders::of(rt, options)?;
+    let folders = Folders::of(rt, job.options)?;
     let files = folders.files(rt, &asked.files)?;
-    if let Some(status) = refuse_outputs(rt, &files, output, streams)? {
+    if let Some(status) = refuse_outputs(rt, &files, job.output, streams)? {
         return Ok(status);
     }
     let Some(mut sources) = Sources::read(rt, files.as_slice(), streams)? else {
         return Ok(Status::Failed);
     };
     let search = Search {
-        options: &*options,
+        options: job.options,
         folders: &folders,
     };
     let program = sources.joined(rt, search)?;
-    if let Some(status) = refuse_outputs(rt, &sources.libraries, output, streams)? {
+    if let Some(status) = refuse_outputs(rt, &sources.libraries, job.output, streams)? {
         return Ok(status);
     }
-    let made = match program {
-        Ok(program) => program.make(rt.alloc(), options, Leftovers::Left),
-        Err(refusal) => Err(refusal),
-    };
-    match made {
-        Ok(made) => write_program(rt, &made, output, streams),
+    match program {
+        Ok(program) => on_program(rt, program, job, &sources.missing, streams),
         Err(refusal) => refuse(rt, &refusal, &sources.missing, streams),
     }
 }
 
-/// Does what arguments ask for, whose task is `exe` or `com`. Returns the status.
+/// The options that arguments give for what is made; none if they are not understood, or if a file of modules does not have them.
+fn options_of<'a>(
+    rt: &HostRuntime,
+    product: Product,
+    asked: &'a Asked,
+) -> Result<Option<ExeOptions<'a>>, AllocError> {
+    let arguments = asked.words.get(2..).unwrap_or(&[]);
+    let Some(options) = ExeOptions::of(rt.alloc(), product.kind(), arguments)? else {
+        return Ok(None);
+    };
+    match product {
+        Product::Modules if !options.is_of_modules() => Ok(None),
+        Product::Modules | Product::Program(_) => Ok(Some(options)),
+    }
+}
+
+/// Does what arguments ask for, whose task is `exe`, `com` or `join`. Returns the status.
 pub fn on_words<K: Sink, E: Sink>(
     rt: &HostRuntime,
     words: &[String],
@@ -222,12 +292,11 @@ pub fn on_words<K: Sink, E: Sink>(
     let Some(asked) = sorted(rt.alloc(), words, 2)? else {
         return misused_by(rt, streams, &ABOUT);
     };
-    let (kind, name) = match call_of(&asked) {
-        Call::Program(kind, name) => (kind, name),
+    let (product, name) = match call_of(&asked) {
+        Call::Make(product, name) => (product, name),
         Call::Other | Call::Misused => return misused_by(rt, streams, &ABOUT),
     };
-    let arguments = asked.words.get(2..).unwrap_or(&[]);
-    let Some(options) = ExeOptions::of(rt.alloc(), kind, arguments)? else {
+    let Some(options) = options_of(rt, product, &asked)? else {
         return misused_by(rt, streams, &ABOUT);
     };
     let output = Output {
@@ -235,5 +304,10 @@ pub fn on_words<K: Sink, E: Sink>(
         map: options.map,
         symbols: options.symbols.map(|symbols| symbols.name),
     };
-    with_options(rt, &asked, &options, output, streams)
+    let job = Job {
+        product,
+        options: &options,
+        output,
+    };
+    with_options(rt, &asked, job, streams)
 }

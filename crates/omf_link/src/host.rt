@@ -337,10 +337,10 @@ fn is_on_input(asked: &Asked) -> bool {
     }
 }
 
-/// Whether the task is a program for DOS, which has an option `--allow` of its own.
+/// Whether the task is a program for DOS or its modules: these have options of their own.
 fn makes_program(words: &[String]) -> bool {
     match words {
-        [_program, task, ..] => task.as_str() == "exe" || task.as_str() == "com",
+        [_program, task, ..] => matches!(task.as_str(), "exe" | "com" | "join"),
         _ => false,
     }
 }
