@@ -54,16 +54,19 @@ module _ (places : PlacesByKeys) (externals : ExternalsByKeys) (moves : MoversBy
   derived-by : (ms ns : List Module) → HaveEqualKeys ms ns → (pls : List Places) → derived (placed_modules ms pls) (weak_of ms pls) ≡ derived (placed_modules ns pls) (weak_of ns pls)
   derived-by ms ns h pls = (externals ms ns pls (weak_of ms pls) h).0 ∙ ap (λ (gs : List Given). derived (placed_modules ns pls) gs) (weak-by ms ns h pls)
 
+  placed-by : (ms ns : List Module) → HaveEqualKeys ms ns → (placements : List Places) → ArePlaced ms placements → ArePlaced ns placements
+  placed-by ms ns h placements p = record { places = p.places; laid = laid-by ms ns h p.places p.laid; derived = sym (derived-by ms ns h p.places) ∙ p.derived }
+
   made-by : (ms ns : List Module) → HaveEqualKeys ms ns → (members : List Member) (made : AreMade ms members) → AreMade ns (members_from 0 ns made.placements made.movers)
-  made-by ms ns h members made = record {
-    places = made.places;
-    placements = made.placements;
-    movers = made.movers;
-    laid = laid-by ms ns h made.places made.laid;
-    derived = sym (derived-by ms ns h made.places) ∙ made.derived;
-    moving = moves ms ns made.places made.movers h made.moving;
-    numbered = refl;
-  }
+  unfolding placed-by
+  made-by ms ns h members made =
+      let placed = made.settled.placed in
+      record {
+        placements = made.placements;
+        movers = made.movers;
+        settled = record { placed = placed-by ms ns h made.placements placed; moving = moves ms ns placed.places made.movers h made.settled.moving };
+        numbered = refl;
+      }
 
   -- Members that are made of modules are those of others of equal keys, but for their bytes.
   abbrev others : List Module → (ms : List Module) (members : List Member) → AreMade ms members → List Member
@@ -112,9 +115,6 @@ module _ (places : PlacesByKeys) (externals : ExternalsByKeys) (moves : MoversBy
         none = over (λ zs. com_fault zs ≡ None) same.flat.0 p.none;
       }
 
-  placed-by : (ms ns : List Module) → HaveEqualKeys ms ns → (placements : List Places) → ArePlaced ms placements → ArePlaced ns placements
-  placed-by ms ns h placements p = record { places = p.places; laid = laid-by ms ns h p.places p.laid; derived = sym (derived-by ms ns h p.places) ∙ p.derived }
-
   map-by : (ms ns shown others : List Module) (text : List ℕ) → HaveEqualKeys ms ns → HaveEqualKeys shown others → IsMapOf ms shown text → IsMapOf ns others text
   map-by ms ns shown others text h k p = record {
     placements = p.placements;
@@ -146,15 +146,21 @@ module _ (places : PlacesByKeys) (externals : ExternalsByKeys) (moves : MoversBy
   ok-one pls qls r e f = ap derived_in (sym e ∙ f)
 
   module _ (ms : List Module) (xs ys : List Member) (a : AreMade ms xs) (b : AreMade ms ys) where
-    places-one : a.places ≡ b.places
-    places-one = some-one a.places b.places a.laid.free b.laid.free (arranged_places at_0 (typed_modules ms)) a.laid.laid b.laid.laid
+    abbrev p : ArePlaced ms a.placements
+    p = a.settled.placed
+
+    abbrev q : ArePlaced ms b.placements
+    q = b.settled.placed
+
+    places-one : p.places ≡ q.places
+    places-one = some-one p.places q.places p.laid.free q.laid.free (arranged_places at_0 (typed_modules ms)) p.laid.laid q.laid.laid
 
     placements-one : a.placements ≡ b.placements
-    placements-one = ok-one a.placements b.placements (derived (placed_modules ms b.places) (weak_of ms b.places))
-        (subst (λ (pls : List Places). derived (placed_modules ms pls) (weak_of ms pls) ≡ Ok a.placements) places-one a.derived) b.derived
+    placements-one = ok-one a.placements b.placements (derived (placed_modules ms q.places) (weak_of ms q.places))
+        (subst (λ (pls : List Places). derived (placed_modules ms pls) (weak_of ms pls) ≡ Ok a.placements) places-one p.derived) q.derived
 
     movers-one : a.movers ≡ b.movers
-    movers-one = subst (λ (pls : List Places). AreMovers (typed_modules ms) (placed_modules ms pls) a.movers) places-one a.moving ∙ sym b.moving
+    movers-one = subst (λ (pls : List Places). AreMovers (typed_modules ms) (placed_modules ms pls) a.movers) places-one a.settled.moving ∙ sym b.settled.moving
 
     pub members-one : xs ≡ ys
     members-one = a.numbered ∙ ap₂ (λ (pls : List Places) (mvs : List Movers). members_from 0 ms pls mvs) placements-one movers-one ∙ sym b.numbered
