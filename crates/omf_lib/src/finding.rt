@@ -40,7 +40,7 @@ fn is_public(kind: Kind) -> bool
 {
     match kind {
         Kind::Public | Kind::Comdat => true,
-        Kind::Import | Kind::Communal => false,
+        Kind::Import | Kind::Communal | Kind::Alias => false,
     }
 }
 

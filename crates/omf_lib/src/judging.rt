@@ -109,7 +109,7 @@ fn look_up_comdat(
     }
 }
 
-/// Looks up the publics of a member, if there is a dictionary. A communal may have an entry, or none.
+/// Looks up the publics of a member, if there is a dictionary. A communal and an alias may have an entry, or none.
 fn look_up_all(
     report: &mut Report,
     library: &Library<'_>,
@@ -135,7 +135,7 @@ fn look_up_all(
                 report.publics = report.publics.saturating_add(1);
                 look_up_comdat(report, dictionary, public)?;
             }
-            Kind::Communal | Kind::Import => {}
+            Kind::Communal | Kind::Import | Kind::Alias => {}
         }
     }
     Ok(())

@@ -8,7 +8,7 @@ use Rattle.omf_records.specs.Values.{Rec}
 use Rattle.omf_check.specs.Listed.{placed_from}
 use Rattle.omf_check.specs.WellFormed.{recs}
 use Rattle.omf_lowering.specs.Marks.{selection_by}
-use Rattle.omf_making.specs.Names.{Defined, defined_as, defined_by, defined_names, is_before_mark}
+use Rattle.omf_making.specs.Names.{Defined, defined_as, defined_by, is_before_mark, recorded_names}
 
 -- What numbered records are.
 abbrev pub in_order : List (Place × Rec) → List Rec
@@ -27,7 +27,7 @@ all_given old left all e h = sym (append-nil old) ∙ ap (λ xs. old ++ xs) (sym
 
 -- What is defined by the last record, whose names these are, and by those that are left.
 abbrev pub defined_from : List Defined → List Rec → List Defined
-defined_from last left = map (defined_as (is_before_mark left)) last ++ defined_names left
+defined_from last left = map (defined_as (is_before_mark left)) last ++ recorded_names left
 
 pub next_given : (old new last next all : List Defined) (left rest : List Rec) (r : Rec) (marked : Bool) → left ≡ r ∷ rest → marked ≡ is_some (selection_by r.contents) → new ≡ old ++ map (defined_as marked) last → next ≡ defined_by r
     → old ++ defined_from last left ≡ all → new ++ defined_from next rest ≡ all

@@ -72,6 +72,7 @@ IsEntered o page kind.Public name = IsFoundByBoth o.is_case_sensitive o.dictiona
 IsEntered o page kind.Import name = IsFoundByBoth o.is_case_sensitive o.dictionary name page
 IsEntered o page kind.Comdat name = IsSharedEntered o name
 IsEntered o page kind.Communal name = IsSharedEntered o name
+IsEntered o page kind.Alias name = IsSharedEntered o name
 
 abbrev pub AreEntered : Opened → ℕ → List Defined → Type 0
 AreEntered o page [] = ⊤
@@ -115,7 +116,7 @@ opened bytes members parts = record { bytes = bytes; page = page_size bytes; is_
 
 -- The bytes are a library whose members are the modules that were given, in order, byte for byte; a program takes each, by
 -- its lowering if the check refuses it. Both searches of its
--- dictionary find each of their names: a public and an import with the page of its member, a COMDAT
+-- dictionary find each of their names: a public and an import with the page of its member, a COMDAT and an alias
 -- with that of a member that defines the name. Names that differ in case are one in a library without the flag 1.
 -- The dictionary has no other names. It follows the F1H record, and ends the library; its number of blocks is prime.
 -- The page size is the least with which 16 bits number the pages.
@@ -131,7 +132,7 @@ pub record IsMade (profile : Profile) (sensitive : Bool) (parts : List Part) (by
   pub only : AreSoundEntries (opened bytes members parts)
   pub same : AreParts (opened bytes members parts) members parts
 
--- Two modules define one name, other than as a COMDAT: the second by its name of this number, the first by any of its
+-- Two modules define one name, other than as a COMDAT or an alias: the second by its name of this number, the first by any of its
 -- names. If they are one module, by one before that.
 pub record IsTwice (sensitive : Bool) (parts : List Part) (first second name : ℕ) : Type 0 where
   pub one : Bor Part

@@ -2,6 +2,7 @@
 use Rattle.std.specs.Prelude.{ℕ, Bool, true, false, ◌==◌, if◌then◌else◌, List, [], ◌∷◌, ◌++◌, map, filter, is_some, option_to_list}
 use Rattle.omf_frame.specs.Types.{is_local}
 use Rattle.omf_lowering.specs.Marks.{selection_by}
+use Rattle.omf_library.specs.Aliases.{AliasPair, alias_pairs}
 use Rattle.omf_library.specs.Imports.{import_class, imported}
 use Rattle.omf_records.specs.Values.{Rec, Contents, Comment, Publics, Communals}
 use Rattle.omf_making.specs.declared.names.Kind.{Kind}
@@ -13,12 +14,14 @@ pub record Defined : Type 0 where
   pub kind : Kind
   pub name : List ℕ
 
--- Publics and imports count before COMDATs and communals: one name has at most one of them in a library.
+-- Publics and imports count before COMDATs, communals and aliases: one name has at most one of them in a library. A linker follows an alias only where
+-- nothing defines its name (this profile's rule).
 abbrev pub is_strong : Kind → Bool
 is_strong kind.Public = true
 is_strong kind.Import = true
 is_strong kind.Comdat = false
 is_strong kind.Communal = false
+is_strong kind.Alias = false
 
 -- The names that a record defines: those of a PUBDEF, of an IMPDEF and of a COMDEF. Local ones are not seen from outside
 -- their module.
@@ -41,14 +44,23 @@ kind_by marked kind.Public = if marked then kind.Comdat else kind.Public
 kind_by marked kind.Import = kind.Import
 kind_by marked kind.Comdat = kind.Comdat
 kind_by marked kind.Communal = kind.Communal
+kind_by marked kind.Alias = kind.Alias
 
 abbrev pub defined_as : Bool → Defined → Defined
 defined_as marked d = record { kind = kind_by marked d.kind; name = d.name }
 
--- The names that a module defines, in the order of its records.
+-- The names that a module's records define by themselves, in their order.
+abbrev pub recorded_names : List Rec → List Defined
+recorded_names [] = []
+recorded_names (r ∷ rest) = map (defined_as (is_before_mark rest)) (defined_by r) ++ recorded_names rest
+
+-- The name that an ALIAS defines, for its substitute (TIS OMF 1.1, "ALIAS").
+abbrev pub alias_named : AliasPair → Defined
+alias_named p = record { kind = kind.Alias; name = p.alias }
+
+-- The names that a module defines, in the order of its records; then those of its aliases.
 abbrev pub defined_names : List Rec → List Defined
-defined_names [] = []
-defined_names (r ∷ rest) = map (defined_as (is_before_mark rest)) (defined_by r) ++ defined_names rest
+defined_names m = recorded_names m ++ map alias_named (alias_pairs m)
 
 -- The dictionary of a library that is made has no names of communals: no member is taken for one (this profile's rule).
 abbrev pub has_entry : Kind → Bool
@@ -56,6 +68,7 @@ has_entry kind.Public = true
 has_entry kind.Import = true
 has_entry kind.Comdat = true
 has_entry kind.Communal = false
+has_entry kind.Alias = true
 
 -- Those of a module's names that the dictionary has.
 abbrev pub entered : List Defined → List Defined

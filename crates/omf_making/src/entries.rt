@@ -22,7 +22,7 @@ pub struct Entry<'a> {
     part: usize,
     /// The number of the name in the part.
     number: usize,
-    /// Whether it is no COMDAT.
+    /// Whether it is neither a COMDAT nor an alias.
     is_strong: bool,
     /// How many names of the parts are this one; 0 if one that comes before it is, so that it is not put.
     pub times: u64,
@@ -93,7 +93,7 @@ fn ordered(
     Ok(order)
 }
 
-/// Two entries of one name, the second of which is no COMDAT.
+/// Two entries of one name, the second of which is neither a COMDAT nor an alias.
 #[derive(Clone, Copy)]
 struct Twice {
     first: usize,
@@ -118,7 +118,7 @@ fn count_one(entries: &mut [Entry<'_>], first: usize) {
     }
 }
 
-/// Whether an entry is no COMDAT.
+/// Whether an entry is neither a COMDAT nor an alias.
 fn is_strong_at(entries: &[Entry<'_>], number: usize) -> bool {
     match entries.get(number) {
         Some(entry) => entry.is_strong,
@@ -126,7 +126,7 @@ fn is_strong_at(entries: &[Entry<'_>], number: usize) -> bool {
     }
 }
 
-/// Counts the entries of each name at the first of them. Returns the first entry that is no COMDAT and has a name twice.
+/// Counts the entries of each name at the first of them. Returns the first entry that is neither a COMDAT nor an alias and has a name twice.
 fn count_all(is_case_sensitive: bool, entries: &mut [Entry<'_>], order: &[usize]) -> Option<Twice> {
     let mut twice: Option<Twice> = None;
     let mut first = entries.len();
@@ -164,8 +164,8 @@ fn fault_of(entries: &[Entry<'_>], twice: Twice) -> MakeFault {
     }
 }
 
-/// The names of the parts as they are put: publics and imports, then COMDATs, of which those that are there already have
-/// the count 0.
+/// The names of the parts as they are put: publics and imports, then COMDATs and aliases, of which those that are there
+/// already have the count 0.
 pub fn entries_of<'a>(
     alloc: Global,
     is_case_sensitive: bool,

@@ -258,7 +258,7 @@ fn entry_size(name: &[u8]) -> usize {
     size.max(ROOM.div_ceil(BUCKETS))
 }
 
-/// The bytes that the entries of a part take, without communals: these may be those of other parts.
+/// The bytes that the entries of a part take, without COMDATs and aliases: these may be those of other parts.
 fn entries_size(part: &Part) -> usize {
     let mut size = 0usize;
     for defined in part.names.iter() {
@@ -269,7 +269,7 @@ fn entries_size(part: &Part) -> usize {
     size
 }
 
-/// The least number of blocks to try: that in which the entries, without communals, fill four fifths of the room.
+/// The least number of blocks to try: that in which the entries, without COMDATs and aliases, fill four fifths of the room.
 fn least_blocks(parts: &[Part]) -> usize {
     let mut size = 0usize;
     for part in parts {

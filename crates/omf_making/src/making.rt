@@ -81,7 +81,7 @@ pub enum MakeFault {
         reason: Reason,
         place: Place,
     },
-    /// Two parts define one name, other than as a COMDAT: that of this number in the second. Or one part defines it
+    /// Two parts define one name, other than as a COMDAT or an alias: that of this number in the second. Or one part defines it
     /// twice.
     #[error("two modules define one name")]
     Twice {
@@ -269,7 +269,7 @@ fn is_entered(opened: Opened<'_>, page: usize, defined: &Defined) -> bool
     let name = defined.name.as_slice();
     match defined.kind {
         Kind::Public | Kind::Import => both_find(opened.dictionary, name, page),
-        Kind::Comdat | Kind::Communal => is_shared_entered(opened, name),
+        Kind::Comdat | Kind::Communal | Kind::Alias => is_shared_entered(opened, name),
     }
 }
 
@@ -517,7 +517,7 @@ fn sure(
 /// # Errors
 ///
 /// `Refused` with the first part of which no program takes a module, `Rest` with the first that has bytes after its module, `Twice` if two
-/// parts define one name other than as a COMDAT (or one part twice), `TooLarge` if the pages are more than 65,536 with each page size, `LongSearches` if
+/// parts define one name other than as a COMDAT or an alias (or one part twice), `TooLarge` if the pages are more than 65,536 with each page size, `LongSearches` if
 /// no dictionary was found with short searches, as where many names have one hash. `Unlike` if what was built is not read back
 /// although each part is whole, which is not met. `Memory` if out of memory.
 pub fn make(

@@ -5,11 +5,11 @@ ghost use Rattle.omf_records.specs.Inner.Seen.{rec_seen};
 ghost use Rattle.omf_check.specs.Module.{recs_of};
 ghost use Rattle.omf_lowering.specs.Marks.{selection_by};
 ghost use Rattle.omf_library.specs.Imports.{import_class, imported};
-ghost use Rattle.omf_making.specs.Names.{defined_as, defined_by, defined_names, entered, has_entry, is_strong, kind_by, name_seen, names_seen};
+ghost use Rattle.omf_making.specs.Names.{alias_named, defined_as, defined_by, defined_names, entered, has_entry, is_strong, kind_by, name_seen, names_seen, recorded_names};
 ghost use Rattle.omf_making.specs.declared.names.Kind.TheVariants as shown;
 
 use omf_check::{Checked, Undecoded};
-use omf_library::imported;
+use omf_library::{AliasPair, alias_pairs, imported};
 use omf_lowering::selection_of;
 use omf_records::{Communal, Items, Public, Rec};
 use std::alloc::{AllocError, Global};
@@ -25,6 +25,8 @@ pub enum Kind {
     Comdat,
     /// By a COMDEF. The dictionary of a library that is made has none of these.
     Communal,
+    /// By an ALIAS, for a substitute. Other modules may have one of the name, or a public, which then counts.
+    Alias,
 }
 
 /// A name that a module defines.
@@ -34,13 +36,13 @@ pub struct Defined {
     pub name: Vec<u8>,
 }
 
-/// Whether a name counts before COMDATs and communals of it.
+/// Whether a name counts before COMDATs, communals and aliases of it.
 pub(crate) fn is_strong(kind: Kind) -> bool
     ensures { result ≡ is_strong kind }
 {
     match kind {
         Kind::Public | Kind::Import => true,
-        Kind::Comdat | Kind::Communal => false,
+        Kind::Comdat | Kind::Communal | Kind::Alias => false,
     }
 }
 
@@ -59,6 +61,7 @@ fn kind_by(is_marked: bool, kind: Kind) -> Kind
         Kind::Import => Kind::Import,
         Kind::Comdat => Kind::Comdat,
         Kind::Communal => Kind::Communal,
+        Kind::Alias => Kind::Alias,
     }
 }
 
@@ -189,13 +192,13 @@ fn is_mark(rec: &Undecoded<'_>) -> bool
     selection_of(rec).is_some()
 }
 
-/// The names that a module defines, in the order of its records: those of its PUBDEFs, import definitions and COMDEFs.
+/// The names that a module defines, but for aliases, in the order of its records: those of its PUBDEFs, import definitions and COMDEFs.
 ///
 /// # Errors
 ///
 /// `AllocError` if out of memory.
-pub fn defined_names(alloc: Global, module: &Checked) -> Result<Vec<Defined>, AllocError>
-    ensures { IfOk result (λ names. names_seen names.items ≡ defined_names (recs_of «module».now.bytes)) }
+fn recorded_names(alloc: Global, module: &Checked) -> Result<Vec<Defined>, AllocError>
+    ensures { IfOk result (λ names. names_seen names.items ≡ recorded_names (recs_of «module».now.bytes)) }
 {
     let mut names = Vec::new(alloc);
     let mut last = Vec::new(alloc);
@@ -207,12 +210,40 @@ pub fn defined_names(alloc: Global, module: &Checked) -> Result<Vec<Defined>, Al
     Ok(names)
 }
 
+/// Appends the names of aliases.
+fn push_aliases(
+    alloc: Global,
+    names: &mut Vec<Defined>,
+    pairs: Vec<AliasPair<'_>>,
+) -> Result<(), AllocError>
+    ensures { OnOk result (names_seen names.new.items ≡ names_seen names.old.items ++ map alias_named pairs.entry.items) }
+{
+    for pair in pairs {
+        push_name(alloc, names, Kind::Alias, pair.alias.0)?;
+    }
+    Ok(())
+}
+
+/// The names that a module defines, in the order of its records: those of its PUBDEFs, import definitions and COMDEFs; then those of its aliases.
+///
+/// # Errors
+///
+/// `AllocError` if out of memory.
+pub fn defined_names(alloc: Global, module: &Checked) -> Result<Vec<Defined>, AllocError>
+    ensures { IfOk result (λ names. names_seen names.items ≡ defined_names (recs_of «module».now.bytes)) }
+{
+    let mut names = recorded_names(alloc, module)?;
+    let pairs = alias_pairs(alloc, module)?;
+    push_aliases(alloc, &mut names, pairs)?;
+    Ok(names)
+}
+
 /// Whether a name has an entry in the dictionary of a library that is made: that of a communal has none.
 fn has_entry(kind: Kind) -> bool
     ensures { result ≡ has_entry kind }
 {
     match kind {
-        Kind::Public | Kind::Import | Kind::Comdat => true,
+        Kind::Public | Kind::Import | Kind::Comdat | Kind::Alias => true,
         Kind::Communal => false,
     }
 }
