@@ -181,6 +181,16 @@ def communal_names(body):
             at += {0x81: 3, 0x84: 4, 0x88: 5}.get(body[at], 1)
 
 
+def alias_names(body):
+    """The names of an ALIAS, each before its substitute; none if it ends within a name."""
+    names, at = [], 0
+    while at < len(body):
+        end = at + 1 + body[at]
+        names.append(body[at + 1:end])
+        at = end
+    return names[:len(names) // 2 * 2:2] if at == len(body) else []
+
+
 def records(module_):
     """The types and the bodies of a module's records."""
     at = 0
@@ -201,16 +211,18 @@ def defined_by(kind, body):
         return public_names(kind, body)
     if kind == 0xB0:
         return communal_names(body)
+    if kind == 0xC6:
+        return alias_names(body)
     return [body[5:5 + body[4]]] if kind == 0x88 and body[1:3] == b"\xA0\x01" and len(body) > 4 else []
 
 
 def defined(module_):
-    """The names that a module defines: its publics, communals and imports."""
+    """The names that a module defines: its publics, communals, imports and aliases."""
     return (name for kind, body in records(module_) for name in defined_by(kind, body))
 
 
 def communals_alone(modules):
-    """The names of communals that no public and no import of these modules has; none if a module has a COMDAT, which may have one of them."""
+    """The names of communals that no public, import or alias of these modules has; none if a module has a COMDAT, which may have one of them."""
     parts = [it for one in modules for it in records(one)]
     if any(kind in (0xC2, 0xC3) for kind, _ in parts):
         return set()
