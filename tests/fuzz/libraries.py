@@ -200,6 +200,11 @@ def records(module_):
         at += 3 + size
 
 
+def aliases(module_):
+    """The aliases of a module."""
+    return {name for kind, body in records(module_) if kind == 0xC6 for name in alias_names(body)}
+
+
 def has_alias(module_):
     """Whether a module has an ALIAS record: then it may define more names."""
     return any(kind == 0xC6 for kind, _ in records(module_))

@@ -27,6 +27,7 @@ def make_again(lib, members, folder):
         promised(is_whole(lib, "made.lib", folder) == members, "make: other members")
         entries = {name for name, _ in libraries.entries((folder / "made.lib").read_bytes())}
         promised(not entries & libraries.communals_alone(members), "make: an entry of a communal")
+        promised({it for one in members for it in libraries.aliases(one)} <= entries, "make: an alias without an entry")
     else:
         promised(re.match(rb"(twice|refused|m\d+\.obj: refused)\b", text), f"make: {text[:200]}")
     promised(not any(it.endswith(".tmp") for it in os.listdir(folder)), "a .tmp file is left")
