@@ -1,16 +1,14 @@
 -- What is found so far, and what is left.
-use Rattle.std.proofs.Common.{◌≡◌, ℕ, ◌+◌, ◌<◌, Bool, true, false, List, [], ◌∷◌, ◌++◌, length, drop, get_or, refl, sym, ap, ap₂, subst, inr, ◌∙◌, append_assoc}
+use Rattle.std.proofs.Common.{◌≡◌, ℕ, ◌+◌, ◌<◌, Bool, true, false, List, [], ◌∷◌, ◌++◌, length, drop, get_or, refl, sym, ap, ap₂, subst, inl, inr, ◌∙◌, append_assoc}
 use Rattle.std.proofs.lemmas.List.{append-nil, drop_more}
-use Rattle.std.specs.Prelude.{◌||◌, Option, Some, None, Result, Ok}
+use Rattle.std.specs.Prelude.{◌||◌, Option, Some, None, Ok}
 use Rattle.omf_library.specs.Dictionary.{HasOther, IsDictionary}
 use Rattle.omf_library.specs.Library.{header_of}
-use Rattle.omf_library.specs.LibraryMembers.{names_kept}
 use Rattle.omf_library.specs.declared.dictionary.Dictionary.{Dictionary}
 use Rattle.omf_library.specs.declared.header.Header.{Header}
 use Rattle.omf_library.specs.declared.spans.Span.{Span}
-use Rattle.omf_library.specs.declared.spans.SpanFault.{SpanFault}
 use Rattle.omf_lib.specs.Find.{AreNamesFound, ArePlaces, IsFound, IsFoundIn, IsNameFound, IsSpelledAt, any_profile, is_nowhere, name_text}
-use Rattle.omf_lib.specs.Members.{AreAllPublics, ArePublics, IsLibraryRead, Public, publics_seen}
+use Rattle.omf_lib.specs.Members.{AreAllPublics, ArePublics, IsLibraryRead, IsPlaced, Public, begins_before, publics_seen}
 use Rattle.omf_lib.specs.declared.asked.Find.{Find}
 use Rattle.omf_lib.specs.declared.finding.First.{First}
 use Rattle.omf_lib.specs.declared.finding.Listed.{Listed}
@@ -96,12 +94,7 @@ found_there asked bytes l is_refused old new r p =
     let there = subst (λ (bs : List ℕ). IsFoundIn asked (header_of bytes) bs l.spans.members.items l.spans.end is_refused p.0) r.1 (subst (λ (h : Header). IsFoundIn asked h l.bytes.now l.spans.members.items l.spans.end is_refused p.0) r.2 p.1) in
     (p.0, inr (r.0, l.spans.members.items, l.spans.end, r.3, there), p.2)
 
--- the names in a library that has an end
-pub found_names : (asked : Find) (h : Header) (bytes : List ℕ) (members given : List Span) (end : Result ℕ SpanFault) (e : ℕ) (dictionary : Option Dictionary) (all : List Listed) (slice : List Listed) (names : List (List ℕ)) (is_refused : Bool) (old new : List ℕ)
-    → end ≡ Ok e → IsDictionary h bytes dictionary → given ≡ members → slice ≡ all → names ≡ names_kept asked.names.items → AreAllPublics any_profile 0 given (publics_seen all)
-    → (own : List ℕ) × AreNamesFound asked.ignores_case dictionary (publics_seen slice) names is_refused own × (new ≡ old ++ own)
-    → (own : List ℕ) × IsFoundIn asked h bytes members end is_refused own × (new ≡ old ++ own)
-found_names asked h bytes members given end e dictionary all slice names is_refused old new r d g s n a p =
-    let own = subst (λ (ns : List (List ℕ)). AreNamesFound asked.ignores_case dictionary (publics_seen all) ns is_refused p.0) n (subst (λ (ps : List Listed). AreNamesFound asked.ignores_case dictionary (publics_seen ps) names is_refused p.0) s p.1) in
-    let there = subst (λ (ms : List Span). AreAllPublics any_profile 0 ms (publics_seen all)) g a in
-    (p.0, subst (λ (x : Result ℕ SpanFault). IsFoundIn asked h bytes members x is_refused p.0) (sym r) (dictionary, publics_seen all, d, there, own), p.2)
+-- a dictionary that does not begin before the end of the members
+pub placed_there : (h : Header) (bytes : List ℕ) (end : ℕ) (d : Option Dictionary) → begins_before h end ≡ false → IsDictionary h bytes d → IsPlaced h bytes end d
+placed_there h bytes end None b i = inl i
+placed_there h bytes end (Some d) b i = (i, b)

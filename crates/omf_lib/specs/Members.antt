@@ -1,15 +1,18 @@
 -- The members of a library, and the publics that they have (this profile's rule).
-use Rattle.std.specs.Prelude.{◌≡◌, ◌⊎◌, ℕ, ◌+◌, Bool, true, false, if◌then◌else◌, List, [], ◌∷◌, ◌++◌, map, Result, Ok, Err}
+use Rattle.std.specs.Prelude.{◌≡◌, ◌⊎◌, ℕ, ◌+◌, ◌==◌, ◌&&◌, nat_lt, not, Bool, true, false, if◌then◌else◌, List, [], ◌∷◌, ◌++◌, map, Option, Some, None, Result, Ok, Err}
 use Rattle.omf_image.specs.Limits.{profile_limits}
 use Rattle.omf_check.specs.Checking.{Decides}
 use Rattle.omf_check.specs.Module.{recs_of}
 use Rattle.omf_check.specs.Refusal.{IsRefused}
 use Rattle.omf_check.specs.declared.profile.Profile.{Profile}
+use Rattle.omf_library.specs.Dictionary.{IsDictionary}
 use Rattle.omf_library.specs.Library.{HasHeader, IsHeaderRead, header_of, page_size}
 use Rattle.omf_making.specs.Names.{Defined, defined_names}
 use Rattle.omf_library.specs.Spans.{AreSpansIn}
 use Rattle.omf_making.specs.Taken.{IsTaken, IsUntaken}
+use Rattle.omf_library.specs.declared.dictionary.Dictionary.{Dictionary}
 use Rattle.omf_library.specs.declared.fault.LibraryFault.{LibraryFault}
+use Rattle.omf_library.specs.declared.header.Header.{Header}
 use Rattle.omf_making.specs.declared.names.Kind.{Kind}
 use Rattle.omf_making.specs.declared.names.Kind.TheVariants as kind
 use Rattle.omf_library.specs.declared.spans.Span.{Span}
@@ -56,6 +59,15 @@ ArePublics profile number bytes ps =
 abbrev pub AreAllPublics : Profile → ℕ → List Span → List Public → Type 0
 AreAllPublics profile number [] ps = ps ≡ []
 AreAllPublics profile number (m ∷ ms) ps = (own : List Public) × (others : List Public) × ArePublics profile number m.bytes.now own × AreAllPublics profile (number + 1) ms others × (ps ≡ own ++ others)
+
+-- Whether the dictionary of a header with one begins before an offset.
+abbrev pub begins_before : Header → ℕ → Bool
+begins_before h offset = not (h.blocks == 0) && nat_lt h.dictionary offset
+
+-- The dictionary that is looked at: it is in the file, and does not begin before the F1H record at this offset.
+abbrev pub IsPlaced : Header → List ℕ → ℕ → Option Dictionary → Type 0
+IsPlaced h bytes end None = IsDictionary h bytes None ⊎ (begins_before h end ≡ true)
+IsPlaced h bytes end (Some d) = IsDictionary h bytes (Some d) × (begins_before h end ≡ false)
 
 -- What of a file can be read as a library: its header, its members, and how they end; or why it has no header.
 abbrev pub IsLibraryRead : List ℕ → Result Library LibraryFault → Type 0

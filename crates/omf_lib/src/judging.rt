@@ -109,14 +109,17 @@ fn look_up_comdat(
     }
 }
 
-/// Looks up the publics of a member, if there is a dictionary. A communal and an alias may have an entry, or none.
+/// Looks up the publics of a member, if there is a dictionary after the members. A communal and an alias may have an entry, or none.
 fn look_up_all(
     report: &mut Report,
     library: &Library<'_>,
     member: &Member<'_>,
     names: &[Defined],
 ) -> Result<(), AllocError> {
-    let Some(dictionary) = library.dictionary() else {
+    let Ok(end) = library.spans.end else {
+        return Ok(());
+    };
+    let Some(dictionary) = library.dictionary_after(end) else {
         return Ok(());
     };
     let page = page_of(library.header, member.offset);
@@ -243,7 +246,7 @@ fn pages_of(alloc: Global, library: &Library<'_>) -> Result<Vec<bool>, AllocErro
     Ok(pages)
 }
 
-/// Checks an entry of the dictionary. `known` is what the searches find, if another bucket points to this entry.
+/// Checks an entry of the dictionary. `known` is what the searches find, if another bucket points to this entry, so that it is counted.
 fn judge_entry(
     report: &mut Report,
     dictionary: Dictionary<'_>,
@@ -251,11 +254,11 @@ fn judge_entry(
     entry: Named<'_>,
     known: &mut Option<Both>,
 ) -> Result<(), AllocError> {
-    report.entries = report.entries.saturating_add(1);
     if pages.get(usize::from(entry.page)) != Some(&true) {
         report.shown.fault(Fault::EntryNowhere(entry))?;
     }
     if known.is_none() {
+        report.entries = report.entries.saturating_add(1);
         *known = report.search_twice(dictionary, entry.name);
     }
     let Some(found) = *known else {
@@ -270,7 +273,7 @@ fn judge_entry(
     Ok(())
 }
 
-/// Checks the entries of a block, which begins at an offset of the file. Each is searched once, however many buckets point to it.
+/// Checks the entries of a block, which begins at an offset of the file. Each is counted and searched once, however many buckets point to it.
 fn judge_block(
     report: &mut Report,
     dictionary: Dictionary<'_>,
@@ -300,27 +303,28 @@ fn judge_block(
     Ok(())
 }
 
-/// Checks the place of the dictionary.
-fn judge_place(shown: &mut Shown, library: &Library<'_>, end: usize) -> Result<(), AllocError> {
+/// Checks the place of the dictionary, if the members have an end.
+fn judge_place(shown: &mut Shown, library: &Library<'_>) -> Result<(), AllocError> {
+    let Ok(end) = library.spans.end else {
+        return Ok(());
+    };
     let offset = library.dictionary_offset();
     if offset % BLOCK != 0 {
         shown.fault(Fault::DictionaryOffset(offset))?;
     }
-    if library.dictionary().is_none() || library.header.blocks != 0 && offset < end {
+    if library.dictionary_after(end).is_none() {
         shown.fault(Fault::DictionaryOutside(offset))?;
     }
     Ok(())
 }
 
-/// Checks the entries of the dictionary, if it is in the file, block by block.
+/// Checks the entries of the dictionary, block by block.
 fn judge_entries<K: Sink>(
     report: &mut Report,
     writer: &mut K,
     library: &Library<'_>,
+    dictionary: Dictionary<'_>,
 ) -> Result<(), Stop> {
-    let Some(dictionary) = library.dictionary() else {
-        return Ok(());
-    };
     let pages = pages_of(*report.shown.text.allocator(), library)?;
     let start = library.dictionary_offset();
     for number in 0..dictionary.blocks() {
@@ -334,7 +338,8 @@ fn judge_entries<K: Sink>(
     Ok(())
 }
 
-/// Checks what is after the members, whose names have these keys. Returns whether there is a fault of the end or of a name that is not defined.
+/// Checks what is after the members, whose names have these keys. Returns whether there is a fault of the end, no dictionary after it, or a name that is
+/// not defined.
 fn judge_end<K: Sink>(
     report: &mut Report,
     writer: &mut K,
@@ -345,8 +350,10 @@ fn judge_end<K: Sink>(
 {
     match library.spans.end {
         Ok(end) => {
-            judge_place(&mut report.shown, library, end)?;
-            judge_entries(report, writer, library)?;
+            let Some(dictionary) = library.dictionary_after(end) else {
+                return Ok(true);
+            };
+            judge_entries(report, writer, library, dictionary)?;
             judge_definitions(&mut report.shown, writer, library, keys)
         }
         Err(fault) => {
@@ -392,6 +399,7 @@ fn judge_library<K: Sink>(
 ) -> Result<Status, Stop>
     ensures { IfOk result (λ s. s ≡ status.Done → (ds : List Definer) × AreDefiners profile library.now.header.page library.now.spans.members.items ds × IsLibraryDefined library.now ds) }
 {
+    judge_place(&mut report.shown, library)?;
     let members = library.spans.members.as_slice();
     let keys = judge_members(report, writer, profile, library, members)?;
     let is_refused = judge_end(report, writer, library, &keys)?;

@@ -2,7 +2,7 @@
 
 ghost use Rattle.std.specs.Prelude.{◌≡◌, IfOk};
 ghost use Rattle.omf_library.specs.Dictionary.{IsDictionary};
-ghost use Rattle.omf_lib.specs.Members.{IsLibraryRead};
+ghost use Rattle.omf_lib.specs.Members.{begins_before, IsLibraryRead, IsPlaced};
 
 use crate::members::Member;
 use omf_library::{
@@ -38,6 +38,13 @@ pub fn read_library<'a>(
     }
 }
 
+/// Whether the dictionary of a header with one begins before an offset.
+fn begins_before(header: Header, offset: usize) -> bool
+    ensures { result ≡ begins_before header offset }
+{
+    header.blocks != 0 && (header.dictionary as usize) < offset
+}
+
 /// The number of the page at an offset.
 pub fn page_of(header: Header, offset: usize) -> Option<usize> {
     offset.checked_div(header.page as usize)
@@ -61,6 +68,18 @@ impl<'a> Library<'a> {
         ensures { IsDictionary self.now.header self.now.bytes.now result }
     {
         dictionary_in(self.header, self.bytes)
+    }
+
+    /// The dictionary, if it is in the file, and after the F1H record at this offset.
+    #[tactic(auto, using(crate::proofs::FindLaws::placed_there))]
+    pub fn dictionary_after(&self, end: usize) -> Option<Dictionary<'a>>
+        ensures { IsPlaced self.now.header self.now.bytes.now end result }
+    {
+        if begins_before(self.header, end) {
+            None
+        } else {
+            self.dictionary()
+        }
     }
 
     /// The offset of the dictionary.
