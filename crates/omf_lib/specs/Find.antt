@@ -4,7 +4,7 @@ use Rattle.omf_check.specs.declared.profile.Profile.{Profile}
 use Rattle.omf_host.specs.Lines.{failure_line}
 use Rattle.omf_host.specs.declared.ending.Status.{Status}
 use Rattle.omf_host.specs.declared.ending.Status.TheVariants as status
-use Rattle.omf_library.specs.Dictionary.{HasOther, IsDictionary, IsFirstEntry, IsFirstInBlock, IsSought, block_count, block_of, entry_offset, is_same_name, look_of, name_at}
+use Rattle.omf_library.specs.Dictionary.{HasOther, IsFirstEntry, IsFirstInBlock, IsSought, block_count, block_of, entry_offset, is_same_name, look_of, name_at}
 use Rattle.omf_library.specs.Hash.{buckets}
 use Rattle.omf_library.specs.declared.dictionary.Look.TheVariants as look
 use Rattle.omf_library.specs.LibraryMembers.{names_kept}
@@ -18,9 +18,10 @@ use Rattle.omf_library.specs.declared.spans.Span.{Span}
 use Rattle.omf_library.specs.declared.spans.SpanFault.{SpanFault}
 use Rattle.omf_placement.specs.Quoted.{quoted}
 use Rattle.omf_lib.specs.Lines.{fault_line, header_fault, page_fault, public_line}
-use Rattle.omf_lib.specs.Members.{AreAllPublics, Public}
+use Rattle.omf_lib.specs.Members.{AreAllPublics, IsPlaced, Public}
 use Rattle.omf_lib.specs.Near.{near_name}
 use Rattle.omf_lib.specs.declared.asked.Find.{Find}
+use Rattle.omf_lib.specs.declared.fault.Fault.TheVariants as fault
 use Rattle.omf_lib.specs.declared.finding.Entry.{Entry}
 use Rattle.omf_lib.specs.declared.finding.First.{First}
 
@@ -105,11 +106,24 @@ AreNamesFound ignores dictionary publics (n ∷ ns) is_refused text = (one : Boo
 abbrev pub any_profile : Profile
 any_profile = record { refuse_vendor_comments = false }
 
+-- The names in a library with these members and this dictionary.
+abbrev pub AreNamesIn : Find → List Span → Option Dictionary → Bool → List ℕ → Type 0
+AreNamesIn asked members dictionary is_refused text = (publics : List Public) × AreAllPublics any_profile 0 members publics × AreNamesFound asked.ignores_case dictionary publics (names_kept asked.names.items) is_refused text
+
+-- A dictionary that is not there is a fault, whose line is the first one.
+abbrev pub is_outside : Option Dictionary → Bool
+is_outside None = true
+is_outside (Some d) = false
+
+abbrev pub outside_text : Header → Option Dictionary → List ℕ
+outside_text h None = fault_line (fault.DictionaryOutside h.dictionary)
+outside_text h (Some d) = []
+
 -- What is printed for a library with this header and these members; or for a file in which something else is there in place of a member.
 abbrev pub IsFoundIn : Find → Header → List ℕ → List Span → Result ℕ SpanFault → Bool → List ℕ → Type 0
 IsFoundIn asked h bytes members (Err f) is_refused text = (is_refused ≡ true) × (text ≡ fault_line (page_fault f))
-IsFoundIn asked h bytes members (Ok end) is_refused text = (dictionary : Option Dictionary) × (publics : List Public) × IsDictionary h bytes dictionary
-    × AreAllPublics any_profile 0 members publics × AreNamesFound asked.ignores_case dictionary publics (names_kept asked.names.items) is_refused text
+IsFoundIn asked h bytes members (Ok end) is_refused text = (dictionary : Option Dictionary) × (are_refused : Bool) × (own : List ℕ) × IsPlaced h bytes end dictionary
+    × AreNamesIn asked members dictionary are_refused own × (is_refused ≡ (is_outside dictionary || are_refused)) × (text ≡ outside_text h dictionary ++ own)
 
 -- What is printed for a file.
 abbrev pub IsFound : Find → List ℕ → Bool → List ℕ → Type 0

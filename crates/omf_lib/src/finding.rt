@@ -7,7 +7,7 @@ ghost use Rattle.omf_host.specs.Lines.{failure_line};
 ghost use Rattle.omf_library.specs.Dictionary.{IsBucket, block_count, block_of};
 ghost use Rattle.omf_library.specs.LibraryMembers.{names_kept};
 ghost use Rattle.omf_making.specs.Names.{names_seen};
-ghost use Rattle.omf_lib.specs.Find.{any_profile, AreNamesFound, ArePlaces, entry_text, found_word, is_nowhere, IsEntry, IsEntryText, IsFirstSpelled, IsFirstSpelledIn, IsSpelledAt, IsFound, IsFoundIn, IsNameFound, name_text, near_public, near_words, nowhere_reason, public_text, publics_text, refused_status};
+ghost use Rattle.omf_lib.specs.Find.{any_profile, AreNamesFound, AreNamesIn, ArePlaces, entry_text, found_word, is_nowhere, is_outside, IsEntry, IsEntryText, IsFirstSpelled, IsFirstSpelledIn, IsSpelledAt, IsFound, IsFoundIn, IsNameFound, name_text, near_public, near_words, nowhere_reason, outside_text, public_text, publics_text, refused_status};
 ghost use Rattle.omf_lib.specs.Members.{AreAllPublics, ArePublics, is_public, public_seen, publics_among, publics_seen, Public};
 
 use crate::asked::Find;
@@ -22,7 +22,7 @@ use crate::text::put_fault;
 use omf_check::Profile;
 use omf_frame::Sink;
 use omf_host::{Status, put_name, put_quoted};
-use omf_library::{BUCKETS, Bucket, Dictionary, Rule, Sought, Span};
+use omf_library::{BUCKETS, Bucket, Dictionary, Header, Rule, Sought, Span};
 use omf_making::{Defined, Judgement, Kind, defined_names};
 use std::alloc::{AllocError, Global};
 use std::fmt::Write;
@@ -380,20 +380,52 @@ fn put_names(text: &mut String, sources: Sources<'_>, names: &[Vec<u8>]) -> Resu
     Ok(is_refused)
 }
 
+/// Appends the fault of a dictionary that is not there. Returns whether there is none.
+fn put_outside(
+    text: &mut String,
+    header: Header,
+    dictionary: Option<Dictionary<'_>>,
+) -> Result<bool, AllocError>
+    ensures { IfOk result (λ is_refused. (is_refused ≡ is_outside dictionary.entry) × (string_bytes text.new ≡ string_bytes text.old ++ outside_text header dictionary.entry)) }
+{
+    match dictionary {
+        Some(_) => Ok(false),
+        None => {
+            put_fault(text, Fault::DictionaryOutside(header.dictionary as usize))?;
+            Ok(true)
+        }
+    }
+}
+
+/// Appends the text of the names in a library with this dictionary. Returns whether one is refused.
+fn put_named(
+    text: &mut String,
+    asked: &Find,
+    library: &Library<'_>,
+    dictionary: Option<Dictionary<'_>>,
+) -> Result<bool, AllocError>
+    ensures { IfOk result (λ is_refused. (own : List ℕ) × AreNamesIn asked.now library.now.spans.members.items dictionary.entry is_refused own × (string_bytes text.new ≡ string_bytes text.old ++ own)) }
+{
+    let publics = all_publics(*text.allocator(), library.spans.members.as_slice())?;
+    let sources = Sources {
+        ignores_case: asked.ignores_case,
+        dictionary,
+        publics: publics.as_slice(),
+    };
+    let is_refused = put_names(text, sources, asked.names.as_slice())?;
+    Ok(is_refused)
+}
+
 /// Appends what is printed for a library. Returns whether it is refused.
 fn put_library(text: &mut String, asked: &Find, library: &Library<'_>) -> Result<bool, AllocError>
     ensures { IfOk result (λ is_refused. (own : List ℕ) × IsFoundIn asked.now library.now.header library.now.bytes.now library.now.spans.members.items library.now.spans.end is_refused own × (string_bytes text.new ≡ string_bytes text.old ++ own)) }
 {
     match library.spans.end {
-        Ok(_) => {
-            let publics = all_publics(*text.allocator(), library.spans.members.as_slice())?;
-            let sources = Sources {
-                ignores_case: asked.ignores_case,
-                dictionary: library.dictionary(),
-                publics: publics.as_slice(),
-            };
-            let is_refused = put_names(text, sources, asked.names.as_slice())?;
-            Ok(is_refused)
+        Ok(end) => {
+            let dictionary = library.dictionary_after(end);
+            let is_outside = put_outside(text, library.header, dictionary)?;
+            let is_refused = put_named(text, asked, library, dictionary)?;
+            Ok(is_either(is_outside, is_refused))
         }
         Err(fault) => {
             put_fault(text, Fault::from(fault))?;
