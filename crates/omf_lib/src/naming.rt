@@ -22,7 +22,9 @@ pub fn path_of(alloc: Global, folder: &str, name: &str) -> Result<String, AllocE
     format!(in alloc; "{folder}/{name}.obj")
 }
 
-/// Whether an argument names a member: by its number, or by its name as it is shown.
-pub fn is_named(argument: &str, number: usize, name: &str) -> bool {
-    argument == name || argument.parse::<usize>() == Ok(number)
+/// Whether an argument names a member: by its number, by its name as it is shown, or by the bytes of its name.
+pub fn is_named(argument: &str, member: &Member<'_>, shown: &str) -> bool {
+    argument == shown
+        || argument.as_bytes() == name_of(member.bytes)
+        || argument.parse::<usize>() == Ok(member.number)
 }

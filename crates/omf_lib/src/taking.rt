@@ -3,11 +3,13 @@
 use crate::asked::Get;
 use crate::fault::Fault;
 use crate::library::{Library, member_of, read_library};
-use crate::members::Member;
+use crate::members::{Member, taken_of};
 use crate::naming::{is_named, is_outside, path_of, shown_name};
 use crate::shown::{Stop, Told};
+use omf_check::Profile;
 use omf_frame::Sink;
 use omf_host::{Status, Streams, Written, put_name, write_new};
+use omf_making::Judgement;
 use std::alloc::{AllocError, Global};
 use std::fmt::Write;
 use std::io;
@@ -54,13 +56,13 @@ fn take(
     }
 }
 
-/// Whether a member is asked for. No arguments ask for all.
-fn is_asked(get: &Get, number: usize, name: &str) -> bool {
+/// Whether a member is asked for, whose name is shown so. No arguments ask for all.
+fn is_asked(get: &Get, member: &Member<'_>, shown: &str) -> bool {
     get.members.is_empty()
         || get
             .members
             .iter()
-            .any(|argument| is_named(argument.as_str(), number, name))
+            .any(|argument| is_named(argument.as_str(), member, shown))
 }
 
 /// The name of a member's file, without `.obj`.
@@ -71,7 +73,23 @@ fn file_name(alloc: Global, get: &Get, number: usize, name: String) -> Result<St
     Ok(name)
 }
 
-/// Takes the members that are asked for, in the order of the library.
+/// Appends the line of a member that no program takes.
+fn put_refused(told: &mut Told<'_>, member: &Member<'_>) -> Result<(), AllocError> {
+    let profile = Profile {
+        refuse_vendor_comments: false,
+    };
+    match taken_of(*told.faults.allocator(), profile, member.bytes)? {
+        Judgement::Taken(_) => Ok(()),
+        Judgement::Refused(why) => told.fault(Fault::Member {
+            offset: member.offset,
+            member: member.number,
+            reason: why.reason,
+            place: why.place,
+        }),
+    }
+}
+
+/// Takes the members that are asked for, in the order of the library. One that no program takes has a line too.
 fn take_members<K: Sink, E: Sink>(
     rt: &HostRuntime,
     told: &mut Told<'_>,
@@ -82,8 +100,9 @@ fn take_members<K: Sink, E: Sink>(
     for (number, span) in library.spans.members.iter().enumerate() {
         let member = member_of(number, span);
         let name = shown_name(rt.alloc(), &member)?;
-        if is_asked(get, number, name.as_str()) {
+        if is_asked(get, &member, name.as_str()) {
             let name = file_name(rt.alloc(), get, number, name)?;
+            put_refused(told, &member)?;
             take(rt, told, get.folder.as_str(), name.as_str(), &member)?;
             told.flush(streams)?;
         }
@@ -94,8 +113,9 @@ fn take_members<K: Sink, E: Sink>(
 /// Whether an argument names one of the members.
 fn names_member(alloc: Global, library: &Library<'_>, argument: &str) -> Result<bool, AllocError> {
     for (number, span) in library.spans.members.iter().enumerate() {
-        let name = shown_name(alloc, &member_of(number, span))?;
-        if is_named(argument, number, name.as_str()) {
+        let member = member_of(number, span);
+        let name = shown_name(alloc, &member)?;
+        if is_named(argument, &member, name.as_str()) {
             return Ok(true);
         }
     }
