@@ -33,6 +33,15 @@ TEXTS |= {"twice.obj": SAY + bytes(3) + SAY, "second.obj": SAY + (ROOT / "exampl
 MARK = (ROOT / "examples/link/mark.obj").read_bytes()
 TEXTS |= {"padded.obj": MARK + b"\x1A\x1A", "b\x1b[2J": MARK + b"\0\0MZ", "text.obj": MARK + b";\n", "old lib": b"\xF0\x0D\0", "empty.obj": b""}
 
+
+def library(flags, *modules):
+    """A library of pages of 16 bytes, without a dictionary: the header, the modules, each at a page, and F1H."""
+    return bytes.fromhex("F00D00 00000000 0000") + bytes([flags]) + bytes(6) + b"".join(it + bytes(-len(it) % 16) for it in modules) + bytes.fromhex("F10100 00")
+
+
+# Libraries: one in which case does not count, one in which it does, one with a name twice, and one with a member that is refused.
+TEXTS |= {"old.lib": library(0, SAY), "same.lib": library(1, SAY), "dup.lib": library(1, SAY, SAY), "bad.lib": library(1, (ROOT / "examples/reasons/06-Checksum.omf").read_bytes(), MARK)}
+
 # Names in a response file: with spaces, in quotes of both kinds, an empty one; what follows 1AH is not read.
 TEXTS["names.rsp"] = "--verdict\t\"my name.obj\"\r\n 'a b'c\"d e\" x'\"'y\n\x1Az"
 TEXTS["empty.rsp"] = "make -o \"\" main.obj"
@@ -88,7 +97,7 @@ def faults(folder, call, status, said):
         yield "files are made or changed"
 
 
-# Calls that go on after a file that is refused or can't be read: the status, the lines that begin the output, and those on the standard error.
+# Calls that go on after a file that is refused or can't be read, or after a warning: the status, the lines that begin the output, and those on the standard error.
 GO_ON = [
     ("omf-link map start.obj 06-Checksum.omf mark.obj", 1, ['module 1 file "start.obj" module 1', 'module 2 file "mark.obj" module 1', 'segment 1 1 - 00000035 "text" "CODE"'],
      ['omf-link: file "06-Checksum.omf" module 1 refused 6 Checksum record 3 at 23 within 10']),
@@ -97,6 +106,14 @@ GO_ON = [
     ("omf-link map nofile.obj mark.obj", 3, ['module 1 file "mark.obj" module 1', 'segment 1 1 - 00000002 "mark" "MARK"'], ["omf-link: read nofile.obj: No such file or directory (os error 2)"]),
     ("omf-dump --verdict first.omf 06-Checksum.omf nofile.obj small.lib", 3, ["first.omf: OK 6 records, 48 bytes", "06-Checksum.omf: refused 6 Checksum record 3 at 23 within 10"],
      ["omf-dump: read nofile.obj: No such file or directory (os error 2)"]),
+    ("omf-lib get bad.lib -d .", 1, ["wrote A.obj 48", "wrote mark.asm.obj 95"], ["omf-lib: bad.lib: fault 7 Member at 16 member 0 refused 6 Checksum record 3 at 23 within 10"]),
+    ("omf-lib get bad.lib mark.asm -d . --numbered", 0, ["wrote 1.obj 95"], []),
+    ("omf-lib get small.lib ..\\gets.asm -d .", 0, ["wrote ..\\x5Cgets.asm.obj 47"], []),
+    ("omf-lib get small.lib ..\\x5Cgets.asm -d . --numbered", 1, [], ["omf-lib: refused 1.obj: it is there already"]),
+    ("omf-lib make -o new.lib old.lib", 0, ["wrote new.lib 1536 bytes, 1 members"], ["omf-lib: case does not count in old.lib, but in new.lib: --ignore-case keeps it"]),
+    ("omf-lib make --ignore-case -o whole.lib old.lib", 0, ["wrote whole.lib 1536 bytes, 1 members"], []),
+    ("omf-lib make -o case.lib same.lib", 0, ["wrote case.lib 1536 bytes, 1 members"], []),
+    ("omf-lib make -o module.lib say.obj", 0, ["wrote module.lib 1536 bytes, 1 members"], []),
 ]
 
 

@@ -57,9 +57,14 @@ fn push_canonical(
     Ok(())
 }
 
-/// Appends the name of a member by its number.
-fn push_name(alloc: Global, names: &mut Vec<String>, number: usize) -> Result<(), AllocError> {
-    names.push(format!(in alloc; "member {number}")?)?;
+/// Appends the name of a member: the name of its library, and its number there.
+fn push_name(
+    alloc: Global,
+    names: &mut Vec<String>,
+    library: &str,
+    number: usize,
+) -> Result<(), AllocError> {
+    names.push(format!(in alloc; "{library} member {number}")?)?;
     Ok(())
 }
 
@@ -76,7 +81,7 @@ fn write_canonical<K: Sink>(
     for (number, span) in library.spans.members.iter().enumerate() {
         let member = member_of(number, span);
         push_canonical(told, &mut parts, asked.profile, &member)?;
-        push_name(rt.alloc(), &mut names, number)?;
+        push_name(rt.alloc(), &mut names, told.name, number)?;
     }
     if told.shown.status != Status::Done {
         return Ok(());

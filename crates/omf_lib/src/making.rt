@@ -11,6 +11,7 @@ use crate::text::put_reason;
 use omf_check::Profile;
 use omf_frame::Sink;
 use omf_host::{Status, Written, put_name, put_quoted, read_input, write_new};
+use omf_library::Header;
 use omf_making::{Defined, Judgement, Kind, MakeFault, Part, Refusal, make};
 use std::alloc::{AllocError, Global};
 use std::fmt::Write;
@@ -53,11 +54,28 @@ fn push_module(
     }
 }
 
+/// Appends a line where names that differ in case are one in a library, and differ in the new one. That is no fault.
+fn warn_of_case(
+    told: &mut Told<'_>,
+    asked: &Make,
+    name: &str,
+    header: Header,
+) -> Result<(), AllocError> {
+    if asked.ignores_case || header.flags % 2 == 1 {
+        return Ok(());
+    }
+    told.faults.push_str("case does not count in ")?;
+    put_name(&mut told.faults, name.as_bytes())?;
+    told.faults.push_str(", but in ")?;
+    put_name(&mut told.faults, asked.output.as_bytes())?;
+    told.faults.push_str(": --ignore-case keeps it\n")
+}
+
 /// Appends the members of a library, in order; and lines on what is wrong with it.
 fn push_library(
     told: &mut Told<'_>,
     given: &mut Given,
-    profile: Profile,
+    asked: &Make,
     name: &str,
     bytes: &[u8],
 ) -> Result<(), AllocError> {
@@ -66,9 +84,10 @@ fn push_library(
         Ok(library) => library,
         Err(fault) => return told.fault_of(name, Fault::from(fault)),
     };
+    warn_of_case(told, asked, name, library.header)?;
     for (number, span) in library.spans.members.iter().enumerate() {
         let member = format!(in alloc; "{name} member {number}")?;
-        push_module(told, given, profile, member, span.bytes)?;
+        push_module(told, given, asked.profile, member, span.bytes)?;
     }
     match library.spans.end {
         Ok(_) => Ok(()),
@@ -143,7 +162,7 @@ fn push_file(
     rt: &HostRuntime,
     told: &mut Told<'_>,
     given: &mut Given,
-    profile: Profile,
+    asked: &Make,
     name: &str,
 ) -> Result<(), AllocError> {
     let bytes = match read_input(rt, name) {
@@ -151,9 +170,9 @@ fn push_file(
         Err(error) => return told.unread(name, &error),
     };
     if bytes.first() == Some(&LIBRARY_HEADER) {
-        return push_library(told, given, profile, name, &bytes);
+        return push_library(told, given, asked, name, &bytes);
     }
-    push_modules(told, given, profile, name, &bytes)
+    push_modules(told, given, asked.profile, name, &bytes)
 }
 
 /// Appends the name of a part.
@@ -309,7 +328,7 @@ pub fn make_library<K: Sink>(
         parts: Vec::new(rt.alloc()),
     };
     for name in asked.files.iter() {
-        push_file(rt, told, &mut given, asked.profile, name.as_str())?;
+        push_file(rt, told, &mut given, asked, name.as_str())?;
     }
     if told.shown.status != Status::Done {
         return Ok(());
