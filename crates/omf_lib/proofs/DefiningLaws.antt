@@ -23,7 +23,7 @@ use Rattle.omf_records.specs.Inner.Reading.{typed}
 use Rattle.omf_records.specs.Values.{Rec}
 use Rattle.omf_lib.specs.Defining.{AreDefiners, AreEntriesDefined, Definer, HasUndefined, IsAllDefined, IsAnyOf, IsDefiner, IsLibraryDefined, definers_in, has_alias}
 use Rattle.omf_lib.specs.Keys.{IsKeySet, all_keys, keys_of}
-use Rattle.omf_lib.specs.Members.{IsLibraryRead}
+use Rattle.omf_lib.specs.Members.{IsLibraryRead, begins_before}
 use Rattle.omf_lib.specs.declared.library.Library.{Library}
 use Rattle.omf_lib.proofs.KeyLaws.{on_ok}
 
@@ -107,6 +107,7 @@ all_there profile bytes l r i o = if_ok r (λ s f e.
       ms,
       p.2.end,
       subst (AreSpansIn bytes (page_size bytes) ms) p.2.ended i.3,
+      subst (λ (h : Header). begins_before h p.2.end ≡ false) i.2 p.2.after,
       p.0,
       subst (λ (h : Header). AreDefiners profile h.page ms p.0) i.2 p.1,
       subst (λ (bs : List ℕ). AreEntriesDefined (header_of bytes) bs p.0) i.1 (subst (λ (h : Header). AreEntriesDefined h l.bytes.now p.0) i.2 p.2.entries),

@@ -1,5 +1,5 @@
 -- What the members of a library define, and the entries of its dictionary whose members do not define their names (this profile's rule).
-use Rattle.std.specs.Prelude.{◌≡◌, ◌⊎◌, ℕ, ◌/◌, ◌<◌, ◌==◌, ◌&&◌, nat_lt, not, if◌then◌else◌, Bool, true, false, List, [], ◌∷◌, ◌++◌, Ok, Some, Result, codes, eqb}
+use Rattle.std.specs.Prelude.{◌≡◌, ◌⊎◌, ℕ, ◌/◌, ◌<◌, ◌==◌, ◌&&◌, nat_lt, not, if◌then◌else◌, Bool, true, false, List, [], ◌∷◌, ◌++◌, Ok, Some, codes, eqb}
 use Rattle.std.specs.List.{ends_with, list_any}
 use Rattle.omf_check.specs.Module.{recs_of}
 use Rattle.omf_check.specs.declared.profile.Profile.{Profile}
@@ -12,11 +12,11 @@ use Rattle.omf_making.specs.Taken.{IsTaken, IsUntaken}
 use Rattle.omf_library.specs.declared.dictionary.Dictionary.{Dictionary}
 use Rattle.omf_library.specs.declared.header.Header.{Header}
 use Rattle.omf_library.specs.declared.spans.Span.{Span}
-use Rattle.omf_library.specs.declared.spans.SpanFault.{SpanFault}
 use Rattle.omf_making.specs.declared.taken.Refusal.{Refusal}
 use Rattle.omf_making.specs.declared.taken.Taken.{Taken}
 use Rattle.omf_records.specs.Values.{Rec}
 use Rattle.omf_lib.specs.Lines.{entry_words}
+use Rattle.omf_lib.specs.Members.{begins_before}
 use Rattle.omf_lib.specs.declared.library.Library.{Library}
 
 -- The page at which a member begins, and the names that it defines.
@@ -84,13 +84,14 @@ HasUndefined sensitive ds dictionary found = IsAnyOf (λ number b. HasUndefinedI
 abbrev pub AreEntriesDefined : Header → List ℕ → List Definer → Type 0
 AreEntriesDefined h bytes ds = (d : Dictionary) × IsDictionary h bytes (Some d) × HasUndefined (is_case_sensitive h) ds d.bytes.now false
 
--- The same of a library that is read: its members end with an F1H.
+-- The same of a library that is read: its members end with an F1H, and the dictionary does not begin before it.
 pub record IsLibraryDefined (l : Library) (ds : List Definer) : Type 0 where
   pub end : ℕ
   pub ended : l.spans.end ≡ Ok end
+  pub after : begins_before l.header end ≡ false
   pub entries : AreEntriesDefined l.header l.bytes.now ds
 
--- In a library that `omf-lib check` finds to be without a fault: it has members up to an F1H, and the member of each entry defines its name.
+-- In a library that `omf-lib check` finds to be without a fault: it has members up to an F1H, before which the dictionary does not begin, and the member of each entry defines its name.
 abbrev pub IsAllDefined : Profile → List ℕ → Type 0
 IsAllDefined profile bytes = HasHeader bytes × (members : List Span) × (end : ℕ) × AreSpansIn bytes (page_size bytes) members (Ok end)
-    × (ds : List Definer) × AreDefiners profile (page_size bytes) members ds × AreEntriesDefined (header_of bytes) bytes ds
+    × (begins_before (header_of bytes) end ≡ false) × (ds : List Definer) × AreDefiners profile (page_size bytes) members ds × AreEntriesDefined (header_of bytes) bytes ds
