@@ -27,6 +27,6 @@ int main(int count, char **words) {
         perror("launch");
         return 2;
     }
-    fprintf(stderr, "%.3f %ld\n", milliseconds(usage.ru_utime) + milliseconds(usage.ru_stime), usage.ru_maxrss);
+    fprintf(stderr, "\n%.3f %ld\n", milliseconds(usage.ru_utime) + milliseconds(usage.ru_stime), usage.ru_maxrss);
     return WIFEXITED(status) ? WEXITSTATUS(status) : 128;
 }
