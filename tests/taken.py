@@ -8,6 +8,7 @@ OMF_LINK and OMF_LIB name the programs (omf-link and omf-lib, if not set). The s
 import os
 import pathlib
 import random
+import re
 import subprocess
 import sys
 import tempfile
@@ -16,6 +17,7 @@ import lowered
 
 LINK, LIB = os.environ.get("OMF_LINK") or "omf-link", os.environ.get("OMF_LIB") or "omf-lib"
 PAGE = 16
+PLACE = re.compile(rb" record \d+ at \d+ (?=within \d+)")
 
 
 def with_public(records, name):
@@ -48,6 +50,11 @@ def linked(folder, *files):
 def is_rejoined(folder, answer, *files):
     """Whether the file that `omf-link join` makes of these files gives the same program as they do."""
     return run(folder, LINK, "join", "-o", "all.obj", *files)[0] == 0 and linked(folder, "all.obj")[2] == answer[2]
+
+
+def is_same(answer, wanted):
+    """Whether two links give the same. The place of a fault that the lowering leaves is one in the file that is linked."""
+    return (answer[0], PLACE.sub(b"", answer[1]), *answer[2:]) == (wanted[0], PLACE.sub(b"", wanted[1]), *wanted[2:])
 
 
 def run(folder, *words):
@@ -119,7 +126,7 @@ def differs(folder, seed):
     made = kept(folder, bytes_, [name for it in modules for name in publics_of(lowered.Lowered(it).records)])
     (folder / "x").write_bytes(joined(lower))
     wanted = linked(folder, "main.obj", "x")
-    if answer != wanted:
+    if not is_same(answer, wanted):
         return wanted[:2], answer[:2]
     (folder / "x").write_bytes(library(lower))
     wanted = linked(folder, "main.obj", "x")
@@ -127,7 +134,7 @@ def differs(folder, seed):
         return None if wanted[0] and isinstance(made, list) else made
     (folder / "x").write_bytes(made)
     answer = linked(folder, "main.obj", "x")
-    return None if answer == wanted else (wanted[:2], answer[:2])
+    return None if is_same(answer, wanted) else (wanted[:2], answer[:2])
 
 
 def main():
