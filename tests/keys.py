@@ -319,7 +319,7 @@ def loaded(path):
 
 
 RUN, ADAPTER = loaded(ROOT / "conformance" / "run.py"), loaded(ROOT / "conformance" / "adapters" / "program.py")
-FILE_CASES, INPUT_CASES = ([it for it in RUN.cases_of(ROOT / name) if it.call[0] == "omf-link" and it.call[1:2] not in ([], ["lower"]) and it.status != 2 and len(it.input) < MOST_INPUT]
+FILE_CASES, INPUT_CASES = ([it for it in RUN.cases_of(ROOT / name) if it.call[0] == "omf-link" and it.call[1:2] not in ([], ["lower"], ["join"]) and it.status != 2 and len(it.input) < MOST_INPUT]
                            for name in ("conformance/programs", "crates/omf_cases/stdin"))
 
 

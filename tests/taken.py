@@ -116,6 +116,10 @@ def differs(folder, seed):
     faults = [(number, it) for number, it in enumerate(lower, 1) if not isinstance(it, bytes)]
     if faults:
         number, at = faults[0]
+        named = re.search(rb'^omf-link: file "x" module (\d+) ', answer[1])
+        if named and int(named[1]) < number:
+            # A module before it has a fault that its lowering leaves.
+            return None if answer[0] == 1 and answer[2] is None else answer[:2]
         title = b'file "x" module %d%s refused ' % (number, b' "m"' if in_library else b"")
         is_right = answer[0] == 1 and answer[2] is None and title in answer[1] and b" record %d at " % at in answer[1]
         made = kept(folder, bytes_, [])

@@ -14,7 +14,7 @@ sys.path.append(str(ROOT / "tests"))
 from lowered import CONTINUED, ITERATED, LOCAL, Fault, Lowered, index_at as next_index, little, named, shortest  # noqa: E402
 
 NAMES, LOCAL_NAMES, SEGMENT, COMDAT, COMDAT_EXTERNALS, FIXUPS, NAMED_BACKPATCH = 0x96, 0xCA, 0x98, 0xC2, 0xBC, 0x9C, 0xC8
-COMMENT, PUBLIC, DATA, LINES, HEADERS = 0x88, 0x90, (0xA0, 0xA1, 0xA2, 0xA3), (0x94, 0x95), (0x80, 0x82)
+COMMENT, PUBLIC, GROUP, DATA, LINES, HEADERS = 0x88, 0x90, 0x9A, (0xA0, 0xA1, 0xA2, 0xA3), (0x94, 0x95), (0x80, 0x82)
 # Names that no made module defines by a PUBDEF, as long as those that they do.
 COMDATS = (b"x", b"y", b"z")
 NEVER, ANY, SAME_SIZE, SAME_DATA = range(4)
@@ -319,13 +319,15 @@ def lengths_of(module):
 
 def map_lines(module, number, places):
     """The lines of a map for the LINNUMs of the module with this number, at the places of its segments, but for those at the end of their segment or after it. One whose last
-    item is cut has none."""
-    lengths = list(lengths_of(module))
+    item is cut has none, nor one of a group or segment that the module does not have."""
+    lengths, groups = list(lengths_of(module)), sum(1 for _ in bodies(module, (GROUP,)))
     source = next((name_at(body, 0)[0] for _, body in bodies(module, HEADERS)), b"")
     for kind, body in bodies(module, LINES):
         width = 4 if kind & 1 else 2
-        _, at = index_at(body, 0)
+        group, at = index_at(body, 0)
         segment, at = index_at(body, at)
+        if group > groups or not 0 < segment <= len(lengths):
+            continue
         begin, base, selector = places[0][segment - 1]
         for item in range(at, len(body), 2 + width) if (len(body) - at) % (2 + width) == 0 else ():
             line, offset = (int.from_bytes(body[it:it + size], "little") for it, size in ((item, 2), (item + 2, width)))
