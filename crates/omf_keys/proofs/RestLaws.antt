@@ -201,44 +201,44 @@ module _ (gone : List ℕ) where
     abbrev later : Contents → List Rec
     later c = with_before left_of (before ++ T kind c ∷ []) m
 
-    abbrev behind : Contents → List Piece
-    behind c = bare_from (before ++ T kind c ∷ []) m
+    abbrev pieces_after : Contents → List Piece
+    pieces_after c = bare_from (before ++ T kind c ∷ []) m
 
     abbrev IsNext : Contents → Type 0
-    IsNext c = (d : List Rec) → SetTheSame (subrecords d) (subrecords (before ++ T kind c ∷ [])) → bare_from d (later c) ≡ walk (count_after n c) (went g c) (behind c)
+    IsNext c = (d : List Rec) → SetTheSame (subrecords d) (subrecords (before ++ T kind c ∷ [])) → bare_from d (later c) ≡ walk (count_after n c) (went g c) (pieces_after c)
 
     abbrev Steps : Contents → List Rec → Type 0
-    Steps c ls = bare_from done (ls ++ later c) ≡ walk n g (one_by_one (normal_of E kind c) ++ behind c)
+    Steps c ls = bare_from done (ls ++ later c) ≡ walk n g (one_by_one (normal_of E kind c) ++ pieces_after c)
 
     -- A record in the place of this one, and none.
-    with-one : (c d : Contents) → IsNext c → SetTheSame (subrecords_in d) (subrecords_in c) → bare_from done (T kind d ∷ later c) ≡ one_by_one (normal_of D kind d) ++ walk (count_after n c) (went g c) (behind c)
+    with-one : (c d : Contents) → IsNext c → SetTheSame (subrecords_in d) (subrecords_in c) → bare_from done (T kind d ∷ later c) ≡ one_by_one (normal_of D kind d) ++ walk (count_after n c) (went g c) (pieces_after c)
     with-one c d next s = ap (λ (ps : List Piece). one_by_one (normal_of D kind d) ++ ps) (next (done ++ T kind d ∷ []) (one-more done before (T kind d) (T kind c) h s))
 
-    with-none : (c : Contents) → IsNext c → subrecords_in c ≡ [] → bare_from done (later c) ≡ walk (count_after n c) (went g c) (behind c)
+    with-none : (c : Contents) → IsNext c → subrecords_in c ≡ [] → bare_from done (later c) ≡ walk (count_after n c) (went g c) (pieces_after c)
     with-none c next e = next done (λ b k. h b k ∙ sym (ap (filter_map (setting_of b k)) (none-more before (T kind c) e)))
 
     segment-step : (s : SegmentItem) (b : Bool) → IsNext (Segment s) → bare_from done (recs_left (T kind (Segment s)) (cond b (Anew (Segment (emptied Nameless s))) Whole) ++ later (Segment s))
-        ≡ kept_left (alone (T kind (Segment s))) (cond b (Anew (Segment (emptied Nameless (record s { name = unplaced s.name; class = unplaced s.class })))) Whole) ++ walk (n + 1) g (behind (Segment s))
+        ≡ kept_left (alone (T kind (Segment s))) (cond b (Anew (Segment (emptied Nameless (record s { name = unplaced s.name; class = unplaced s.class })))) Whole) ++ walk (n + 1) g (pieces_after (Segment s))
     segment-step s true next = with-one (Segment s) (Segment (emptied Nameless s)) next (λ c k. refl)
     segment-step s false next = with-one (Segment s) (Segment s) next (λ c k. refl)
 
     -- Publics and data: all of them, or nothing.
     either-step : (c : Contents) (b : Bool) → IsNext c → subrecords_in c ≡ [] → normal_of D kind c ≡ Kept (alone (T kind c))
-        → bare_from done (recs_left (T kind c) (cond b Nothing Whole) ++ later c) ≡ kept_left (alone (T kind c)) (cond b Nothing Whole) ++ walk (count_after n c) (went g c) (behind c)
+        → bare_from done (recs_left (T kind c) (cond b Nothing Whole) ++ later c) ≡ kept_left (alone (T kind c)) (cond b Nothing Whole) ++ walk (count_after n c) (went g c) (pieces_after c)
     either-step c true next e k = with-none c next e
-    either-step c false next e k = with-one c c next (λ b i. refl) ∙ ap (λ (p : Piece). one_by_one p ++ walk (count_after n c) (went g c) (behind c)) k
+    either-step c false next e k = with-one c c next (λ b i. refl) ∙ ap (λ (p : Piece). one_by_one p ++ walk (count_after n c) (went g c) (pieces_after c)) k
 
-    fixups-step : (subs : List (At Subrecord)) (b : Bool) → ((d : List Rec) → SetTheSame (subrecords d) (subrecords (before ++ T kind (Fixups subs) ∷ [])) → bare_from d (later (Fixups subs)) ≡ walk n b (behind (Fixups subs)))
+    fixups-step : (subs : List (At Subrecord)) (b : Bool) → ((d : List Rec) → SetTheSame (subrecords d) (subrecords (before ++ T kind (Fixups subs) ∷ [])) → bare_from d (later (Fixups subs)) ≡ walk n b (pieces_after (Fixups subs)))
         → bare_from done (recs_left (T kind (Fixups subs)) (cond b (Anew (Fixups (threads_alone subs))) Whole) ++ later (Fixups subs))
-        ≡ walk n b (map (λ f. Fixed kind (f ∷ [])) (with_before plain_fixup E (map (λ s. s.item) subs)) ++ behind (Fixups subs))
+        ≡ walk n b (map (λ f. Fixed kind (f ∷ [])) (with_before plain_fixup E (map (λ s. s.item) subs)) ++ pieces_after (Fixups subs))
     fixups-step subs true next =
         ap₂ (λ (fs : List PlainFixup) (ps : List Piece). map (λ f. Fixed kind (f ∷ [])) fs ++ ps) (no-fixups D subs)
         (next (done ++ T kind (Fixups (threads_alone subs)) ∷ []) (one-more done before (T kind (Fixups (threads_alone subs))) (T kind (Fixups subs)) h (threads-set subs)))
-        ∙ sym (walk-gone n kind (with_before plain_fixup E (map (λ s. s.item) subs)) (behind (Fixups subs)))
+        ∙ sym (walk-gone n kind (with_before plain_fixup E (map (λ s. s.item) subs)) (pieces_after (Fixups subs)))
     fixups-step subs false next =
         ap₂ (λ (fs : List PlainFixup) (ps : List Piece). map (λ f. Fixed kind (f ∷ [])) fs ++ ps) (fixups-same D E h (map (λ s. s.item) subs))
         (next (done ++ T kind (Fixups subs) ∷ []) (one-more done before (T kind (Fixups subs)) (T kind (Fixups subs)) h (λ b k. refl)))
-        ∙ sym (walk-stays n kind (with_before plain_fixup E (map (λ s. s.item) subs)) (behind (Fixups subs)))
+        ∙ sym (walk-stays n kind (with_before plain_fixup E (map (λ s. s.item) subs)) (pieces_after (Fixups subs)))
 
     step : (c : Contents) → IsNext c → Steps c (left_of before (T kind c))
     step (Segment s) next = segment-step s (is_one_of gone (n + 1)) next
@@ -247,7 +247,7 @@ module _ (gone : List ℕ) where
     step (Iterated d) next = either-step (Iterated d) (is_one_of gone d.segment.item) next refl refl
     step (Fixups subs) next = fixups-step subs g next
     step (ModEnd byte start) next =
-        with-one (ModEnd byte start) (ModEnd byte start) next (λ b k. refl) ∙ ap (λ (o : Option PlainReference). End kind (end_byte byte) o ∷ walk n g (behind (ModEnd byte start))) (start-same D E h start)
+        with-one (ModEnd byte start) (ModEnd byte start) next (λ b k. refl) ∙ ap (λ (o : Option PlainReference). End kind (end_byte byte) o ∷ walk n g (pieces_after (ModEnd byte start))) (start-same D E h start)
     step (Header x) next = with-one (Header x) (Header x) next (λ b k. refl)
     step (Comment x y z) next = with-one (Comment x y z) (Comment x y z) next (λ b k. refl)
     step (Names x) next = with-one (Names x) (Names x) next (λ b k. refl)
