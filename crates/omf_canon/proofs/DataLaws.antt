@@ -15,7 +15,7 @@ use Rattle.omf_records.specs.Inner.RecordReaders.{contents_whole}
 use Rattle.omf_records.specs.Values.{Contents, DataItem, Plain, Iterated, is_wide, width, alone}
 use Rattle.omf_check.specs.declared.threads.Threads.{Threads}
 use Rattle.omf_reloc.specs.Plain.{Piece, Kept}
-use Rattle.omf_reloc.specs.Inner.Walking.{threads_after}
+use Rattle.omf_check.specs.Inner.Kept.{threads_after}
 use Rattle.omf_canon.specs.Inner.Writing.{Held, closed, record_bytes, contents_pieces, ArePut, is_data, begins_short}
 use Rattle.omf_canon.proofs.TakingLaws.{put-one, on-both}
 

@@ -16,7 +16,7 @@ use Rattle.omf_records.specs.Inner.Unread.{fixups_read}
 use Rattle.omf_records.specs.Laws.{TypedHaveValues}
 use Rattle.omf_records.specs.Valued.{IsSubrecordValue, HaveReferenceValues}
 use Rattle.omf_records.specs.Values.{At, Rec, Contents, Names, Fixups, ModEnd, Reference, Subrecord, Thread, Fixup}
-use Rattle.omf_check.specs.Inner.Kept.{no_threads, set_thread, set_threads}
+use Rattle.omf_check.specs.Inner.Kept.{no_threads, set_thread, set_threads, threads_after}
 use Rattle.omf_check.specs.Listed.{IsReadable, StartsWithRecord}
 use Rattle.omf_check.specs.Module.{records_in}
 use Rattle.omf_check.specs.Sound.{ModuleHolds}
@@ -27,7 +27,7 @@ use Rattle.omf_check.specs.declared.threads.Threads.{Threads}
 use Rattle.omf_reloc.proofs.PieceLaws.{pieces-listed, numbered_records, numbered-listed, records-set}
 use Rattle.omf_reloc.specs.Inner.Pieces.{subrecord_steps, contents_steps, steps_from, given, IsSet, SubrecordIsSet, SubrecordsAreSet, ContentsAreSet, RecordsAreSet}
 use Rattle.omf_reloc.specs.Plain.{Piece, Fixed, pieces}
-use Rattle.omf_reloc.specs.Inner.Walking.{plain_fixup_by, threads_after}
+use Rattle.omf_reloc.specs.Inner.Walking.{plain_fixup_by}
 use Rattle.omf_canon.specs.Inner.Names.{unthreaded_fixup}
 use Rattle.omf_canon.specs.Canonical.{canonical_raws}
 use Rattle.omf_canon.specs.Skeleton.{normal, skeleton}

@@ -2,7 +2,7 @@
 
 ghost use Rattle.std.specs.Prelude.{All, ◌≡◌, ◌≤◌, ◌++◌, [], ◌∷◌, None, Some, Ok, OnOk, IfOk, IsOk, IsOkAnd, IfSome, IsTrue, true, false, length, option_map, if◌then◌else◌};
 ghost use Rattle.omf_check.specs.Inner.Judging.{IsNoFixupp};
-ghost use Rattle.omf_check.specs.Inner.Kept.{no_threads, set_thread, set_threads};
+ghost use Rattle.omf_check.specs.Inner.Kept.{no_threads, set_thread, set_threads, threads_after};
 ghost use Rattle.omf_check.specs.Module.{recs_of};
 ghost use Rattle.omf_frame.specs.Framing.{IsRecord, is_taken};
 ghost use Rattle.omf_records.specs.Inner.Reading.{read_body};
@@ -12,7 +12,7 @@ ghost use Rattle.omf_records.specs.Valued.{IsSubrecordValue, HaveReferenceValues
 ghost use Rattle.omf_records.specs.Values.{alone, Fixup};
 ghost use Rattle.omf_reloc.specs.Inner.Pieces.{IsSet, SubrecordIsSet, SubrecordsAreSet, ContentsAreSet};
 ghost use Rattle.omf_reloc.specs.Plain.{Kept, End};
-ghost use Rattle.omf_reloc.specs.Inner.Walking.{plain_by, threads_after};
+ghost use Rattle.omf_reloc.specs.Inner.Walking.{plain_by};
 ghost use Rattle.omf_canon.specs.Inner.Names.{start_bytes, end_byte};
 ghost use Rattle.omf_canon.specs.Canonical.{canonical, canonical_raws};
 ghost use Rattle.omf_canon.specs.Skeleton.{skeleton};

@@ -15,7 +15,7 @@ use Rattle.omf_frame.specs.Types.{is_local}
 use Rattle.omf_check.specs.Inner.Names.{frame_from, target_from}
 use Rattle.omf_check.specs.Tables.{names, segments, attributes, attributes_in, groups, externals, item_count, items_in, subrecords, subrecords_in, data_in, defined_names, defined_segments, defined_groups, defined_externals}
 use Rattle.omf_check.specs.Threads.{Setting, setting, setting_of, same, thread}
-use Rattle.omf_check.specs.Inner.Kept.{Kept, Tells, HasThreads, kept_frame, kept_target, set_thread, set_threads, no_threads, nothing_kept, with_contents, with_record, starts, last_kept}
+use Rattle.omf_check.specs.Inner.Kept.{Kept, Tells, HasThreads, kept_frame, kept_target, set_thread, set_threads, threads_after, threads_through, no_threads, nothing_kept, with_contents, with_record, starts, last_kept}
 use Rattle.omf_check.specs.declared.threads.Threads.{Threads}
 use Rattle.omf_check.proofs.CellLaws.{thread-append, few_numbers}
 
@@ -203,6 +203,22 @@ kept_threads : (kept : Kept) (at kind : ℕ) (c : Contents) (old : List Subrecor
 kept_threads kept at kind (Fixups subs) old h = threads_all kept.threads old subs h
 kept_threads kept at kind (Names items) old h = subst (λ x. HasThreads kept.threads x) (sym (append-nil old)) h
 kept_threads kept at kind _ old h = subst (λ x. HasThreads kept.threads x) (sym (append-nil old)) h
+
+-- The threads after one more record, and after some.
+threads_by : (threads : Threads) (earlier : List Subrecord) (c : Contents) → HasThreads threads earlier → HasThreads (threads_after threads c) (earlier ++ subrecords_in c)
+threads_by threads earlier (Fixups subs) h = threads_all threads earlier subs h
+threads_by threads earlier (Names items) h = subst (λ x. HasThreads threads x) (sym (append-nil earlier)) h
+threads_by threads earlier _ h = subst (λ x. HasThreads threads x) (sym (append-nil earlier)) h
+
+pub threads_next : (threads : Threads) (before : List Rec) (r : Rec) → HasThreads threads (subrecords before) → HasThreads (threads_after threads r.contents) (subrecords (before ++ r ∷ []))
+threads_next threads before r h =
+    subst (λ x. HasThreads (threads_after threads r.contents) x) (sym (flat_more (λ (x : Rec). subrecords_in x.contents) before r)) (threads_by threads (subrecords before) r.contents h)
+
+pub threads_last : (threads : Threads) (before rest : List Rec) → HasThreads threads (subrecords before) → HasThreads (threads_through threads rest) (subrecords (before ++ rest))
+threads_last threads before [] h = subst (λ rs. HasThreads threads (subrecords rs)) (sym (append-nil before)) h
+threads_last threads before (r ∷ rest) h =
+    subst (λ rs. HasThreads (threads_through threads (r ∷ rest)) (subrecords rs)) (append_assoc before (r ∷ []) rest)
+    (threads_last (threads_after threads r.contents) (before ++ r ∷ []) rest (threads_next threads before r h))
 
 pub tells_more : (kept : Kept) (before : List Rec) (at : ℕ) (r : Rec) → Tells kept before → Tells (with_record kept at r) (before ++ r ∷ [])
 tells_more kept before at r h =

@@ -1,6 +1,6 @@
 -- The records of a checked module are read in order.
 use Rattle.std.proofs.Common.{◌≡◌, ℕ, suc, ◌+◌, ◌-◌, ◌*◌, ◌/◌, ◌%◌, ◌^◌, ◌<◌, ◌≤◌, List, [], ◌∷◌, ◌++◌, Result, Ok, refl, sym, ◌∙◌, ap, subst, arith, length, length-append}
-use Rattle.std.specs.Prelude.{All, flat_map, IsTrue, Bool, true, false, is_ok, ◌==◌}
+use Rattle.std.specs.Prelude.{All, flat_map, map, IsTrue, Bool, true, false, is_ok, ◌==◌}
 use Rattle.omf_frame.specs.Framing.{Raw, raw_bytes, IsRecord, is_taken, front_record, present, after_front}
 use Rattle.omf_frame.specs.Fault.{Fault}
 use Rattle.omf_frame.specs.declared.fault.Place.{Place}
@@ -14,7 +14,7 @@ use Rattle.omf_check.specs.Inner.Kept.{Kept}
 use Rattle.omf_check.specs.Listed.{placed_from, IsReadable, StartsWithRecord, AreListed}
 use Rattle.omf_check.specs.Module.{records_in}
 use Rattle.omf_check.specs.Inner.Parts.{IsChecked}
-use Rattle.omf_check.specs.WellFormed.{IsWellFormed}
+use Rattle.omf_check.specs.WellFormed.{IsWellFormed, recs}
 use Rattle.omf_check.proofs.WellLaws.{well-read}
 use Rattle.omf_check.proofs.Moving.{item_more, records_size}
 use Rattle.omf_check.proofs.SessionLaws.{split_all}
@@ -174,3 +174,8 @@ not_empty (x ∷ bytes) b e f = omega arith
 
 pub fewer : (xs ys : List (Place × Rec)) (x : Place × Rec) → xs ≡ x ∷ ys → length ys < length xs
 fewer xs ys x e = rw e (omega arith)
+
+-- The records of a checked module, without their places.
+pub records_listed : (number start : ℕ) (rs : List Raw) → map (λ x. x.1) (placed_from number start rs) ≡ recs rs
+records_listed number start [] = refl
+records_listed number start (r ∷ rs) = ap (λ t. typed r ∷ t) (records_listed (number + 1) (start + length (raw_bytes r)) rs)

@@ -8,7 +8,8 @@ use Rattle.omf_frame.specs.declared.kinds.RecordType.TheVariants as types
 use Rattle.omf_frame.specs.declared.kinds.Width.{Width}
 use Rattle.omf_records.specs.Values.{Carried, Contents}
 use Rattle.omf_dump.specs.Gives.{are_known, clear_size, external_if, data_of, external_of, externals_of, externs_if, externs_of, fixups_if, group_of, is_item_known, item_parts, segment_of}
-use Rattle.omf_dump.specs.Inner.Showing.{Keeps, threads_after}
+use Rattle.omf_check.specs.Inner.Kept.{threads_after}
+use Rattle.omf_dump.specs.Inner.Showing.{Keeps}
 use Rattle.omf_dump.specs.Inner.Keeping.{data_after, with_contents}
 use Rattle.omf_dump.specs.Known.{Data, Tables}
 use Rattle.omf_dump.specs.Raw.{after_first}

@@ -18,7 +18,8 @@ use Rattle.omf_dump.specs.Fields.{Field, Item, item, with_items}
 use Rattle.omf_dump.specs.Known.{Data, Tables, fixed_data, plain_data, tables}
 use Rattle.omf_dump.specs.Inner.Keeping.{data_after, no_tables, with_contents}
 use Rattle.omf_dump.specs.Inner.Resolving.{reference_fields_by, start_items_by, subrecord_fields_by, subrecord_items_by}
-use Rattle.omf_dump.specs.Inner.Showing.{Keeps, shown_by, threads_after}
+use Rattle.omf_check.proofs.KeptLaws.{threads_next}
+use Rattle.omf_dump.specs.Inner.Showing.{Keeps, shown_by}
 use Rattle.omf_dump.specs.Inner.Walking.{Holds}
 use Rattle.omf_dump.specs.declared.known.Known.{Known}
 
@@ -102,14 +103,6 @@ fixed_more before r =
     ap (λ (ys : List Contents). option_and_then plain_data (last ys)) (flat_more (λ (x : Rec). data_in x.contents) before r)
     ∙ fixed_by (flat_map (λ (x : Rec). data_in x.contents) before) r.contents
 
-threads_by : (threads : Threads) (earlier : List Subrecord) (c : Contents) → HasThreads threads earlier → HasThreads (threads_after threads c) (earlier ++ subrecords_in c)
-threads_by threads earlier (Fixups subs) h = threads_kept.all threads earlier subs h
-threads_by threads earlier _ h = subst (HasThreads threads) (sym (append-nil earlier)) h
-
-pub threads_more : (threads : Threads) (before : List Rec) (r : Rec) → HasThreads threads (subrecords before) → HasThreads (threads_after threads r.contents) (subrecords (before ++ r ∷ []))
-threads_more threads before r h =
-    subst (HasThreads (threads_after threads r.contents)) (sym (flat_more (λ (x : Rec). subrecords_in x.contents) before r)) (threads_by threads (subrecords before) r.contents h)
-
 -- ---- what is kept after some records
 
 pub holds_none : (known : Known) → known.tables ≡ no_tables → known.threads ≡ no_threads → known.fixed ≡ None → Holds known []
@@ -118,7 +111,7 @@ holds_none known a b c = record { tables = a; threads = subst (λ (t : Threads).
 pub holds_more : (old new : Known) (before : List Rec) (r : Rec) → Holds old before → Keeps old r.contents new → Holds new (before ++ r ∷ [])
 holds_more old new before r h k = record {
   tables = k.tables ∙ ap (λ (t : Tables). with_contents t r.contents) h.tables ∙ sym (tables_more before r);
-  threads = subst (λ (t : Threads). HasThreads t (subrecords (before ++ r ∷ []))) (sym k.threads) (threads_more old.threads before r h.threads);
+  threads = subst (λ (t : Threads). HasThreads t (subrecords (before ++ r ∷ []))) (sym k.threads) (threads_next old.threads before r h.threads);
   fixed = k.fixed ∙ ap (λ (d : Option Data). data_after d r.contents) h.fixed ∙ sym (fixed_more before r);
 }
 

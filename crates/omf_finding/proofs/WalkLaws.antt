@@ -7,7 +7,7 @@ use Rattle.omf_image.specs.Overlay.{Laid, byte_at, AreLaidOver}
 use Rattle.omf_image.proofs.TurnLaws.{bytes_in_turn}
 use Rattle.omf_check.specs.Sound.{ModuleHolds}
 use Rattle.omf_reloc.specs.Inner.Pieces.{single_pieces}
-use Rattle.omf_reloc.specs.Inner.ReachSteps.{place_behind, data_place}
+use Rattle.omf_reloc.specs.Inner.ReachSteps.{place_after, data_place}
 use Rattle.omf_reloc.specs.Laws.{LiesInSegment}
 use Rattle.omf_reloc.specs.Plain.{Piece, Kept, Fixed, End, PlainFixup}
 use Rattle.omf_reloc.proofs.HoldLaws.{KeptHolds, PlainFixupHolds, PiecesHold, data_after, data_kept, pieces-hold}
@@ -78,7 +78,7 @@ module _ (m : List Rec) (holds : ModuleHolds profile_limits m) where
   tell-kept kind (Names ns) place l h tells = tells
   tell-kept kind _ place l h tells = tells
 
-  tell-next : (w : Walk) (p : Piece) (ps : List Piece) → (h : IsWalked m w (p ∷ ps)) → Tells m (place_behind p w.last_place) (data_after p h.last_one)
+  tell-next : (w : Walk) (p : Piece) (ps : List Piece) → (h : IsWalked m w (p ∷ ps)) → Tells m (place_after p w.last_place) (data_after p h.last_one)
   tell-next w (Kept r) ps h = tell-kept r.kind r.contents w.last_place h.last_one h.hold.0 h.tells
   tell-next w (Fixed kind fs) ps h = h.tells
   tell-next w (End kind byte s) ps h = h.tells
@@ -89,7 +89,7 @@ module _ (m : List Rec) (holds : ModuleHolds profile_limits m) where
     hold = h.hold.1;
     tells = subst (λ z. Tells m z (data_after p h.last_one)) (sym n.place) (tell-next w p ps h);
     values = λ end k. h.values end (laid-on w.values new.values end (raw_of p) (flat_map raw_of ps) n.values k);
-    marks = λ end k. h.marks end (laid-on w.marks new.marks end (marks_of w.last_place p) (all_marks (place_behind p w.last_place) ps) n.marks
+    marks = λ end k. h.marks end (laid-on w.marks new.marks end (marks_of w.last_place p) (all_marks (place_after p w.last_place) ps) n.marks
         (subst (λ z. AreLaidOver new.marks (all_marks z ps) end) n.place k));
   }
 

@@ -3,7 +3,6 @@ use Rattle.std.proofs.Common.{◌≡◌, ℕ, ◌+◌, ◌<◌, List, ◌∷◌,
 use Rattle.std.specs.Prelude.{Option, Some, find}
 use Rattle.std.specs.Option.{option_map_or}
 use Rattle.std.proofs.lemmas.List.{at_drop_more}
-use Rattle.omf_frame.specs.Bytes.{last}
 use Rattle.omf_records.specs.Values.{Rec, GroupItem}
 use Rattle.omf_check.specs.Module.{Module, records_in, typed_modules}
 use Rattle.omf_check.specs.Tables.{groups, entry}
@@ -34,7 +33,7 @@ home-by ms n name class group e f h =
 
 -- One more module, which has a start.
 pub home-here : (ms : List (List Rec)) (xs : List Module) (j : ℕ) (m : Module) (k : ℕ) (home : Home) → m ≡ get_or xs j m → j < length xs
-    → Some k ≡ start_segment (last (recs (records_in m.bytes))) → home ≡ home_at ms (recs (records_in m.bytes)) k
+    → Some k ≡ start_segment (recs (records_in m.bytes)) → home ≡ home_at ms (recs (records_in m.bytes)) k
     → first_home ms (typed_modules (drop j xs)) ≡ first_home ms ms → home ≡ first_home ms ms
 home-here ms xs j m k home is low s e before =
     let rs = recs (records_in m.bytes) in

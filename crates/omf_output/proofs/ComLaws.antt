@@ -14,7 +14,7 @@ use Rattle.omf_check.specs.Listed.{placed_from}
 use Rattle.omf_placement.specs.Placement.{Places}
 use Rattle.omf_reloc.specs.Plain.{Piece, Kept, Fixed, End, PlainFixup, data_contents}
 use Rattle.omf_reloc.proofs.PieceLaws.{pieces-listed}
-use Rattle.omf_reloc.proofs.WalkedLaws.{records-listed}
+use Rattle.omf_check.proofs.ListedLaws.{records_listed}
 use Rattle.omf_output.specs.declared.exe.com_fault.ComFault.{ComFault}
 use Rattle.omf_output.specs.declared.exe.com_fault.ComFault.TheVariants as fault
 use Rattle.omf_output.specs.declared.exe.fault.ExeFault.{ExeFault}
@@ -105,7 +105,7 @@ HasNoWord m = has_words m.movers None (placed m) ≡ false
 in-turn : (ms : List Member) → All Holds ms → All HasNoWord ms → AddInTurn (all_moving ms) [] []
 in-turn [] h n = refl
 in-turn (m ∷ ms) h n =
-    let listed = pieces-listed (recs_of m.bytes) _ (records-listed 0 0 (records_in m.bytes)) in
+    let listed = pieces-listed (recs_of m.bytes) _ (records_listed 0 0 (records_in m.bytes)) in
     let none = all-clear m.movers m.places None None (placed m) tt (All-head HasNoWord m ms n) in (
       [],
       overlaps-found m.movers m.places (recs_of m.bytes) (placed m) [] [] (All-head Holds m ms h) listed none,

@@ -28,7 +28,7 @@ use Rattle.omf_output.specs.Exe.Memory.{Chunk, IsProgram, LiesIn, all_chunks, ch
 use Rattle.omf_output.specs.Exe.Movable.{first_unmoved}
 use Rattle.omf_output.specs.Exe.Overlaps.{AddInTurn, AreJudged, HasItsWords, IsJudged}
 use Rattle.omf_reloc.proofs.PieceLaws.{pieces-listed}
-use Rattle.omf_reloc.proofs.WalkedLaws.{records-listed}
+use Rattle.omf_check.proofs.ListedLaws.{records_listed}
 use Rattle.omf_output.proofs.MovableLaws.{moving-decided}
 use Rattle.omf_output.proofs.ProgramLaws.{length-flat, programs, words-inside}
 use Rattle.omf_output.proofs.TurnLaws.{programs-judged}
@@ -202,7 +202,7 @@ judged-member m holds reaches based unmoved = record {
   holds = holds;
   reaches = reaches;
   movers = based.movers;
-  moving = (moving-decided m.movers (recs_of m.bytes) (placed m) (pieces-listed (recs_of m.bytes) _ (records-listed 0 0 (records_in m.bytes)))).0 unmoved;
+  moving = (moving-decided m.movers (recs_of m.bytes) (placed m) (pieces-listed (recs_of m.bytes) _ (records_listed 0 0 (records_in m.bytes)))).0 unmoved;
 }
 
 pub judged-members : (ms : List Member) → All Holds ms → All HasReached ms → All IsBased ms → All Unmoved ms → All IsJudged (all_moving ms)

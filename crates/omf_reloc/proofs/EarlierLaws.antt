@@ -5,20 +5,19 @@ use Rattle.std.proofs.lemmas.Bool.{true≢false}
 use Rattle.std.proofs.lemmas.List.{append-nil}
 use Rattle.std.proofs.lemmas.List.Elements.{All-head, All-tail}
 use Rattle.omf_image.specs.declared.limits.Limits.{Limits}
-use Rattle.omf_records.specs.Values.{At, Rec, Contents, Names, Fixups, Subrecord, Reference}
+use Rattle.omf_records.specs.Values.{At, Rec, Subrecord, Reference}
 use Rattle.omf_check.specs.Inner.Names.{frame_from, target_from}
 use Rattle.omf_check.specs.Inner.Judging.{frame_cell, target_cell}
 use Rattle.omf_check.specs.Inner.Kept.{HasThreads}
 use Rattle.omf_check.specs.Sound.{SubrecordHolds, is_module_end, ModuleHolds}
-use Rattle.omf_check.specs.Tables.{subrecords, subrecords_in}
-use Rattle.omf_check.specs.Threads.{frame_setting, target_setting, plain, PlainReference}
+use Rattle.omf_check.specs.Tables.{subrecords}
+use Rattle.omf_check.specs.Threads.{frame_of, frame_setting, target_of, target_setting, plain, PlainReference}
 use Rattle.omf_check.specs.declared.method.FrameMethod.TheVariants.{Target as F5}
 use Rattle.omf_check.specs.Threads.{T0}
 use Rattle.omf_check.specs.declared.threads.Threads.{Threads}
 use Rattle.omf_check.proofs.ThreadLaws.{threads_kept}
-use Rattle.omf_reloc.specs.Inner.Walking.{plain_by, threads_after}
+use Rattle.omf_reloc.specs.Inner.Walking.{plain_by}
 use Rattle.omf_reloc.specs.Laws.{ThreadsGiveReferences}
-use Rattle.omf_reloc.proofs.GatherLaws.{subrecords-more}
 
 -- Resolving by the threads in force gives the same reference as searching backward.
 pub plain-by : (threads : Threads) (earlier : List Subrecord) (r : Reference) → HasThreads threads earlier → plain earlier r ≡ plain_by threads r
@@ -34,20 +33,17 @@ some_made : {A B : Type 0} (f : A → B) (o : Option A) → IsSome o → IsSome 
 some_made f (Some x) h = refl
 some_made f None h = h
 
+pub frame-made : (earlier : List Subrecord) (r : Reference) → IsSome (frame_setting earlier r) → IsSome (frame_of earlier r)
+frame-made earlier r s = some_made frame_from (frame_setting earlier r) s
+
+pub target-made : (earlier : List Subrecord) (r : Reference) → IsSome (target_setting earlier r) → IsSome (target_of earlier r)
+target-made earlier r s = some_made target_from (target_setting earlier r) s
+
 pub frame-there : (threads : Threads) (earlier : List Subrecord) (r : Reference) → HasThreads threads earlier → IsSome (frame_setting earlier r) → IsSome (frame_cell threads r)
-frame-there threads earlier r h s = subst (λ o. IsSome o) (sym (threads_kept.frame threads earlier r h)) (some_made frame_from (frame_setting earlier r) s)
+frame-there threads earlier r h s = subst (λ o. IsSome o) (sym (threads_kept.frame threads earlier r h)) (frame-made earlier r s)
 
 pub target-there : (threads : Threads) (earlier : List Subrecord) (r : Reference) → HasThreads threads earlier → IsSome (target_setting earlier r) → IsSome (target_cell threads r)
-target-there threads earlier r h s = subst (λ o. IsSome o) (sym (threads_kept.target threads earlier r h)) (some_made target_from (target_setting earlier r) s)
-
--- The threads in force, after one more record.
-threads-contents : (threads : Threads) (earlier : List Subrecord) (c : Contents) → HasThreads threads earlier → HasThreads (threads_after threads c) (earlier ++ subrecords_in c)
-threads-contents threads earlier (Fixups subs) h = threads_kept.all threads earlier subs h
-threads-contents threads earlier (Names items) h = subst (HasThreads threads) (sym (append-nil earlier)) h
-threads-contents threads earlier _ h = subst (HasThreads threads) (sym (append-nil earlier)) h
-
-pub threads-more : (threads : Threads) (before : List Rec) (r : Rec) → HasThreads threads (subrecords before) → HasThreads (threads_after threads r.contents) (subrecords (before ++ r ∷ []))
-threads-more threads before r h = subst (HasThreads (threads_after threads r.contents)) (sym (subrecords-more before r)) (threads-contents threads (subrecords before) r.contents h)
+target-there threads earlier r h s = subst (λ o. IsSome o) (sym (threads_kept.target threads earlier r h)) (target-made earlier r s)
 
 -- The subrecords that hold, of the first and of the others.
 abbrev pub HoldFrom : List Rec → List Subrecord → List (At Subrecord) → Type 0

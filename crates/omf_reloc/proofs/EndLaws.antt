@@ -14,12 +14,10 @@ use Rattle.omf_records.specs.declared.record.Rec.{Rec as CodeRec}
 use Rattle.omf_records.specs.declared.record.Rec.TheVariants as code
 use Rattle.omf_records.specs.declared.subrecord.Reference.{Reference as Named}
 use Rattle.omf_records.specs.Values.{Rec, Contents, Names, Fixups, ModEnd, Subrecord, Reference}
-use Rattle.omf_check.proofs.ThreadLaws.{threads_kept}
 use Rattle.omf_check.specs.Inner.Judging.{frame_cell, target_cell}
-use Rattle.omf_check.specs.Inner.Kept.{HasThreads, no_threads}
 use Rattle.omf_check.specs.Sound.{is_module_end, ModuleHolds, ReferenceHolds}
 use Rattle.omf_check.specs.Tables.{subrecords}
-use Rattle.omf_check.specs.Threads.{PlainReference, plain}
+use Rattle.omf_check.specs.Threads.{PlainReference, frame_of, plain, target_of}
 use Rattle.omf_check.specs.declared.method.FrameMethod.TheVariants.{Target as F5}
 use Rattle.omf_check.specs.Threads.{T0}
 use Rattle.omf_check.specs.declared.threads.Threads.{Threads}
@@ -28,8 +26,8 @@ use Rattle.omf_reloc.specs.Offsets.{start_outcome}
 use Rattle.omf_reloc.specs.Inner.Widths.{modend_type}
 use Rattle.omf_placement.specs.Placement.{Places}
 use Rattle.omf_reloc.specs.Plain.{Piece, piece_of, pieces}
-use Rattle.omf_reloc.specs.Inner.Walking.{plain_by, threads_after, threads_through}
-use Rattle.omf_reloc.proofs.EarlierLaws.{plain-by, threads-more, frame-there, target-there}
+use Rattle.omf_reloc.specs.Inner.Walking.{plain_by}
+use Rattle.omf_reloc.proofs.EarlierLaws.{frame-made, target-made}
 use Rattle.omf_reloc.proofs.GatherLaws.{pieces_from, subrecords-more}
 use Rattle.omf_reloc.proofs.WalkLaws.{last-end}
 
@@ -43,13 +41,6 @@ pieces-behind before (x ∷ front) r =
     let p = piece_of (subrecords before) x.kind x.contents in
     ap (λ ps. p ∷ ps) (pieces-behind (before ++ x ∷ []) front r)
     ∙ ap (λ b. p ∷ (pieces_from (before ++ x ∷ []) front ++ piece_of (subrecords b) r.kind r.contents ∷ [])) (append_assoc before (x ∷ []) front)
-
--- The threads after records are those that their subrecords set.
-through-kept : (threads : Threads) (before rest : List Rec) → HasThreads threads (subrecords before) → HasThreads (threads_through threads rest) (subrecords (before ++ rest))
-through-kept threads before [] h = subst (λ rs. HasThreads threads (subrecords rs)) (sym (append-nil before)) h
-through-kept threads before (r ∷ rest) h =
-    subst (λ rs. HasThreads (threads_through threads (r ∷ rest)) (subrecords rs)) (append_assoc before (r ∷ []) rest)
-    (through-kept (threads_after threads r.contents) (before ++ r ∷ []) rest (threads-more threads before r h))
 
 -- A record that is not a MODEND names no start.
 no-start : (pl : Places) (earlier : List Subrecord) (kind : ℕ) (c : Contents) → is_module_end c ≡ false → piece_start pl (piece_of earlier kind c) ≡ []
@@ -118,21 +109,25 @@ module _ (pl : Places) (m : List Rec) (holds : ModuleHolds profile_limits m) (ki
   found : ReferenceHolds before (subrecords before) r
   found = (holds.each before [] end (parts m holds end is)).reference
 
-  has-threads : HasThreads (threads_through no_threads m) (subrecords before)
-  has-threads =
-      subst (HasThreads (threads_through no_threads m)) (ap subrecords (parts m holds end is) ∙ subrecords-more before end ∙ append-nil (subrecords before)) (through-kept no_threads [] m threads_kept.none)
+  same-subs : subrecords m ≡ subrecords before
+  same-subs = ap subrecords (parts m holds end is) ∙ subrecords-more before end ∙ append-nil (subrecords before)
 
-  module _ (threads : Threads) (f : frame_cell threads r ≡ frame_cell (threads_through no_threads m) r) (t : target_cell threads r ≡ target_cell (threads_through no_threads m) r) where
+  module _ (threads : Threads) (f : frame_cell threads r ≡ frame_of (subrecords m) r) (t : target_cell threads r ≡ target_of (subrecords m) r) where
+    frame-is : frame_cell threads r ≡ frame_of (subrecords before) r
+    frame-is = f ∙ ap (λ s. frame_of s r) same-subs
+
+    target-is : target_cell threads r ≡ target_of (subrecords before) r
+    target-is = t ∙ ap (λ s. target_of s r) same-subs
+
     pub frame-set : IsSome (frame_cell threads r)
-    frame-set = subst (λ o. IsSome o) (sym f) (frame-there (threads_through no_threads m) (subrecords before) r has-threads found.frame_set)
+    frame-set = subst (λ o. IsSome o) (sym frame-is) (frame-made (subrecords before) r found.frame_set)
 
     pub target-set : IsSome (target_cell threads r)
-    target-set = subst (λ o. IsSome o) (sym t) (target-there (threads_through no_threads m) (subrecords before) r has-threads found.target_set)
+    target-set = subst (λ o. IsSome o) (sym target-is) (target-made (subrecords before) r found.target_set)
 
     plain-is : plain_by threads r ≡ plain (subrecords before) r
     plain-is =
-        ap₂ (λ f t. let x : PlainReference = record { frame = unwrap_or f F5; target = unwrap_or t (T0 0); displacement = unwrap_or r.displacement 0 } in x) f t
-        ∙ sym (plain-by (threads_through no_threads m) (subrecords before) r has-threads)
+        ap₂ (λ f t. let x : PlainReference = record { frame = unwrap_or f F5; target = unwrap_or t (T0 0); displacement = unwrap_or r.displacement 0 } in x) frame-is target-is
 
     pub start-found : result_ok (start_outcome pl kind (plain_by threads r)) ≡ start pl m
     start-found = ap (λ q. result_ok (start_outcome pl kind q)) plain-is ∙ sym (one-last (result_ok (start_outcome pl kind (plain (subrecords before) r)))) ∙ sym (start-is m holds end is pl)

@@ -16,7 +16,7 @@ use Rattle.omf_reloc.specs.Inner.Pieces.{single_pieces, references_at, reference
 use Rattle.omf_placement.specs.Placement.{Places}
 use Rattle.omf_reloc.specs.Plain.{Piece, Kept, Fixed, End, PlainFixup, pieces, fixups_of_data}
 use Rattle.omf_reloc.specs.Reach.{causes, all_reference_places, far_faults}
-use Rattle.omf_reloc.specs.Inner.ReachSteps.{far_at, data_place, place_behind, piece_cause, pieces_far}
+use Rattle.omf_reloc.specs.Inner.ReachSteps.{far_at, data_place, place_after, piece_cause, pieces_far}
 use Rattle.omf_reloc.proofs.HoldLaws.{PlainFixupHolds, PieceHolds, PiecesHold, data_kept, data_after, pieces-hold}
 use Rattle.omf_reloc.proofs.PieceLaws.{numbered_records, pieces-listed, numbered-listed, numbered-placed}
 use Rattle.omf_reloc.proofs.SingleLaws.{causes-same}
@@ -56,7 +56,7 @@ place-kept (Iterated d) o = refl
 place-kept (Names items) o = refl
 place-kept _ o = refl
 
-pub place-after : (p : Piece) (o : Option Contents) → place_behind p (place_of o) ≡ place_of (data_after p o)
+pub place-after : (p : Piece) (o : Option Contents) → place_after p (place_of o) ≡ place_of (data_after p o)
 place-after (Kept r) o = place-kept r.contents o
 place-after (Fixed kind fs) o = refl
 place-after (End kind byte s) o = refl
@@ -112,7 +112,7 @@ module _ (pl : Places) (limits : Limits) (m : List Rec) where
       (join ((at.number, at.within) ∷ []) qs (c ∷ []) (causes pl ps) (far_at at.number at.within c) tail one rest)
 
   of-piece : (at : Place) (p : Piece) (last_one : Option Contents) (place : Option (ℕ × ℕ)) (ps : List Piece) (qs : List (ℕ × ℕ)) (tail : List ReachFault)
-      → place ≡ place_of last_one → PieceHolds limits m last_one p ps → AreFar qs (After ps (place_behind p place)) tail
+      → place ≡ place_of last_one → PieceHolds limits m last_one p ps → AreFar qs (After ps (place_after p place)) tail
       → AreFar (references_at at p ++ qs) (After (p ∷ ps) place) (far_at at.number at.within (piece_cause pl place p) ++ tail)
   of-piece at (Kept r) last_one place ps qs tail e h k = of-kept r.contents r place ps qs tail refl k
   of-piece at (Fixed kind []) last_one place ps qs tail e h k = absurd h
@@ -126,8 +126,8 @@ module _ (pl : Places) (limits : Limits) (m : List Rec) where
       → AreFar (reference_places xs) (After (without_places xs) place) (pieces_far pl place xs)
   from-here [] last_one place e h = after-data [] place [] [] [] (record { count = refl; faults = refl })
   from-here (x ∷ xs) last_one place e h =
-      of-piece x.0 x.1 last_one place (without_places xs) (reference_places xs) (pieces_far pl (place_behind x.1 place) xs) e h.0
-      (from-here xs (data_after x.1 last_one) (place_behind x.1 place) (ap (place_behind x.1) e ∙ place-after x.1 last_one) h.1)
+      of-piece x.0 x.1 last_one place (without_places xs) (reference_places xs) (pieces_far pl (place_after x.1 place) xs) e h.0
+      (from-here xs (data_after x.1 last_one) (place_after x.1 place) (ap (place_after x.1) e ∙ place-after x.1 last_one) h.1)
 
 module _ (pl : Places) (limits : Limits) (m : List Rec) (holds : ModuleHolds limits m) where
   module _ (xs : List (Place × Piece)) (listed : without_places xs ≡ single_pieces m) (placed : reference_places xs ≡ all_reference_places m) where

@@ -11,7 +11,7 @@ use Rattle.omf_image.specs.declared.limits.Limits.{Limits}
 use Rattle.omf_records.specs.Inner.Reading.{typed}
 use Rattle.omf_records.specs.Values.{At, Rec, Contents, Names, Fixups, ModEnd, Subrecord, Thread, Fixup, Reference}
 use Rattle.omf_check.proofs.ThreadLaws.{threads_kept}
-use Rattle.omf_check.specs.Inner.Kept.{HasThreads, no_threads, set_thread}
+use Rattle.omf_check.specs.Inner.Kept.{HasThreads, no_threads, set_thread, threads_after}
 use Rattle.omf_check.specs.Listed.{placed_from}
 use Rattle.omf_check.specs.Sound.{ReferenceHolds, SubrecordHolds, ContentsHold, ModuleHolds}
 use Rattle.omf_check.specs.Tables.{subrecords}
@@ -21,8 +21,8 @@ use Rattle.omf_reloc.specs.Inner.Names.{plain_fixups}
 use Rattle.omf_reloc.specs.Inner.Pieces.{one_by_one, single_pieces, references_at, reference_places, subrecord_steps, contents_steps, steps_from, given, placed_pieces, IsSet, SubrecordIsSet, SubrecordsAreSet, ContentsAreSet, RecordsAreSet}
 use Rattle.omf_reloc.specs.Plain.{Piece, Fixed, End, PlainFixup, piece_of}
 use Rattle.omf_reloc.specs.Reach.{fixup_place, reference_places as stood, all_reference_places}
-use Rattle.omf_reloc.specs.Inner.Walking.{threads_after}
-use Rattle.omf_reloc.proofs.EarlierLaws.{plain-by, threads-more, HoldFrom, hold-first, hold-rest, frame-there, target-there}
+use Rattle.omf_check.proofs.KeptLaws.{threads_next}
+use Rattle.omf_reloc.proofs.EarlierLaws.{plain-by, HoldFrom, hold-first, hold-rest, frame-there, target-there}
 use Rattle.omf_reloc.proofs.GatherLaws.{pieces_from}
 use Rattle.omf_reloc.proofs.WalkLaws.{next-split}
 
@@ -65,7 +65,7 @@ listed-from before threads (x ∷ xs) h =
     let r = x.1 in
     given-more (contents_steps threads x.0 r.kind r.contents) (steps_from (threads_after threads r.contents) xs)
     ∙ ap₂ (λ ys zs. ys ++ zs) (contents-listed x.0 r.kind threads (subrecords before) r.contents h)
-    (listed-from (before ++ r ∷ []) (threads_after threads r.contents) xs (threads-more threads before r h))
+    (listed-from (before ++ r ∷ []) (threads_after threads r.contents) xs (threads_next threads before r h))
 
 pub pieces-listed : (m : List Rec) (xs : List (Place × Rec)) → map (λ x. x.1) xs ≡ m → without_places (placed_pieces xs) ≡ single_pieces m
 pieces-listed m xs e = listed-from [] no_threads xs threads_kept.none ∙ ap (λ rs. flat_map one_by_one (pieces_from [] rs)) e
@@ -166,7 +166,7 @@ set-from : (limits : Limits) (m before : List Rec) (threads : Threads) (xs : Lis
 set-from limits m before threads [] holds e h = tt
 set-from limits m before threads (x ∷ xs) holds e h = (
   contents-set limits before x.1.kind threads x.1.contents h (holds.each before (map (λ x. x.1) xs) x.1 e),
-  set-from limits m (before ++ x.1 ∷ []) (threads_after threads x.1.contents) xs holds (next-split m before (map (λ x. x.1) xs) x.1 e) (threads-more threads before x.1 h),
+  set-from limits m (before ++ x.1 ∷ []) (threads_after threads x.1.contents) xs holds (next-split m before (map (λ x. x.1) xs) x.1 e) (threads_next threads before x.1 h),
 )
 
 pub records-set : (limits : Limits) (m : List Rec) (xs : List (Place × Rec)) → ModuleHolds limits m → map (λ x. x.1) xs ≡ m → RecordsAreSet no_threads xs

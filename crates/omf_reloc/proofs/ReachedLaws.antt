@@ -13,7 +13,7 @@ use Rattle.omf_reloc.specs.declared.fault.ReachFault.TheVariants as fault
 use Rattle.omf_reloc.specs.Plain.{Piece}
 use Rattle.omf_placement.specs.Placement.{Places}
 use Rattle.omf_reloc.specs.Reach.{misplaced, misfits, far_faults, reach_fault, Reaches}
-use Rattle.omf_reloc.specs.Inner.ReachSteps.{miscounts, misplaced_from, far_at, place_behind, piece_cause, pieces_far}
+use Rattle.omf_reloc.specs.Inner.ReachSteps.{miscounts, misplaced_from, far_at, place_after, piece_cause, pieces_far}
 use Rattle.omf_placement.proofs.NamedLaws.{entry-suc}
 use Rattle.omf_reloc.proofs.ReachLaws.{nil-right, first-none}
 
@@ -50,15 +50,15 @@ module _ (pl : Places) (infos : List SegInfo) (i : ℕ) (info : SegInfo) (low : 
 -- One piece more.
 module _ (pl : Places) (place : Option (ℕ × ℕ)) (xs ys : List (Place × Piece)) (x : Place × Piece) (e : xs ≡ x ∷ ys) where
   module _ (all : Option ReachFault) (cause : Option Cause) (found : cause ≡ piece_cause pl place x.1) (h : slice_get (pieces_far pl place xs) 0 ≡ all) where
-    same : slice_get (far_at x.0.number x.0.within cause ++ pieces_far pl (place_behind x.1 place) ys) 0 ≡ all
-    same = ap (λ c. slice_get (far_at x.0.number x.0.within c ++ pieces_far pl (place_behind x.1 place) ys) 0) found ∙ sym (ap (λ zs. slice_get (pieces_far pl place zs) 0) e) ∙ h
+    same : slice_get (far_at x.0.number x.0.within cause ++ pieces_far pl (place_after x.1 place) ys) 0 ≡ all
+    same = ap (λ c. slice_get (far_at x.0.number x.0.within c ++ pieces_far pl (place_after x.1 place) ys) 0) found ∙ sym (ap (λ zs. slice_get (pieces_far pl place zs) 0) e) ∙ h
 
     pub pieces-stop : (c : Cause) → cause ≡ Some c → Some (fault.TooFar x.0.number x.0.within c) ≡ all
-    pieces-stop c s = sym (ap (λ o. slice_get (far_at x.0.number x.0.within o ++ pieces_far pl (place_behind x.1 place) ys) 0) s) ∙ same
+    pieces-stop c s = sym (ap (λ o. slice_get (far_at x.0.number x.0.within o ++ pieces_far pl (place_after x.1 place) ys) 0) s) ∙ same
 
-    pub pieces-go : cause ≡ None → (next : Option (ℕ × ℕ)) → next ≡ place_behind x.1 place → slice_get (pieces_far pl next ys) 0 ≡ all
+    pub pieces-go : cause ≡ None → (next : Option (ℕ × ℕ)) → next ≡ place_after x.1 place → slice_get (pieces_far pl next ys) 0 ≡ all
     pieces-go s next n =
-        ap (λ p. slice_get (pieces_far pl p ys) 0) n ∙ sym (ap (λ o. slice_get (far_at x.0.number x.0.within o ++ pieces_far pl (place_behind x.1 place) ys) 0) s) ∙ same
+        ap (λ p. slice_get (pieces_far pl p ys) 0) n ∙ sym (ap (λ o. slice_get (far_at x.0.number x.0.within o ++ pieces_far pl (place_after x.1 place) ys) 0) s) ∙ same
 
 -- The parts of the list of all faults.
 pub first-later : {A : Type 0} (xs ys : List A) (o : Option A) → None ≡ slice_get xs 0 → o ≡ slice_get ys 0 → o ≡ slice_get (xs ++ ys) 0

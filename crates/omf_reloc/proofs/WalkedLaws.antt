@@ -22,7 +22,7 @@ use Rattle.omf_reloc.specs.Inner.Pieces.{single_pieces}
 use Rattle.omf_placement.specs.Placement.{Places}
 use Rattle.omf_reloc.specs.Plain.{Piece, Kept, Fixed, End, PlainFixup, pieces, fixups_of_data}
 use Rattle.omf_reloc.specs.Reach.{far_faults}
-use Rattle.omf_reloc.specs.Inner.ReachSteps.{data_place, piece_cause, pieces_far, place_behind}
+use Rattle.omf_reloc.specs.Inner.ReachSteps.{data_place, piece_cause, pieces_far, place_after}
 use Rattle.omf_reloc.specs.Inner.Walking.{with_fixup, Walk, closed, opened_by, opened, IsNext, HasOffsets, CanAdd, CanTake, CanWalk, open_place}
 use Rattle.omf_reloc.proofs.FarLaws.{without_places}
 use Rattle.omf_reloc.proofs.ReachedLaws.{pieces-go}
@@ -250,7 +250,7 @@ place-fixed : (pl : Places) (kind : ℕ) (f : PlainFixup) (l : Option Laid) → 
 place-fixed pl kind f None = refl
 place-fixed pl kind f (Some l) = refl
 
-pub place-opened : (pl : Places) (p : Piece) (l : Option Laid) → open_place (opened pl p l) ≡ place_behind p (open_place l)
+pub place-opened : (pl : Places) (p : Piece) (l : Option Laid) → open_place (opened pl p l) ≡ place_after p (open_place l)
 place-opened pl (Kept r) l = place-kept r.kind r.contents l
 place-opened pl (Fixed kind []) l = refl
 place-opened pl (Fixed kind (f ∷ fs)) l = place-fixed pl kind f l
@@ -266,13 +266,8 @@ pub go-on : {start : List Laid} {pl : Places} {m : List Rec} {w new : Walk} {lef
     → IsNext pl x.1 w new → cause ≡ piece_cause pl (open_place w.open_data) x.1 → cause ≡ None → IsGoing start pl m w left → IsGoing start pl m new rest
 go-on {start} {pl} {m} {w} {new} {left} {rest} {cause} x holds e n found none g =
     let place = open_place w.open_data in
-    let moved : open_place new.open_data ≡ place_behind x.1 place = ap open_place n.open_data ∙ place-opened pl x.1 w.open_data in
+    let moved : open_place new.open_data ≡ place_after x.1 place = ap open_place n.open_data ∙ place-opened pl x.1 w.open_data in
     record {
       walked = walk-next start pl m holds w x.1 (without_places rest) (subst (λ xs. IsWalked start pl m w (without_places xs)) e g.walked) new n;
       same = pieces-go pl place left rest x e (slice_get (far_faults pl m) 0) cause found g.same none (open_place new.open_data) moved;
     }
-
--- The records of a checked module, without their places.
-pub records-listed : (number start : ℕ) (rs : List Raw) → map (λ x. x.1) (placed_from number start rs) ≡ recs rs
-records-listed number start [] = refl
-records-listed number start (r ∷ rs) = ap (λ t. typed r ∷ t) (records-listed (number + 1) (start + length (raw_bytes r)) rs)

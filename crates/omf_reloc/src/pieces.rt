@@ -3,15 +3,15 @@
 ghost use Rattle.std.specs.Prelude.{◌≡◌, ◌∷◌, [], map, IfNone, IfSome, None, Some, option_map};
 ghost use Rattle.omf_image.specs.Limits.{profile_limits};
 ghost use Rattle.omf_check.specs.Inner.Contents.{references_seen};
-ghost use Rattle.omf_check.specs.Inner.Kept.{no_threads};
+ghost use Rattle.omf_check.specs.Inner.Kept.{no_threads, threads_after};
 ghost use Rattle.omf_check.specs.Listed.{placed_from};
 ghost use Rattle.omf_check.specs.Module.{recs_of, records_in};
 ghost use Rattle.omf_check.specs.Sound.{ModuleHolds};
 ghost use Rattle.omf_reloc.specs.Inner.PieceSeen.{step_seen, placed_seen};
-ghost use Rattle.omf_reloc.specs.Inner.Pieces.{subrecord_step, contents_steps, open_steps, threads_behind, end_at, single_pieces, reference_places, placed_pieces, SubrecordIsSet, ContentsAreSet, OpenIsSet, RecordsAreSet};
+ghost use Rattle.omf_reloc.specs.Inner.Pieces.{subrecord_step, contents_steps, open_steps, threads_after_open, end_at, single_pieces, reference_places, placed_pieces, SubrecordIsSet, ContentsAreSet, OpenIsSet, RecordsAreSet};
 ghost use Rattle.omf_reloc.specs.Inner.Widths.{fixupp_type, modend_type};
 ghost use Rattle.omf_reloc.specs.Plain.{End, Fixed};
-ghost use Rattle.omf_reloc.specs.Inner.Walking.{direct_plain, plain_by, threads_after};
+ghost use Rattle.omf_reloc.specs.Inner.Walking.{direct_plain, plain_by};
 ghost use Rattle.omf_records.specs.Values.{ModEnd};
 ghost use Rattle.omf_reloc.specs.Reach.{all_reference_places};
 
@@ -136,7 +136,7 @@ fn open_step<'a>(
     ensures some { IfSome result (λ step. open_steps threads.old fixups.old ≡ step_seen step ∷ open_steps threads.new fixups.new) }
     ensures none { IfNone result (open_steps threads.old fixups.old ≡ []) }
     ensures closed { IfNone result (fixups.new ≡ None) }
-    ensures threads { threads_behind threads.new fixups.new ≡ threads_behind threads.old fixups.old }
+    ensures threads { threads_after_open threads.new fixups.new ≡ threads_after_open threads.old fixups.old }
     ensures set { OpenIsSet threads.new fixups.new }
 {
     if let Some(open) = fixups {
@@ -163,7 +163,7 @@ fn direct_step(
     requires { OpenIsSet threads.now fixups.old }
     ensures some { IfSome result (λ x. open_steps threads.now fixups.old ≡ Some (x.0, Fixed (fixupp_type x.1) (x.2 ∷ [])) ∷ open_steps threads.now fixups.new) }
     ensures none { IfNone result (fixups.new ≡ fixups.old) }
-    ensures threads { threads_behind threads.now fixups.new ≡ threads_behind threads.now fixups.old }
+    ensures threads { threads_after_open threads.now fixups.new ≡ threads_after_open threads.now fixups.old }
     ensures set { OpenIsSet threads.now fixups.new }
 {
     if let Some(open) = fixups {
@@ -186,7 +186,7 @@ fn references_step<'a>(
 ) -> (Option<(Place, Piece<'a>)>, Option<OpenFixups<'a>>)
     requires { ContentsAreSet threads.now (references_seen references.now).contents }
     ensures step { step_seen result.0 ∷ open_steps threads.now result.1 ≡ contents_steps threads.now at (references_seen references.now).kind (references_seen references.now).contents }
-    ensures threads { threads_behind threads.now result.1 ≡ threads_after threads.now (references_seen references.now).contents }
+    ensures threads { threads_after_open threads.now result.1 ≡ threads_after threads.now (references_seen references.now).contents }
     ensures set { OpenIsSet threads.now result.1 }
 {
     match references {

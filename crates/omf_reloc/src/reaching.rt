@@ -9,7 +9,7 @@ ghost use Rattle.omf_placement.specs.Placement.{absolute_place};
 ghost use Rattle.omf_reloc.specs.Inner.Names.{extra, missing, given, lies_at};
 ghost use Rattle.omf_reloc.specs.Inner.PieceSeen.{piece_seen};
 ghost use Rattle.omf_reloc.specs.Reach.{entries, misplaced, misfits, far_faults, reach_fault};
-ghost use Rattle.omf_reloc.specs.Inner.ReachSteps.{miscounts, misplaced_from, data_place, place_behind, piece_cause};
+ghost use Rattle.omf_reloc.specs.Inner.ReachSteps.{miscounts, misplaced_from, data_place, place_after, piece_cause};
 
 use crate::fault::{Cause, Kind, ReachFault, too_far};
 use crate::offset::{outcome, start_outcome};
@@ -178,7 +178,7 @@ fn place_after(rec: &Undecoded<'_>, last: Option<(u16, u32)>) -> Option<(u16, u3
 
 /// The same, up to and including this piece.
 fn data_after(piece: &Piece<'_>, last: Option<(u16, u32)>) -> Option<(u16, u32)>
-    ensures { result ≡ place_behind (piece_seen piece.now) last }
+    ensures { result ≡ place_after (piece_seen piece.now) last }
 {
     match piece {
         Piece::Kept(rec) => place_after(rec, last),

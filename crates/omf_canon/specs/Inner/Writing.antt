@@ -6,10 +6,10 @@ use Rattle.omf_records.specs.Inner.Direct.{IsDirect}
 use Rattle.omf_records.specs.Shortest.{contents_bytes, subrecord_bytes}
 use Rattle.omf_records.specs.Inner.Unread.{Pending, NextGives}
 use Rattle.omf_records.specs.Values.{At, Rec, alone, Contents, Fixups, ModEnd, Subrecord, Thread, Fixup}
-use Rattle.omf_check.specs.Inner.Kept.{set_thread}
+use Rattle.omf_check.specs.Inner.Kept.{set_thread, threads_after}
 use Rattle.omf_check.specs.declared.threads.Threads.{Threads}
 use Rattle.omf_reloc.specs.Plain.{Piece, Kept, Fixed, End}
-use Rattle.omf_reloc.specs.Inner.Walking.{plain_by, plain_fixup_by, threads_after}
+use Rattle.omf_reloc.specs.Inner.Walking.{plain_by, plain_fixup_by}
 use Rattle.omf_canon.specs.Inner.Names.{start_bytes, end_byte}
 use Rattle.omf_canon.specs.Cut.{body_limit}
 use Rattle.omf_canon.specs.PlainBytes.{fixup_bytes}

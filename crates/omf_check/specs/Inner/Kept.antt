@@ -33,6 +33,15 @@ abbrev pub set_threads : Threads → List (At Subrecord) → Threads
 set_threads threads [] = threads
 set_threads threads (s ∷ subs) = set_threads (set_thread threads s.item) subs
 
+-- the threads after one more record; after some
+abbrev pub threads_after : Threads → Contents → Threads
+threads_after threads (Fixups subs) = set_threads threads subs
+threads_after threads _ = threads
+
+abbrev pub threads_through : Threads → List Rec → Threads
+threads_through threads [] = threads
+threads_through threads (r ∷ rs) = threads_through (threads_after threads r.contents) rs
+
 -- the offsets of the names, GRPDEF records and external names in the module; whether each external is local; the segments, and the
 -- attribute byte of each; the offset of the MODEND, or 0 before it; the number of items; the last data record; the threads
 pub record Kept : Type 0 where

@@ -2,9 +2,8 @@
 use Rattle.std.specs.Prelude.{◌≡◌, ℕ}
 use Rattle.omf_frame.specs.Types.{width_of}
 use Rattle.omf_frame.specs.declared.kinds.Width.{Width}
-use Rattle.omf_records.specs.Values.{Contents, Fixups}
-use Rattle.omf_check.specs.Inner.Kept.{set_threads}
-use Rattle.omf_check.specs.declared.threads.Threads.{Threads}
+use Rattle.omf_records.specs.Values.{Contents}
+use Rattle.omf_check.specs.Inner.Kept.{threads_after}
 use Rattle.omf_dump.specs.Contents.{shown_with}
 use Rattle.omf_dump.specs.Fields.{Shown}
 use Rattle.omf_dump.specs.Inner.Keeping.{data_after, with_contents}
@@ -16,11 +15,6 @@ shown_in known width kind c = shown_with (subrecord_items_by known.tables known.
 
 abbrev pub shown_by : Known → ℕ → Contents → Shown
 shown_by known kind c = shown_in known (width_of kind) kind c
-
--- the threads after one more record
-abbrev pub threads_after : Threads → Contents → Threads
-threads_after threads (Fixups subs) = set_threads threads subs
-threads_after threads _ = threads
 
 -- what is kept after one more record
 pub record Keeps (old : Known) (c : Contents) (new : Known) : Type 0 where

@@ -6,7 +6,7 @@ use Rattle.omf_records.specs.Inner.Names.{location_size}
 use Rattle.omf_image.specs.Inner.Expanding.{expanded}
 use Rattle.omf_image.specs.Limits.{profile_limits}
 use Rattle.omf_image.specs.Overlay.{Laid, byte_at, AreLaidOver}
-use Rattle.omf_reloc.specs.Inner.ReachSteps.{place_behind}
+use Rattle.omf_reloc.specs.Inner.ReachSteps.{place_after}
 use Rattle.omf_reloc.specs.Inner.Walking.{CanExpand}
 use Rattle.omf_reloc.specs.Plain.{Piece, Kept, Fixed, End, PlainFixup}
 use Rattle.omf_finding.specs.declared.patterning.PatternByte.{PatternByte}
@@ -56,7 +56,7 @@ marks_of place (End kind byte start) = []
 
 abbrev pub all_marks : Option (ℕ × ℕ) → List Piece → List Laid
 all_marks place [] = []
-all_marks place (p ∷ ps) = marks_of place p ++ all_marks (place_behind p place) ps
+all_marks place (p ∷ ps) = marks_of place p ++ all_marks (place_after p place) ps
 
 -- The walk: its images, and the place of the last data record.
 pub record Walk : Type 0 where
@@ -68,7 +68,7 @@ pub record Walk : Type 0 where
 pub record IsNext (p : Piece) (old new : Walk) : Type 0 where
   pub values : AreLaidOver old.values (raw_of p) new.values
   pub marks : AreLaidOver old.marks (marks_of old.last_place p) new.marks
-  pub place : new.last_place ≡ place_behind p old.last_place
+  pub place : new.last_place ≡ place_after p old.last_place
 
 -- A piece can be taken: the blocks of an LIDATA expand, and offsets have 32 bits.
 abbrev pub FitsContents : ℕ → Contents → Type 0

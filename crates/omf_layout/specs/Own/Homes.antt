@@ -3,11 +3,12 @@ use Rattle.std.specs.Prelude.{ℕ, List, [], ◌∷◌, ◌==◌, ◌&&◌, find
 use Rattle.std.specs.List.{list_any}
 use Rattle.std.specs.Option.{option_map_or, option_or}
 use Rattle.omf_frame.specs.Bytes.{last}
-use Rattle.omf_records.specs.Methods.{kind_of}
-use Rattle.omf_records.specs.Values.{At, Contents, GroupItem, ModEnd, Rec, Reference, target_bits, target_by_thread}
+use Rattle.omf_records.specs.Values.{Contents, GroupItem, ModEnd, Rec, Subrecord}
 use Rattle.omf_records.specs.declared.method.Kind.{Kind}
 use Rattle.omf_records.specs.declared.method.Kind.TheVariants as kinds
-use Rattle.omf_check.specs.Tables.{attributes, entry, groups, segments}
+use Rattle.omf_check.specs.Tables.{attributes, entry, groups, segments, subrecords}
+use Rattle.omf_check.specs.Threads.{target_of}
+use Rattle.omf_check.specs.declared.method.TargetMethod.{TargetMethod}
 use Rattle.omf_check.specs.declared.segment.SegInfo.{SegInfo}
 use Rattle.omf_layout.specs.declared.own.homes.FullName.{FullName}
 use Rattle.omf_layout.specs.declared.own.homes.Home.{Home}
@@ -21,21 +22,21 @@ use Rattle.omf_layout.specs.Several.Portions.{combination_named, name_at}
 
 -- ---- the start
 
--- The segment of a start address, if its MODEND names a segment as the target, and no thread does (TIS OMF 1.1, "MODEND", "FIXUPP": the target methods of segments).
-abbrev pub segment_by : Kind → Option (At ℕ) → Option ℕ
-segment_by kinds.Segment datum = option_map (λ d. d.item) datum
-segment_by _ datum = None
+-- The segment of a start address, if its target is a segment, by its own method or by a thread (TIS OMF 1.1, "MODEND", "FIXUPP": the target methods).
+abbrev pub segment_by : Kind → ℕ → Option ℕ
+segment_by kinds.Segment i = Some i
+segment_by _ i = None
 
-abbrev pub target_segment : Reference → Option ℕ
-target_segment r = if target_by_thread r.fix.item then None else segment_by (kind_of (target_bits r.fix.item)) r.target
+abbrev pub target_segment : TargetMethod → Option ℕ
+target_segment t = segment_by t.kind t.index
 
--- The segment of the start of a module with this last record: a main module has bit 7 of MODEND's type byte.
-abbrev pub segment_in : Contents → Option ℕ
-segment_in (ModEnd byte start) = if nat_le 128 byte then option_and_then target_segment start else None
-segment_in _ = None
+-- The segment of the start of a module with this last record, after these subrecords: a main module has bit 7 of MODEND's type byte.
+abbrev pub segment_in : List Subrecord → Contents → Option ℕ
+segment_in earlier (ModEnd byte start) = if nat_le 128 byte then option_and_then target_segment (option_and_then (target_of earlier) start) else None
+segment_in earlier _ = None
 
-abbrev pub start_segment : Option Rec → Option ℕ
-start_segment end = option_and_then (λ r. segment_in r.contents) end
+abbrev pub start_segment : List Rec → Option ℕ
+start_segment m = option_and_then (λ r. segment_in (subrecords m) r.contents) (last m)
 
 -- ---- the groups of a segment
 
@@ -84,7 +85,7 @@ home_at ms m k = option_map_or homes.Group (group_with (keys.Index k) m) (option
 -- The same of the segment of the first start.
 abbrev pub first_home : List (List Rec) → List (List Rec) → Home
 first_home ms [] = homes.Apart
-first_home ms (m ∷ more) = option_map_or (home_at ms m) (start_segment (last m)) (first_home ms more)
+first_home ms (m ∷ more) = option_map_or (home_at ms m) (start_segment m) (first_home ms more)
 
 -- The near communals of an .EXE program are in DGROUP, if a module has one. Those of a .COM program are in DGROUP, or else with the start: it has one frame,
 -- in which all its offsets count (MS-DOS Programmer's Reference, ".COM programs").

@@ -1,10 +1,10 @@
 //! Where the near communals of a program are.
 
-ghost use Rattle.std.specs.Prelude.{◌≡◌, ◌==◌, codes, find, option_map};
+ghost use Rattle.std.specs.Prelude.{◌≡◌, ◌==◌, codes, find, option_and_then, option_map};
 ghost use Rattle.std.specs.List.{list_any};
-ghost use Rattle.omf_frame.specs.Bytes.{last};
 ghost use Rattle.omf_check.specs.Module.{recs_of, typed_modules};
-ghost use Rattle.omf_check.specs.Tables.{entry, groups};
+ghost use Rattle.omf_check.specs.Tables.{entry, groups, subrecords};
+ghost use Rattle.omf_check.specs.Threads.{target_of};
 ghost use Rattle.omf_records.specs.Inner.Seen.{contents_seen, rec_seen};
 ghost use Rattle.omf_records.specs.Values.{Group, GroupItem};
 ghost use Rattle.omf_layout.specs.Several.Portions.{name_at};
@@ -14,7 +14,7 @@ use crate::draft::group_name;
 use crate::own::communals::are_grouped;
 use crate::own::slots::named;
 use crate::several::portion::Combination;
-use omf_check::{Checked, SegInfo};
+use omf_check::{Checked, SegInfo, TargetMethod, threads_of_end};
 use omf_frame::Name;
 use omf_records::{Items, Kind, Member, Rec, Reference};
 
@@ -52,22 +52,24 @@ pub(crate) enum SegmentKey<'a> {
     Named(FullName<'a>),
 }
 
-/// Returns the segment of a start address, if the MODEND names it.
-fn target_segment(start: &Reference) -> Option<u16>
-    ensures { result ≡ target_segment start.now }
+/// Returns the segment of a module's start address, if the target of that is a segment.
+fn target_segment(module: &Checked, start: &Reference) -> Option<u16>
+    ensures { result ≡ option_and_then target_segment (target_of (subrecords (recs_of «module».now.bytes)) start.now) }
 {
-    if start.target_thread().is_some() {
-        return None;
-    }
-    match (start.target_method(), &start.target) {
-        (Kind::Segment, Some(datum)) => Some(datum.item.0),
+    match threads_of_end(module, start).target(start) {
+        Some(
+            TargetMethod {
+                kind: Kind::Segment,
+                index,
+            },
+        ) => Some(index.0),
         _ => None,
     }
 }
 
-/// Returns the segment of the start that a MODEND of a main module names.
-fn segment_in(end: &Rec<'_>) -> Option<u16>
-    ensures { result ≡ segment_in (contents_seen end.now) }
+/// Returns the segment of the start that the MODEND of a main module names.
+fn segment_in(module: &Checked, end: &Rec<'_>) -> Option<u16>
+    ensures { result ≡ segment_in (subrecords (recs_of «module».now.bytes)) (contents_seen end.now) }
 {
     let Rec::ModEnd {
         type_byte,
@@ -81,17 +83,17 @@ fn segment_in(end: &Rec<'_>) -> Option<u16>
         return None;
     }
     match start {
-        Some(start) => target_segment(start),
+        Some(start) => target_segment(module, start),
         None => None,
     }
 }
 
 /// Returns the segment of a module's start, if it is a main module and its MODEND names one.
 fn start_segment(module: &Checked) -> Option<u16>
-    ensures { result ≡ start_segment (last (recs_of «module».now.bytes)) }
+    ensures { result ≡ start_segment (recs_of «module».now.bytes) }
 {
     let end = module.end();
-    segment_in(&end)
+    segment_in(module, &end)
 }
 
 /// Returns whether a segment with this attribute byte is joined with others of its name and class.
@@ -250,9 +252,9 @@ pub fn exe_home<'a>(modules: &'a [Checked]) -> Home<'a>
 }
 
 /// Returns where the near communals of a .COM program are: in DGROUP, if a module has a group of that name; otherwise in the group that has the segment
-/// of the start; otherwise in that segment. The segment is that of the first main module whose MODEND names a segment as the target of its start. It is in a
-/// group of its module, or, by its name and class, of any module, if it is joined with others of these. An absolute, a private or a common segment without a
-/// group takes no communals.
+/// of the start; otherwise in that segment. The segment is that of the first main module whose MODEND names a segment as the target of its start, itself or
+/// by a thread. It is in a group of its module, or, by its name and class, of any module, if it is joined with others of these. An absolute, a private or a
+/// common segment without a group takes no communals.
 ///
 /// The start of a .COM program is in the frame in which all its offsets count, so the offsets of the communals count there.
 pub fn com_home<'a>(modules: &'a [Checked]) -> Home<'a>

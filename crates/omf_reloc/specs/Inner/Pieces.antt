@@ -3,10 +3,10 @@ use Rattle.std.specs.Prelude.{ℕ, List, [], ◌∷◌, ◌++◌, map, flat_map,
 use Rattle.omf_frame.specs.declared.fault.Place.{Place}
 use Rattle.omf_records.specs.Values.{At, Rec, Contents, Fixups, ModEnd, Subrecord, Thread, Fixup, Reference}
 use Rattle.omf_check.specs.Inner.Judging.{frame_cell, target_cell}
-use Rattle.omf_check.specs.Inner.Kept.{no_threads, set_thread, set_threads}
+use Rattle.omf_check.specs.Inner.Kept.{no_threads, set_thread, set_threads, threads_after}
 use Rattle.omf_check.specs.declared.threads.Threads.{Threads}
 use Rattle.omf_reloc.specs.Plain.{Piece, Kept, Fixed, End, pieces}
-use Rattle.omf_reloc.specs.Inner.Walking.{plain_by, plain_fixup_by, threads_after}
+use Rattle.omf_reloc.specs.Inner.Walking.{plain_by, plain_fixup_by}
 
 -- The pieces of a module, each fixup a piece of its own.
 abbrev pub one_by_one : Piece → List Piece
@@ -61,13 +61,13 @@ abbrev pub open_steps : Threads → Option OpenFixups → List (Option (Place ×
 open_steps threads None = []
 open_steps threads (Some o) = subrecord_steps threads o.place o.kind o.left
 
-abbrev pub threads_behind : Threads → Option OpenFixups → Threads
-threads_behind threads None = threads
-threads_behind threads (Some o) = set_threads threads o.left
+abbrev pub threads_after_open : Threads → Option OpenFixups → Threads
+threads_after_open threads None = threads
+threads_after_open threads (Some o) = set_threads threads o.left
 
 -- The steps left: those of the FIXUPP being read, then those of the records after it. And the pieces among the steps.
 abbrev pub steps_left : Threads → Option OpenFixups → List (Place × Rec) → List (Option (Place × Piece))
-steps_left threads o xs = open_steps threads o ++ steps_from (threads_behind threads o) xs
+steps_left threads o xs = open_steps threads o ++ steps_from (threads_after_open threads o) xs
 
 abbrev pub given : List (Option (Place × Piece)) → List (Place × Piece)
 given steps = filter_map (λ s. s) steps
@@ -103,4 +103,4 @@ OpenIsSet threads (Some o) = SubrecordsAreSet threads o.left
 
 pub record AreSet (threads : Threads) (o : Option OpenFixups) (xs : List (Place × Rec)) : Type 0 where
   pub open_fixups : OpenIsSet threads o
-  pub records : RecordsAreSet (threads_behind threads o) xs
+  pub records : RecordsAreSet (threads_after_open threads o) xs

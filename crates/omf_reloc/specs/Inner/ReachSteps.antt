@@ -30,10 +30,10 @@ data_place (Plain d) old = Some (d.segment.item, d.offset.item)
 data_place (Iterated d) old = Some (d.segment.item, d.offset.item)
 data_place _ old = old
 
-abbrev pub place_behind : Piece → Option (ℕ × ℕ) → Option (ℕ × ℕ)
-place_behind (Kept r) old = data_place r.contents old
-place_behind (Fixed kind fixups) old = old
-place_behind (End kind byte start) old = old
+abbrev pub place_after : Piece → Option (ℕ × ℕ) → Option (ℕ × ℕ)
+place_after (Kept r) old = data_place r.contents old
+place_after (Fixed kind fixups) old = old
+place_after (End kind byte start) old = old
 
 -- Why a piece with at most one fixup does not reach, if it does not. The last data record before it is at this offset of this segment.
 abbrev pub piece_cause : Places → Option (ℕ × ℕ) → Piece → Option Cause
@@ -51,7 +51,7 @@ far_at number within c = option_to_list (option_map (λ x. fault.TooFar number w
 
 abbrev pub pieces_far : Places → Option (ℕ × ℕ) → List (Place × Piece) → List ReachFault
 pieces_far pl place [] = []
-pieces_far pl place (x ∷ xs) = far_at x.0.number x.0.within (piece_cause pl place x.1) ++ pieces_far pl (place_behind x.1 place) xs
+pieces_far pl place (x ∷ xs) = far_at x.0.number x.0.within (piece_cause pl place x.1) ++ pieces_far pl (place_after x.1 place) xs
 
 -- A fault of the walk over the pieces: the first reference that does not reach; or Memory.
 abbrev pub IsFirstFar : Option ReachFault → RelocateFault → Type 0

@@ -2,12 +2,11 @@
 -- Only private functions use these definitions; the contracts of public functions use the definition of the image.
 use Rattle.std.specs.Prelude.{◌≡◌, ◌≤◌, ◌+◌, ◌^◌, ⊤, ℕ, List, [], ◌∷◌, length, Option, Some, option_map, option_to_list, unwrap_or, IfSome, IsOk}
 use Rattle.omf_records.specs.Inner.Names.{location_size}
-use Rattle.omf_records.specs.Values.{Rec, Contents, Plain, Iterated, Fixups, Reference, width, location_type, location_offset, frame_bits, target_bits}
+use Rattle.omf_records.specs.Values.{Contents, Plain, Iterated, Reference, width, location_type, location_offset, frame_bits, target_bits}
 use Rattle.omf_image.specs.Inner.Expanding.{expanded, expanded_length}
 use Rattle.omf_image.specs.Limits.{profile_limits}
 use Rattle.omf_image.specs.Overlay.{Laid, AreLaidOver}
 use Rattle.omf_check.specs.Inner.Judging.{frame_cell, target_cell}
-use Rattle.omf_check.specs.Inner.Kept.{set_threads}
 use Rattle.omf_check.specs.Threads.{PlainReference, frame_by}
 use Rattle.omf_records.specs.declared.direct_fixup.DirectFixup.{DirectFixup}
 use Rattle.omf_records.specs.Methods.{frame_code, kind_of}
@@ -40,16 +39,6 @@ direct_plain d = record {
     displacement = d.displacement;
   };
 }
-
--- The threads in force after one more record.
-abbrev pub threads_after : Threads → Contents → Threads
-threads_after threads (Fixups subs) = set_threads threads subs
-threads_after threads _ = threads
-
--- The threads in force after all of these records.
-abbrev pub threads_through : Threads → List Rec → Threads
-threads_through threads [] = threads
-threads_through threads (r ∷ rs) = threads_through (threads_after threads r.contents) rs
 
 -- The last data record after a fixup, in a FIXUPP of this type, is applied to it.
 abbrev pub with_fixup : Places → ℕ → PlainFixup → Laid → Laid

@@ -5,7 +5,7 @@ use Rattle.omf_check.specs.Module.{records_in}
 use Rattle.omf_check.specs.WellFormed.{recs}
 use Rattle.omf_records.specs.Inner.Seen.{rec_seen}
 use Rattle.omf_reloc.proofs.MeasureLaws.{all-measure}
-use Rattle.omf_reloc.proofs.WalkedLaws.{records-listed}
+use Rattle.omf_check.proofs.ListedLaws.{records_listed}
 use Rattle.omf_reloc.specs.Inner.Measuring.{CanMeasure, measured}
 use Rattle.omf_linking.proofs.TurnLaws.{without_places}
 use Rattle.omf_linking.proofs.SegmentsLaws.{more_given, all_given}
@@ -15,7 +15,7 @@ pub loop-place-init : goal.loop-place-init
 loop-place-init c =
     let m = recs (records_in c.args.«module».now.bytes) in
     let r = c.records-place-items in
-    let e = ap without_places (c.into_iter-place-iterator.ensures.into_iter_gives ∙ r.ensures.listed) ∙ records-listed 0 0 (records_in c.args.«module».now.bytes) in
+    let e = ap without_places (c.into_iter-place-iterator.ensures.into_iter_gives ∙ r.ensures.listed) ∙ records_listed 0 0 (records_in c.args.«module».now.bytes) in
     record {
       can = subst (All CanMeasure) (sym e) (all-measure m r.ensures.holds);
       same = ap (λ xs. xs ++ flat_map measured (without_places c.into_iter-place-iterator.result)) c.new-extents.ensures.items ∙ ap (flat_map measured) e;

@@ -5,7 +5,7 @@ use Rattle.omf_records.specs.Values.{Rec}
 use Rattle.omf_check.specs.Module.{records_in}
 use Rattle.omf_check.specs.WellFormed.{recs}
 use Rattle.omf_reloc.proofs.MeasureLaws.{measure-first, measure-last, measure-can, measure-next}
-use Rattle.omf_reloc.proofs.WalkedLaws.{records-listed}
+use Rattle.omf_check.proofs.ListedLaws.{records_listed}
 use Rattle.omf_reloc.proofs.measuring.extents.Goals as goal
 
 abbrev without_places : List (Place × Rec) → List Rec
@@ -16,7 +16,7 @@ loop-record-init c =
     let raws = records_in c.args.module.now.bytes in
     let u = c.undecoded-record-items.ensures in
     measure-first (recs raws) (without_places c.into_iter-record-iterator.result) c.new-extents.result.items u.holds
-    (ap without_places (c.into_iter-record-iterator.ensures.into_iter_gives ∙ u.listed) ∙ records-listed 0 0 raws) c.new-extents.ensures.items
+    (ap without_places (c.into_iter-record-iterator.ensures.into_iter_gives ∙ u.listed) ∙ records_listed 0 0 raws) c.new-extents.ensures.items
 
 pub push_extent-requires : goal.push_extent-requires
 push_extent-requires c =

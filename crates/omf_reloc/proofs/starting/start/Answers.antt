@@ -16,7 +16,7 @@ plain_reference-plain-requires-clause-frame c =
     let e = c.in-ModEnd in
     frame-set c.args.placement.now m c.end-end.ensures.holds (modend_type e.width) e.type_byte c.in-Some.reference
     (seen-end m c.end-end.result e.width e.type_byte e.start (Some c.in-Some.reference) e.is c.in-Some.is c.end-end.ensures.last)
-    c.threads_of-threads.result c.threads_of-threads.ensures.frame c.threads_of-threads.ensures.target
+    c.threads_of_end-threads.result c.threads_of_end-threads.ensures.frame c.threads_of_end-threads.ensures.target
 
 pub plain_reference-plain-requires-clause-target : goal.plain_reference-plain-requires-clause-target
 plain_reference-plain-requires-clause-target c =
@@ -24,7 +24,7 @@ plain_reference-plain-requires-clause-target c =
     let e = c.in-ModEnd in
     target-set c.args.placement.now m c.end-end.ensures.holds (modend_type e.width) e.type_byte c.in-Some.reference
     (seen-end m c.end-end.result e.width e.type_byte e.start (Some c.in-Some.reference) e.is c.in-Some.is c.end-end.ensures.last)
-    c.threads_of-threads.result c.threads_of-threads.ensures.frame c.threads_of-threads.ensures.target
+    c.threads_of_end-threads.result c.threads_of_end-threads.ensures.frame c.threads_of_end-threads.ensures.target
 
 pub returns : goal.returns
 returns c =
@@ -44,7 +44,7 @@ returns-in_err-start-in-Some c =
     ∙ ap result_ok (c.start_outcome.ensures ∙ ap (start_outcome pl kind) c.plain_reference-plain.ensures)
     ∙ start-found pl m c.end-end.ensures.holds kind e.type_byte c.in-Some.reference
     (seen-end m c.end-end.result e.width e.type_byte e.start (Some c.in-Some.reference) e.is c.in-Some.is c.end-end.ensures.last)
-    c.threads_of-threads.result c.threads_of-threads.ensures.frame c.threads_of-threads.ensures.target
+    c.threads_of_end-threads.result c.threads_of_end-threads.ensures.frame c.threads_of_end-threads.ensures.target
 
 pub returns-in-Some : goal.returns-in-Some
 returns-in-Some c =
@@ -56,4 +56,4 @@ returns-in-Some c =
     ∙ ap result_ok (c.start_outcome.ensures ∙ ap (start_outcome pl kind) c.plain_reference-plain.ensures)
     ∙ start-found pl m c.end-end.ensures.holds kind e.type_byte c.in-Some.reference
     (seen-end m c.end-end.result e.width e.type_byte e.start (Some c.in-Some.reference) e.is c.in-Some.is c.end-end.ensures.last)
-    c.threads_of-threads.result c.threads_of-threads.ensures.frame c.threads_of-threads.ensures.target
+    c.threads_of_end-threads.result c.threads_of_end-threads.ensures.frame c.threads_of_end-threads.ensures.target

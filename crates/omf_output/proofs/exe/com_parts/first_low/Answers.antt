@@ -4,7 +4,7 @@ use Rattle.std.proofs.lemmas.List.Elements.{All-head, All-tail}
 use Rattle.omf_check.specs.Module.{records_in}
 use Rattle.omf_check.specs.WellFormed.{recs}
 use Rattle.omf_reloc.proofs.MeasureLaws.{all-fit, all-measure}
-use Rattle.omf_reloc.proofs.WalkedLaws.{records-listed}
+use Rattle.omf_check.proofs.ListedLaws.{records_listed}
 use Rattle.omf_output.specs.Inner.Laying.{CanEnd}
 use Rattle.omf_output.specs.Exe.Com.{first_low}
 use Rattle.omf_output.proofs.ComLaws.{low-found, not-low}
@@ -17,7 +17,7 @@ loop-place-init c =
     let pl = c.args.placement.now in
     let r = c.undecoded-place-items in
     let given = c.into_iter-place-iterator.ensures.into_iter_gives ∙ r.ensures.listed in
-    let e = ap without_places_of given ∙ records-listed 0 0 (records_in c.args.module.now.bytes) in
+    let e = ap without_places_of given ∙ records_listed 0 0 (records_in c.args.module.now.bytes) in
     record {
       can = subst (All CanEnd) (sym e) (all-can-end m (all-measure m r.ensures.holds) (all-fit pl m r.ensures.holds));
       same = ap (first_low pl) given;

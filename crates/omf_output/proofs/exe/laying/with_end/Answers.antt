@@ -4,7 +4,7 @@ use Rattle.std.proofs.lemmas.List.Elements.{All-head, All-tail}
 use Rattle.omf_check.specs.Module.{records_in}
 use Rattle.omf_check.specs.WellFormed.{recs}
 use Rattle.omf_reloc.proofs.MeasureLaws.{all-fit, all-measure}
-use Rattle.omf_reloc.proofs.WalkedLaws.{records-listed}
+use Rattle.omf_check.proofs.ListedLaws.{records_listed}
 use Rattle.omf_output.specs.Inner.Laying.{CanEnd, record_ends}
 use Rattle.omf_output.proofs.FitLaws.{all-can-end, max-record, without_places_of}
 use Rattle.omf_output.proofs.exe.laying.with_end.Goals as goal
@@ -14,7 +14,7 @@ loop-place-init c =
     let m = recs (records_in c.args.module.now.bytes) in
     let pl = c.args.placement.now in
     let r = c.undecoded-place-items in
-    let e = ap without_places_of (c.into_iter-place-iterator.ensures.into_iter_gives ∙ r.ensures.listed) ∙ records-listed 0 0 (records_in c.args.module.now.bytes) in
+    let e = ap without_places_of (c.into_iter-place-iterator.ensures.into_iter_gives ∙ r.ensures.listed) ∙ records_listed 0 0 (records_in c.args.module.now.bytes) in
     record {
       can = subst (All CanEnd) (sym e) (all-can-end m (all-measure m r.ensures.holds) (all-fit pl m r.ensures.holds));
       same = ap (λ l. fold max c.args.before (flat_map (record_ends pl) l)) e;

@@ -1,7 +1,7 @@
 use Rattle.std.proofs.Common.{◌∙◌, ap, sym}
 use Rattle.std.specs.Prelude.{filter_map, fold, zip}
 use Rattle.omf_check.specs.Module.{records_in}
-use Rattle.omf_reloc.proofs.WalkedLaws.{records-listed}
+use Rattle.omf_check.proofs.ListedLaws.{records_listed}
 use Rattle.omf_output.specs.Inner.Rooms.{with_portion}
 use Rattle.omf_output.specs.Exe.Members.{portion, segdefs}
 use Rattle.omf_output.proofs.FitLaws.{without_places_of}
@@ -11,7 +11,7 @@ use Rattle.omf_output.proofs.exe.room.with_module.Goals as goal
 pub loop-place-init : goal.loop-place-init
 loop-place-init c =
     let r = c.undecoded-place-items in
-    let e = ap without_places_of (c.into_iter-place-iterator.ensures.into_iter_gives ∙ r.ensures.listed) ∙ records-listed 0 0 (records_in c.args.module.now.bytes) in
+    let e = ap without_places_of (c.into_iter-place-iterator.ensures.into_iter_gives ∙ r.ensures.listed) ∙ records_listed 0 0 (records_in c.args.module.now.bytes) in
     ap (λ l. fold with_portion c.args.before (filter_map portion (zip c.args.places.now (segdefs l)))) e
 
 pub loop-place-preserved : goal.loop-place-preserved

@@ -1,10 +1,9 @@
 use Rattle.std.proofs.Common.{◌≡◌}
 use Rattle.std.specs.Prelude.{map}
-use Rattle.omf_check.specs.Inner.Kept.{no_threads}
+use Rattle.omf_check.specs.Inner.Kept.{no_threads, threads_through}
 use Rattle.omf_check.specs.Module.{records_in}
 use Rattle.omf_check.specs.WellFormed.{recs}
-use Rattle.omf_reloc.specs.Inner.Walking.{threads_through}
-use Rattle.omf_reloc.proofs.starting.threads_at_end.Given as goal
+use Rattle.omf_check.proofs.ending.threads_at_end.Given as goal
 
 -- the threads so far, and then those of the records to come
 abbrev pub invariant-loop-place : goal.invariant-loop-place
