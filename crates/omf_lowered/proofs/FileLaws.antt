@@ -2,7 +2,7 @@
 use Rattle.std.proofs.Common.{◌≡◌, ◌⊎◌, inl, inr, ℕ, ◌+◌, ◌<◌, List, [], ◌∷◌, ◌++◌, length, length-append, append-nil, refl, sym, ap, subst, ◌∙◌, arith, true, false}
 use Rattle.std.specs.Prelude.{flat_map, ◌==◌}
 use Rattle.std.proofs.lemmas.Grind.{flat_map-append}
-use Rattle.omf_lowered.specs.Files.{HasMore, IsBehind, IsFileFault, IsFront, IsLoweredFile, begins_module, unpadded}
+use Rattle.omf_lowered.specs.Files.{HasMore, IsRestAfter, IsFileFault, IsFront, IsLoweredFile, begins_module, unpadded}
 use Rattle.omf_lowered.specs.Inner.FileState.{IsAppended, IsOpenFile, IsPart, in_module}
 use Rattle.omf_lowered.specs.Modules.{IsLoweredModule, IsModuleFault}
 use Rattle.omf_lowering.specs.declared.fault.LoweringFault.{LoweringFault}
@@ -54,8 +54,8 @@ refused_after input left out count (lowering.Refused why at) o h = record {
 }
 
 -- the modules before a place
-pub behind_none : (input : List ℕ) → IsBehind input 0 input
-behind_none input = record { outs = []; front = refl; counted = refl }
+pub rest_after_none : (input : List ℕ) → IsRestAfter input 0 input
+rest_after_none input = record { outs = []; front = refl; counted = refl }
 
-pub behind_more : (input left own after : List ℕ) (count : ℕ) → IsBehind input count left → IsLoweredModule left own after → IsBehind input (count + 1) (unpadded after)
-behind_more input left own after count b l = record { outs = b.outs ++ own ∷ []; front = front_more b.outs input left own after b.front l; counted = omega (arith, b.counted, length-append b.outs (own ∷ [])) }
+pub rest_after_more : (input left own after : List ℕ) (count : ℕ) → IsRestAfter input count left → IsLoweredModule left own after → IsRestAfter input (count + 1) (unpadded after)
+rest_after_more input left own after count b l = record { outs = b.outs ++ own ∷ []; front = front_more b.outs input left own after b.front l; counted = omega (arith, b.counted, length-append b.outs (own ∷ [])) }

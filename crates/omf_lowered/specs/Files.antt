@@ -60,7 +60,7 @@ IsFileFault input (fault.Refused count why at) = IsRefusedAfter input count why 
 IsFileFault input (fault.NoModule at) = HasMore input at
 
 -- A file has this many modules that have lowerings, and then the rest.
-pub record IsBehind (input : List ℕ) (count : ℕ) (rest : List ℕ) : Type 0 where
+pub record IsRestAfter (input : List ℕ) (count : ℕ) (rest : List ℕ) : Type 0 where
   pub outs : List (List ℕ)
   pub front : IsFront input outs rest
   pub counted : length outs ≡ count
@@ -70,6 +70,6 @@ pub record IsPlaceInFile (input : List ℕ) (number : ℕ) (there : Place) (foun
   pub begun : List ℕ
   pub own : List ℕ
   pub rest : List ℕ
-  pub behind : IsBehind input number begun
+  pub begins : IsRestAfter input number begun
   pub lowered : IsLoweredModule begun own rest
   pub place : IsPlaceIn begun own there found

@@ -1,7 +1,7 @@
 //! The modules of a file, lowered.
 
 ghost use Rattle.std.specs.Prelude.{◌≡◌, ◌≤◌, length, IfErr, IfOk};
-ghost use Rattle.omf_lowered.specs.Files.{IsBehind, IsFileFault, IsLoweredFile, IsPlaceInFile, begins_module, unpadded, without};
+ghost use Rattle.omf_lowered.specs.Files.{IsRestAfter, IsFileFault, IsLoweredFile, IsPlaceInFile, begins_module, unpadded, without};
 ghost use Rattle.omf_lowered.specs.Inner.FileState.{IsAppended, in_module};
 ghost use Rattle.omf_lowered.specs.Modules.{IsModuleFault};
 
@@ -112,9 +112,9 @@ pub fn lowered_file(alloc: Global, bytes: &[u8]) -> Result<Vec<u8>, FileFault>
 }
 
 /// What is left of a file after this many modules and their padding.
-#[tactic(auto, using(crate::proofs::FileLaws::behind_none))]
-fn behind(alloc: Global, bytes: &[u8], count: u32) -> Result<&[u8], AllocError>
-    ensures { IfOk result (λ rest. IsBehind bytes.entry.now count rest.now) }
+#[tactic(auto, using(crate::proofs::FileLaws::rest_after_none))]
+fn rest_after(alloc: Global, bytes: &[u8], count: u32) -> Result<&[u8], AllocError>
+    ensures { IfOk result (λ rest. IsRestAfter bytes.entry.now count rest.now) }
 {
     let mut left = bytes;
     for _number in 0..count {
@@ -139,7 +139,7 @@ pub fn place_in_file(
 ) -> Result<Option<Place>, AllocError>
     ensures { IfOk result (IsPlaceInFile bytes.now number there) }
 {
-    let begun = behind(alloc, bytes, number)?;
+    let begun = rest_after(alloc, bytes, number)?;
     match lowered_module(alloc, begun) {
         Ok(module) => place_in(alloc, begun, &module.bytes, there),
         Err(_) => Err(AllocError),

@@ -1,10 +1,10 @@
 //! The lowering of a module.
 
-ghost use Rattle.std.specs.Prelude.{◌≡◌, ◌++◌, ◌||◌, nat_lt, IfErr, IfOk, None, OnOk};
+ghost use Rattle.std.specs.Prelude.{◌≡◌, ◌++◌, ◌||◌, [], nat_lt, IfErr, IfOk, None, OnOk};
 ghost use Rattle.omf_frame.specs.Framing.{front_record, is_end, raw_bytes};
 ghost use Rattle.std.specs.Option.{option_or};
 ghost use Rattle.omf_lowering.specs.Inner.Rolling.{IsFaultOf, IsHaltOf};
-ghost use Rattle.omf_lowering.specs.Inner.State.{IsRead, IsStop, added, excess, refusal};
+ghost use Rattle.omf_lowering.specs.Inner.State.{IsRead, IsStop, added, excess, refusal, state_of};
 ghost use Rattle.omf_lowering.specs.Lowering.{IsLowered, IsLoweringFault, IsOrigin, IsWideRecord, fault_by};
 ghost use Rattle.omf_lowering.specs.Wide.{framing_fault};
 
@@ -80,21 +80,37 @@ fn too_many(start: usize) -> LoweringFault
     }
 }
 
+/// Takes the records of a module, up to its MODEND. Returns the bytes after it.
+fn read_into<'a>(
+    alloc: Global,
+    work: &mut Work<'a>,
+    bytes: &'a [u8],
+) -> Result<&'a [u8], LoweringFault>
+    requires { work.old ≡ state_of [] }
+    ensures ok { IfOk result (λ rest. IsRead bytes.entry.now rest.now work.new) }
+    ensures err { IfErr result (IsLoweringFault bytes.entry.now) }
+{
+    let mut rest = bytes;
+    for number in 0..RECORD_LIMIT {
+        match take_front(alloc, work, rest) {
+            Ok((true, after)) => return Ok(after),
+            Ok((false, after)) => rest = after,
+            Err(stop) => return Err(refused(stop, number, bytes.len().saturating_sub(rest.len()))),
+        }
+    }
+    Err(too_many(bytes.len().saturating_sub(rest.len())))
+}
+
 /// The records of a module, up to its MODEND, and the bytes after it.
 fn read_all<'a>(alloc: Global, bytes: &'a [u8]) -> Result<(Work<'a>, &'a [u8]), LoweringFault>
     ensures ok { IfOk result (λ r. IsRead bytes.entry.now r.1.now r.0) }
     ensures err { IfErr result (IsLoweringFault bytes.entry.now) }
 {
     let mut work = Work::new(alloc);
-    let mut rest = bytes;
-    for number in 0..RECORD_LIMIT {
-        match take_front(alloc, &mut work, rest) {
-            Ok((true, after)) => return Ok((work, after)),
-            Ok((false, after)) => rest = after,
-            Err(stop) => return Err(refused(stop, number, bytes.len().saturating_sub(rest.len()))),
-        }
+    match read_into(alloc, &mut work, bytes) {
+        Ok(rest) => Ok((work, rest)),
+        Err(fault) => Err(fault),
     }
-    Err(too_many(bytes.len().saturating_sub(rest.len())))
 }
 
 /// The place of a record.
@@ -116,15 +132,20 @@ fn is_reached(ends: bool, wanted: usize, count: usize) -> bool
 }
 
 /// The place of the record that gives the lowered record with this number, from 0; of the MODEND, if no record before it does.
-fn origin(alloc: Global, bytes: &[u8], wanted: usize) -> Result<Place, LoweringFault>
-    ensures ok { IfOk result (IsOrigin bytes.now wanted) }
-    ensures err { IfErr result (IsLoweringFault bytes.now) }
+fn origin_in<'a>(
+    alloc: Global,
+    work: &mut Work<'a>,
+    bytes: &'a [u8],
+    wanted: usize,
+) -> Result<Place, LoweringFault>
+    requires { work.old ≡ state_of [] }
+    ensures ok { IfOk result (IsOrigin bytes.entry.now wanted) }
+    ensures err { IfErr result (IsLoweringFault bytes.entry.now) }
 {
-    let mut work = Work::new(alloc);
     let mut rest = bytes;
     for number in 0..RECORD_LIMIT {
         let start = bytes.len().saturating_sub(rest.len());
-        match take_front(alloc, &mut work, rest) {
+        match take_front(alloc, work, rest) {
             Ok((ends, after)) => {
                 if is_reached(ends, wanted, work.count()) {
                     return Ok(place(number, start));
@@ -135,6 +156,15 @@ fn origin(alloc: Global, bytes: &[u8], wanted: usize) -> Result<Place, LoweringF
         }
     }
     Err(too_many(bytes.len().saturating_sub(rest.len())))
+}
+
+/// The same of a module of which nothing is taken yet.
+fn origin(alloc: Global, bytes: &[u8], wanted: usize) -> Result<Place, LoweringFault>
+    ensures ok { IfOk result (IsOrigin bytes.now wanted) }
+    ensures err { IfErr result (IsLoweringFault bytes.now) }
+{
+    let mut work = Work::new(alloc);
+    origin_in(alloc, &mut work, bytes, wanted)
 }
 
 /// The fault of a record of the lowered module with this number: at the record of the input that gives it.

@@ -1,9 +1,10 @@
 use Rattle.std.proofs.Common.{◌≡◌, ◌<◌, ◌≤◌, ◌-◌, arith, true, false, length, sym, subst, rules}
 use Rattle.omf_check.specs.Rules.{item_limit}
 use Rattle.omf_frame.specs.Framing.{front_record, is_end}
+use Rattle.omf_lowering.specs.Inner.State.{IsOpen}
 use Rattle.omf_lowering.specs.Lowering.{IsLoweringFault}
-use Rattle.omf_lowering.proofs.FrontLaws.{open_more, read_end, stopped_at, too_many}
-use Rattle.omf_lowering.proofs.lowering.read_all.Goals as goal
+use Rattle.omf_lowering.proofs.FrontLaws.{open_more, open_start, read_end, stopped_at, too_many}
+use Rattle.omf_lowering.proofs.lowering.read_into.Goals as goal
 
 pub returns-in-Ok-true-default-clause-ok : goal.returns-in-Ok-true-default-clause-ok
 returns-in-Ok-true-default-clause-ok c =
@@ -20,6 +21,9 @@ returns-in-Err-clause-err c =
     let start : c.saturating_sub.result ≡ length c.args.bytes.now - length rest = search rules in
     subst (IsLoweringFault c.args.bytes.now) (sym c.refused.ensures)
     (stopped_at c.args.bytes.now rest c.loop-number.number c.saturating_sub.result c.loop-number.work c.in-Err.stop c.loop-number.invariant few start c.in-Err.ensures.err)
+
+pub loop-number-init : goal.loop-number-init
+loop-number-init c = subst (IsOpen c.args.bytes.now c.args.bytes.now 0) (sym c.requires) (open_start c.args.bytes.now)
 
 pub loop-number-preserved : goal.loop-number-preserved
 loop-number-preserved c =

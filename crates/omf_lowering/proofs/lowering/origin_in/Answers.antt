@@ -1,9 +1,10 @@
 use Rattle.std.proofs.Common.{◌≡◌, ◌<◌, ◌≤◌, ◌-◌, ◌∙◌, ◌⊎◌, arith, true, false, ap, length, sym, subst, rules}
 use Rattle.std.specs.Prelude.{nat_lt, ◌||◌}
 use Rattle.omf_check.specs.Rules.{item_limit}
+use Rattle.omf_lowering.specs.Inner.State.{IsOpen, State}
 use Rattle.omf_lowering.specs.Lowering.{IsLoweringFault, IsOrigin}
-use Rattle.omf_lowering.proofs.FrontLaws.{not_reached, open_more, origin_found, reached_cases, stopped_at, too_many}
-use Rattle.omf_lowering.proofs.lowering.origin.Goals as goal
+use Rattle.omf_lowering.proofs.FrontLaws.{not_reached, open_more, open_start, origin_found, reached_cases, stopped_at, too_many}
+use Rattle.omf_lowering.proofs.lowering.origin_in.Goals as goal
 
 pub returns-then-is_reached-clause-ok : goal.returns-then-is_reached-clause-ok
 returns-then-is_reached-clause-ok c =
@@ -26,6 +27,12 @@ returns-in-Err-clause-err c =
     let start : c.saturating_sub-start.result ≡ length input - length rest = search rules in
     subst (IsLoweringFault input) (sym c.refused.ensures)
     (stopped_at input rest c.loop-number.number c.saturating_sub-start.result c.loop-number.work c.in-Err.stop c.loop-number.invariant.open_still few start c.in-Err.ensures.err)
+
+pub loop-number-init : goal.loop-number-init
+loop-number-init c = record {
+  open_still = subst (IsOpen c.args.bytes.now c.args.bytes.now 0) (sym c.requires) (open_start c.args.bytes.now);
+  few = subst (λ (w : State). length w.before.records ≤ c.args.wanted) (sym c.requires) (omega arith);
+}
 
 pub loop-number-preserved : goal.loop-number-preserved
 loop-number-preserved c =
