@@ -10,8 +10,8 @@ use crate::streams::Streams;
 use crate::text::put_quoted;
 use crate::tool::TOOLS;
 use crate::usage::{
-    Shown, bare, form_named, form_with, has_word, is_allowed, is_one_of, is_option, is_placeholder,
-    next_argument, parts_of, shown_of, tasks_of, what_is_allowed,
+    Shown, are_together, bare, form_named, form_with, has_word, is_allowed, is_one_of, is_option,
+    is_placeholder, next_argument, parts_of, shown_of, tasks_of, what_is_allowed,
 };
 use crate::words::{SpelledArguments, spelled_arguments};
 use omf_frame::Sink;
@@ -250,6 +250,32 @@ fn wrong_task<'a>(usage: &'a str, arguments: &'a [String]) -> Misuse<'a> {
     Misuse::UnknownTask(task.as_str())
 }
 
+/// Two options among the arguments that no form has together: the first, and an option after it.
+fn first_apart<'a>(usage: &str, first: &'a str, others: &'a [String]) -> Option<Misuse<'a>> {
+    for other in others {
+        let other = other.as_str();
+        if is_option(other) && !are_together(usage, first, other) {
+            return Some(Misuse::Both(first, other));
+        }
+    }
+    None
+}
+
+/// The same, of all arguments.
+fn pair_apart<'a>(usage: &str, arguments: &'a [String]) -> Option<Misuse<'a>> {
+    let mut rest = arguments;
+    while let [first, others @ ..] = rest {
+        let first = first.as_str();
+        if is_option(first)
+            && let Some(misuse) = first_apart(usage, first, others)
+        {
+            return Some(misuse);
+        }
+        rest = others;
+    }
+    None
+}
+
 /// What is wrong with arguments that a program does not understand.
 fn wrong<'a>(usage: &'a str, arguments: &'a [String]) -> Misuse<'a> {
     if tasks_of(usage).is_some() {
@@ -259,7 +285,9 @@ fn wrong<'a>(usage: &'a str, arguments: &'a [String]) -> Misuse<'a> {
         Some(form) => wrong_in(form, arguments),
         None => {
             let (_program, all) = parts_of(usage);
-            wrong_option(all, arguments).unwrap_or(Misuse::Other)
+            wrong_option(all, arguments)
+                .or(pair_apart(usage, arguments))
+                .unwrap_or(Misuse::Other)
         }
     }
 }

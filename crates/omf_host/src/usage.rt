@@ -83,6 +83,12 @@ pub(crate) fn form_with<'a>(usage: &'a str, arguments: &[String]) -> Option<&'a 
     None
 }
 
+/// Whether a form has both options.
+pub(crate) fn are_together(usage: &str, first: &str, second: &str) -> bool {
+    usage.split("\n       omf-").any(|form| shown_of(form, first).is_some()
+        && shown_of(form, second).is_some())
+}
+
 /// Whether a form has all options among the arguments.
 fn has_options(form: &str, arguments: &[String]) -> bool {
     let mut is_value = false;
