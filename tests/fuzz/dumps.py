@@ -1,6 +1,7 @@
 """omf-dump on changed modules and libraries: its JSON, its text, and the answers of `omf`."""
 import json
 import re
+import struct
 
 import libraries
 from changes import changed_module
@@ -50,8 +51,10 @@ def modules_shown(bytes_, lines, text):
     fault = [it for it in rows if it.startswith(b'{"fault":')]
     promised(fault == (rows[-1:] if fault else []) and bool(fault) != read[1], f"fault {fault}, of a library whose end is there: {read[1]}")
     texts = re.split(rb"^member .*\n", text, flags=re.M)
-    promised(texts[0] == b"" or len(texts) == 1, "a text before the first member")
     texts[-1] = re.sub(rb"^fault .*\n\Z", b"", texts[-1], flags=re.M)
+    page, dictionary, blocks, flags = struct.unpack_from("<HIHB", bytes_, 1)
+    promised(texts[0] == b"library  page %d  dictionary %08X  blocks %d  flags %02X\n" % (page + 3, dictionary, blocks, flags), f"the header {texts[0]}")
+    promised(rows[0] == b'{"library":"header","page":%d,"dictionary":%d,"blocks":%d,"flags":%d}' % (page + 3, dictionary, blocks, flags), f"the header {rows[0]}")
     starts = [number for number, it in enumerate(rows) if it.startswith(b'{"member":')]
     places = [json.loads(rows[it], object_pairs_hook=no_doubles) for it in starts]
     promised([it["member"] for it in places] == list(range(len(places))) and len(texts) == len(places) + 1, "the numbers of members")

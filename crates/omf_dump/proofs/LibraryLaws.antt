@@ -6,11 +6,12 @@ use Rattle.std.specs.List.{list_any}
 use Rattle.std.proofs.KnownBytes.{Appends-nil, Appends-trans}
 use Rattle.std.proofs.lemmas.List.{append-nil}
 use Rattle.omf_frame.specs.Framing.{is_header}
-use Rattle.omf_library.specs.Library.{HasHeader, IsHeaderRead, next_page, page_size}
+use Rattle.omf_library.specs.Library.{HasHeader, IsHeaderRead, header_of, next_page, page_size}
+use Rattle.omf_library.specs.declared.header.Header.{Header}
 use Rattle.omf_library.specs.declared.fault.LibraryFault.{LibraryFault}
 use Rattle.omf_library.specs.declared.fault.LibraryFault.TheVariants as fault
 use Rattle.omf_dump.specs.Later.{front_kind}
-use Rattle.omf_dump.specs.Library.{AreMembers, IsEndShown, IsFileText, IsLibraryText, IsMemberShown, IsModuleText, IsShown, Member, Shows, after_member, end_text, title_text}
+use Rattle.omf_dump.specs.Library.{AreMembers, ArePagesText, IsEndShown, IsFileText, IsLibraryText, IsMemberShown, IsModuleText, IsShown, Member, Shows, after_member, end_text, header_text, title_text}
 use Rattle.omf_dump.specs.declared.format.Mode.{Mode}
 use Rattle.omf_dump.specs.declared.spot.Spot.{Spot}
 
@@ -78,7 +79,7 @@ one_more_shown mode bytes number at is_refused is_faulty old mid new w e s =
 -- all are shown, and what is there after the last of them
 pub all_shown : (mode : Mode) (bytes : List ℕ) (number at : ℕ) (is_refused is_faulty : Bool) (old mid new : Option (List ℕ)) → AreShown mode bytes number at is_refused old mid
     → is_header (front_kind (drop at bytes)) ≡ false → Shows mid new (IsEndShown mode (spot bytes number at) (drop at bytes) is_faulty)
-    → Shows old new (IsLibraryText mode bytes (is_refused || is_faulty))
+    → Shows old new (ArePagesText mode bytes (is_refused || is_faulty))
 all_shown mode bytes number at is_refused is_faulty old mid new w e s =
     let front : List ℕ = flat_map (λ m. m.text) w.members in (
       front ++ s.0,
@@ -112,7 +113,7 @@ member_turn mode bytes rest page number at next s is_refused is_faulty either ol
 
 pub end_turn : (mode : Mode) (bytes rest : List ℕ) (page number at : ℕ) (s : Spot) (is_refused is_faulty either : Bool) (old mid new : Option (List ℕ)) → AreShown mode bytes number at is_refused old mid
     → page ≡ page_size bytes → rest ≡ drop at bytes → is_header (front_kind rest) ≡ false → s ≡ record { number = number; page = at / page; offset = at }
-    → Shows mid new (IsEndShown mode s rest is_faulty) → either ≡ (is_refused || is_faulty) → Shows old new (IsLibraryText mode bytes either)
+    → Shows mid new (IsEndShown mode s rest is_faulty) → either ≡ (is_refused || is_faulty) → Shows old new (ArePagesText mode bytes either)
 end_turn mode bytes rest page number at s is_refused is_faulty either old mid new w p r h e m b =
     let shown = subst (λ (x : List ℕ). Shows mid new (IsEndShown mode (spot bytes number at) x is_faulty)) r (subst (λ (x : Spot). Shows mid new (IsEndShown mode x rest is_faulty)) (called_spot bytes page number at s p e) m) in
     rw b (all_shown mode bytes number at is_refused is_faulty old mid new w (subst (λ (x : List ℕ). is_header (front_kind x) ≡ false) r h) shown)
@@ -129,6 +130,12 @@ header_inside at bytes e = by (drop at bytes) e
 pub titled : (mode : Mode) (s : Spot) (bytes : List ℕ) (is_refused : Bool) (old mid new : Option (List ℕ)) (title : List ℕ) → title ≡ title_text mode.style.format s bytes → Appends old mid title
     → Shows mid new (IsModuleText mode bytes is_refused) → Shows old new (IsMemberShown mode s bytes is_refused)
 titled mode s bytes is_refused old mid new title e w m = (title ++ m.0, (m.0, m.1, ap (λ (t : List ℕ). t ++ m.0) e), Appends-trans old mid new title m.0 w m.2)
+
+-- the line of the header, and the pages
+pub headed : (mode : Mode) (bytes : List ℕ) (h : Header) (is_refused : Bool) (old mid new : Option (List ℕ)) (line : List ℕ) → h ≡ header_of bytes → line ≡ header_text mode.style.format h → Appends old mid line
+    → Shows mid new (ArePagesText mode bytes is_refused) → Shows old new (IsLibraryText mode bytes is_refused)
+headed mode bytes h is_refused old mid new line k e w m =
+    (line ++ m.0, (m.0, m.1, ap (λ (t : List ℕ). t ++ m.0) (e ∙ ap (header_text mode.style.format) k)), Appends-trans old mid new line m.0 w m.2)
 
 pub header_exclusive : (bytes : List ℕ) (f : LibraryFault) → IsHeaderRead bytes (Err f) → HasHeader bytes → ⊥
 header_exclusive bytes fault.NoHeader r h = r h.begun

@@ -10,7 +10,8 @@ use Rattle.omf_frame.specs.declared.kinds.Width.TheVariants.{Bits32}
 use Rattle.omf_image.specs.Limits.{profile_limits}
 use Rattle.omf_check.specs.Refusal.{IsRefused}
 use Rattle.omf_check.specs.WellFormed.{IsAccepted, recs}
-use Rattle.omf_library.specs.Library.{HasHeader, library_end, next_page, page_size}
+use Rattle.omf_library.specs.Library.{HasHeader, header_of, library_end, next_page, page_size}
+use Rattle.omf_library.specs.declared.header.Header.{Header}
 use Rattle.omf_dump.specs.Comments.{counted, name_before}
 use Rattle.omf_dump.specs.Dump.{dump_text}
 use Rattle.omf_dump.specs.Fields.{Number, Hex, Field, field}
@@ -101,15 +102,31 @@ AreMembers mode bytes number at (m ∷ ms) to = (is_header (front_kind (drop at 
     × IsMemberShown mode (record { number = number; page = at / page_size bytes; offset = at }) (drop at bytes) m.is_refused m.text
     × AreMembers mode bytes (number + 1) (next_page (page_size bytes) (length bytes - length (after_member 0 (drop at bytes)))) ms to
 
--- The text of a library: its members from the second page on, and what is there after the last of them. It is refused if a member is, or if no F1H
--- is there.
-pub record IsLibraryText (mode : Mode) (bytes : List ℕ) (is_refused : Bool) (text : List ℕ) : Type 0 where
+-- The line of the header of a library: its page size, the offset of its dictionary, the number of the dictionary's blocks, and the flags.
+abbrev pub header_head : Format → List ℕ
+header_head format.Text = codes "library"
+header_head format.Json = codes "{\"library\":\"header\""
+
+abbrev pub header_fields : Header → List Field
+header_fields h = field (codes "page") (Number h.page) ∷ field (codes "dictionary") (Hex (digits Bits32) h.dictionary)
+    ∷ field (codes "blocks") (Number h.blocks) ∷ field (codes "flags") (Hex 2 h.flags) ∷ []
+
+abbrev pub header_text : Format → Header → List ℕ
+header_text f h = header_head f ++ (fields_text f (header_fields h) ++ (line_end f ++ record_end f))
+
+-- The text of the pages of a library: its members from the second page on, and what is there after the last of them. It is refused if a member is, or
+-- if no F1H is there.
+pub record ArePagesText (mode : Mode) (bytes : List ℕ) (is_refused : Bool) (text : List ℕ) : Type 0 where
   pub members : List Member
   pub to : ℕ
   pub members_are : AreMembers mode bytes 0 (page_size bytes) members to
   pub ended : is_header (front_kind (drop to bytes)) ≡ false
   pub refused : is_refused ≡ (list_any (λ m. m.is_refused) members || is_fault (drop to bytes))
   pub whole : text ≡ flat_map (λ m. m.text) members ++ end_text mode.style.format (length members) to (drop to bytes)
+
+-- The text of a library: the line of its header, and then its pages.
+abbrev pub IsLibraryText : Mode → List ℕ → Bool → List ℕ → Type 0
+IsLibraryText mode bytes is_refused text = (pages : List ℕ) × ArePagesText mode bytes is_refused pages × (text ≡ header_text mode.style.format (header_of bytes) ++ pages)
 
 -- What follows a module and its padding in its file: other modules, each after a line that names it by its number from 1, its offset and its name; or
 -- a line for the bytes that are left.

@@ -131,7 +131,7 @@ pub fn dump_input<K: Sink>(
 {
     match read_header(input) {
         Ok(header) => {
-            let is_refused = show_library(alloc, writer, mode, header.page as usize, input)?;
+            let is_refused = show_library(alloc, writer, mode, header, input)?;
             Ok(is_refused)
         }
         Err(_) => {

@@ -3,13 +3,13 @@
 ghost use Rattle.std.specs.Prelude.{◌≡◌, ◌+◌, ◌-◌, ◌/◌, ◌<◌, ◌≤◌, ◌^◌, ◌||◌, IfOk, length};
 ghost use Rattle.omf_frame.specs.Bytes.{AddsText};
 ghost use Rattle.omf_frame.specs.Framing.{front_record};
-ghost use Rattle.omf_library.specs.Library.{HasHeader, next_page, page_size};
-ghost use Rattle.omf_dump.specs.Library.{IsEndShown, IsLibraryText, IsMemberShown, Shows, after_member, end_text, fault_head, fault_text, is_fault, title_head, title_text};
+ghost use Rattle.omf_library.specs.Library.{HasHeader, header_of, next_page, page_size};
+ghost use Rattle.omf_dump.specs.Library.{ArePagesText, IsEndShown, IsLibraryText, IsMemberShown, Shows, after_member, end_text, fault_head, fault_text, header_head, header_text, is_fault, title_head, title_text};
 
 use crate::answer::show_module;
 use crate::comment::put_name;
 use crate::fault::DumpFault;
-use crate::field::{hexadecimal, number};
+use crate::field::{hexadecimal, number, small};
 use crate::format::{Format, Mode};
 use crate::item::{close_record, end_fields};
 use crate::later::{after_member, front_kind};
@@ -18,6 +18,7 @@ use crate::part::{after, first};
 use crate::spot::Spot;
 use omf_frame::{Sink, Width, is_header};
 use omf_host::put_decimal;
+use omf_library::Header;
 use std::alloc::{AllocError, Global};
 
 /// The type of the record after the members.
@@ -204,13 +205,9 @@ pub(crate) fn is_either(one: bool, other: bool) -> bool
     one || other
 }
 
-/// Writes what is shown of a library with pages of `page` bytes: its members, and what is there after the last of them. Returns whether it is
-/// refused.
-///
-/// # Errors
-///
-/// `Memory` if memory ran out, `Write` if the writer failed.
-pub(crate) fn show_library<K: Sink>(
+/// Writes what is shown of the pages of a library, which have `page` bytes each: its members, and what is there after the last of them. Returns whether
+/// it is refused.
+fn show_pages<K: Sink>(
     alloc: Global,
     writer: &mut K,
     mode: Mode,
@@ -220,7 +217,7 @@ pub(crate) fn show_library<K: Sink>(
     requires header { HasHeader bytes.now }
     requires page { page ≡ page_size bytes.now }
     requires small { page < 2 ^ 32 }
-    ensures { IfOk result (λ is_refused. Shows (K.seen writer.old).bytes (K.seen writer.new).bytes (IsLibraryText mode bytes.now is_refused)) }
+    ensures { IfOk result (λ is_refused. Shows (K.seen writer.old).bytes (K.seen writer.new).bytes (ArePagesText mode bytes.now is_refused)) }
 {
     let mut is_refused = false;
     let mut number: u64 = 0;
@@ -235,4 +232,58 @@ pub(crate) fn show_library<K: Sink>(
     }
     let is_faulty = show_end(alloc, writer, mode, spot_at(page, number, at), rest)?;
     Ok(is_either(is_refused, is_faulty))
+}
+
+/// Begins the line of the header of a library.
+fn put_header_head(text: &mut Vec<u8>, format: Format) -> Result<(), AllocError>
+    ensures { AddsText result text.old.items text.new.items (header_head format) }
+{
+    match format {
+        Format::Text => text.extend_from_slice(b"library"),
+        Format::Json => text.extend_from_slice(b"{\"library\":\"header\""),
+    }
+}
+
+/// The line of the header of a library.
+fn put_header(text: &mut Vec<u8>, format: Format, header: Header) -> Result<(), AllocError>
+    ensures { AddsText result text.old.items text.new.items (header_text format header) }
+{
+    put_header_head(text, format)?;
+    number(text, format, "page", u64::from(header.page))?;
+    hexadecimal(
+        text,
+        format,
+        "dictionary",
+        Width::Bits32,
+        u64::from(header.dictionary),
+    )?;
+    number(text, format, "blocks", u64::from(header.blocks))?;
+    small(text, format, "flags", header.flags)?;
+    end_fields(text, format)?;
+    close_record(text, format)
+}
+
+/// Writes what is shown of a library with this header: the line of the header, its members, and what is there after the last of them. Returns whether it
+/// is refused.
+///
+/// # Errors
+///
+/// `Memory` if memory ran out, `Write` if the writer failed.
+pub(crate) fn show_library<K: Sink>(
+    alloc: Global,
+    writer: &mut K,
+    mode: Mode,
+    header: Header,
+    bytes: &[u8],
+) -> Result<bool, DumpFault>
+    requires { HasHeader bytes.now × (header ≡ header_of bytes.now) }
+    ensures { IfOk result (λ is_refused. Shows (K.seen writer.old).bytes (K.seen writer.new).bytes (IsLibraryText mode bytes.now is_refused)) }
+{
+    let mut line = Vec::new(alloc);
+    let Ok(()) = put_header(&mut line, mode.style.format, header) else {
+        return Err(DumpFault::Memory);
+    };
+    send(writer, &line)?;
+    let is_refused = show_pages(alloc, writer, mode, header.page as usize, bytes)?;
+    Ok(is_refused)
 }

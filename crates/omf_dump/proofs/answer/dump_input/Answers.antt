@@ -1,14 +1,5 @@
-use Rattle.std.proofs.Common.{ap, arith}
-use Rattle.omf_library.specs.declared.header.Header.{Header}
 use Rattle.omf_dump.proofs.LibraryLaws.{is_library, is_module}
 use Rattle.omf_dump.proofs.answer.dump_input.Goals as goal
-
-pub show_library-requires : goal.show_library-requires
-show_library-requires g c = record {
-  header = c.in-Ok.ensures.0;
-  page = ap (λ (h : Header). h.page) c.in-Ok.ensures.1;
-  small = omega arith;
-}
 
 pub returns-in_ok-is_refused-in-Ok : goal.returns-in_ok-is_refused-in-Ok
 returns-in_ok-is_refused-in-Ok g c = is_library c.args.mode c.args.input.now _ _ _ c.in-Ok.ensures.0 c.in_ok-is_refused-in-Ok.ensures

@@ -1,6 +1,6 @@
 use Rattle.std.proofs.Common.{◌≡◌, ◌-◌, ◌≤◌, length, drop}
 use Rattle.omf_dump.proofs.LibraryLaws.{AreShown}
-use Rattle.omf_dump.proofs.library.show_library.Given as goal
+use Rattle.omf_dump.proofs.library.show_pages.Given as goal
 
 -- the members so far are shown, and the next page is at `at`
 abbrev pub invariant-loop-writer : goal.invariant-loop-writer
