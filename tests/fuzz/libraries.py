@@ -205,11 +205,6 @@ def aliases(module_):
     return {name for kind, body in records(module_) if kind == 0xC6 for name in alias_names(body)}
 
 
-def has_alias(module_):
-    """Whether a module has an ALIAS record: then it may define more names."""
-    return any(kind == 0xC6 for kind, _ in records(module_))
-
-
 def defined_by(kind, body):
     """The names that a record defines."""
     if kind in (0x90, 0x91):
@@ -236,11 +231,10 @@ def communals_alone(modules):
 
 
 def are_entries_defined(bytes_, found):
-    """Whether the member at the page of each entry defines its name or has an ALIAS, or the entry is a module's."""
+    """Whether the member at the page of each entry defines its name, or the entry is a module's."""
     page, fold = 3 + struct.unpack_from("<H", bytes_, 1)[0], bytes if bytes_[9] & 1 else bytes.upper
     names = {at // page: {fold(it) for it in defined(bytes_[at:at + length])} for at, length in found}
-    open_ = {at // page for at, length in found if has_alias(bytes_[at:at + length])}
-    return all(name[-1:] == b"!" or number in open_ or fold(name) in names.get(number, ()) for name, number in entries(bytes_))
+    return all(name[-1:] == b"!" or fold(name) in names.get(number, ()) for name, number in entries(bytes_))
 
 
 def run(program, *words):
@@ -291,10 +285,12 @@ def try_ghosts(program):
                 ghosts = [it for it in ghosts if flags or it != "ONE"]
                 assert sorted(shown) == ghosts and lines[0].startswith("OK") == (not ghosts), f"{all_}, flags {flags}: {lines}"
                 try_file(program, f"{folder}/x.lib")
-        with open(f"{folder}/x.lib", "wb") as it:
-            it.write(library([(alias, ())], blocks=dictionary([(b"one", 1), (b"_one", 1)], 1)))
-        lines, _ = run(program, "check", f"{folder}/x.lib")
-        assert lines[0].startswith("OK"), f"an entry of an ALIAS: {lines}"
+        for all_, ghosts in (([(b"one", 1), (b"_one", 1)], []), ([(b"one", 1), (b"_one", 1), (b"none", 1)], ["none"])):
+            with open(f"{folder}/x.lib", "wb") as it:
+                it.write(library([(alias, ())], blocks=dictionary(all_, 1)))
+            lines, _ = run(program, "check", f"{folder}/x.lib")
+            shown = [it.split('"')[1] for it in lines if it.startswith("fault 21 Undefined ")]
+            assert shown == ghosts and lines[0].startswith("OK") == (not ghosts), f"entries of an ALIAS: {lines}"
     print(f"{2 * len(cases)} dictionaries with and without entries that their members lack")
 
 

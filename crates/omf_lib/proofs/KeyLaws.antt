@@ -9,10 +9,9 @@ use Rattle.std.proofs.lemmas.List.{map-append, take_more}
 use Rattle.std.proofs.lemmas.List.Folds.{list_any-append}
 use Rattle.std.proofs.lemmas.Map.Text.{is_eq-slice_cmp}
 use Rattle.omf_library.specs.Dictionary.{folded, is_same_name}
-use Rattle.omf_making.specs.Names.{Defined, defined_names, name_seen, names_seen}
+use Rattle.omf_making.specs.Names.{Defined, name_seen, names_seen}
 use Rattle.omf_making.specs.declared.names.Defined.{Defined as CodeDefined}
-use Rattle.omf_records.specs.Values.{Rec}
-use Rattle.omf_lib.specs.Defining.{Definer, definers_in, has_alias, has_defined, is_defined, is_judged, is_of_module, is_undefined}
+use Rattle.omf_lib.specs.Defining.{Definer, has_defined, is_defined, is_judged, is_of_module, is_undefined}
 use Rattle.omf_lib.specs.Keys.{IsKeySet, all_keys, has_key, keys_of, name_key, page_key}
 
 and_false : (b : Bool) → (b && false) ≡ false
@@ -148,7 +147,7 @@ more_keys set done first next all e h = subst (IsKeySet set) (append_assoc done 
 pub same_keys : (set : BTreeSet (Vec ℕ Global)) (done : List (List ℕ)) → IsKeySet set done → IsKeySet set (done ++ [])
 same_keys set done h = subst (IsKeySet set) (sym (append-nil done)) h
 
--- The keys of names, one more; of a member; and of its module.
+-- The keys of names, one more; and of a member.
 pub names_next : (f : Defined → List ℕ) (ns : List CodeDefined) (i : ℕ) (d : CodeDefined) (key : List ℕ) → i < length ns → key ≡ f (name_seen (get_or ns i d)) → map f (names_seen (take i ns)) ++ key ∷ [] ≡ map f (names_seen (take (i + 1) ns))
 names_next f ns i d key h e =
     ap (λ k. map f (names_seen (take i ns)) ++ k ∷ []) e ∙ sym (map-append f (names_seen (take i ns)) (name_seen (get_or ns i d) ∷ []))
@@ -163,15 +162,6 @@ member_keys s page ns done key set low e h =
 pub no_member_keys : (s : Bool) (page : ℕ) (ns : List Defined) (done : List (List ℕ)) (set : BTreeSet (Vec ℕ Global)) → 65536 ≤ page → IsKeySet set done → IsKeySet set (done ++ keys_of s (record { page = page; names = ns }))
 no_member_keys s page ns done set high h =
     subst (λ ks. IsKeySet set (done ++ ks)) (sym (ap (λ b. cond b (page_key page ∷ map (λ n. name_key s page n.name) ns) []) (le-ltb page 65536 high))) (same_keys set done h)
-
-pub alias_keys : (s : Bool) (page : ℕ) (m : List Rec) (done : List (List ℕ)) (set : BTreeSet (Vec ℕ Global)) → has_alias m ≡ true → IsKeySet set done → IsKeySet set (done ++ all_keys s (definers_in page m))
-alias_keys s page m done set e h = subst (λ b. IsKeySet set (done ++ all_keys s (cond b [] (record { page = page; names = defined_names m } ∷ [])))) (sym e) (same_keys set done h)
-
-pub module_keys : (s : Bool) (page : ℕ) (m : List Rec) (ns : List Defined) (done : List (List ℕ)) (set : BTreeSet (Vec ℕ Global)) → has_alias m ≡ false → ns ≡ defined_names m
-    → IsKeySet set (done ++ keys_of s (record { page = page; names = ns })) → IsKeySet set (done ++ all_keys s (definers_in page m))
-module_keys s page m ns done set e n h =
-    subst (λ b. IsKeySet set (done ++ all_keys s (cond b [] (record { page = page; names = defined_names m } ∷ [])))) (sym e)
-    (subst (λ ks. IsKeySet set (done ++ ks)) (sym (append-nil (keys_of s (record { page = page; names = defined_names m })))) (subst (λ xs. IsKeySet set (done ++ keys_of s (record { page = page; names = xs }))) n h))
 
 -- What follows from what an answer has, if there is one.
 pub on_ok : {T E : Type 0} {P Q : Type 0} (r : Result T E) → (P → Q) → OnOk r P → OnOk r Q

@@ -24,17 +24,13 @@ pub record Definer : Type 0 where
   pub page : ℕ
   pub names : List Defined
 
--- A module with an ALIAS record may define names that are not read here. So its entries are not judged.
-abbrev pub has_alias : List Rec → Bool
-has_alias m = list_any (λ r. r.kind == 0xC6) m
-
-abbrev pub definers_in : ℕ → List Rec → List Definer
-definers_in page m = if has_alias m then [] else record { page = page; names = defined_names m } ∷ []
+abbrev pub definer_of : ℕ → List Rec → Definer
+definer_of page m = record { page = page; names = defined_names m }
 
 -- What the member at an offset defines, with pages of this size, by the module that a program takes of it. One of which none is taken is not judged either.
 abbrev pub IsDefiner : Profile → ℕ → ℕ → List ℕ → List Definer → Type 0
 IsDefiner profile page offset bytes ds =
-    ((t : Taken) × IsTaken profile bytes t × (ds ≡ definers_in (offset / page) (recs_of t.«module».bytes)))
+    ((t : Taken) × IsTaken profile bytes t × (ds ≡ definer_of (offset / page) (recs_of t.«module».bytes) ∷ []))
     ⊎ ((why : Refusal) × IsUntaken profile bytes why × (ds ≡ []))
 
 abbrev pub AreDefiners : Profile → ℕ → List Span → List Definer → Type 0

@@ -1,21 +1,16 @@
 //! What the members of a library define, so that the entries of its dictionary are compared with it.
 
 ghost use Rattle.std.specs.Prelude.{◌≡◌, ◌&&◌, ◌/◌, ◌++◌, ◌∷◌, [], false, List, ℕ, IfOk, OnOk, map, not};
-ghost use Rattle.omf_check.specs.Module.{recs_of};
 ghost use Rattle.omf_library.specs.Dictionary.{folded, is_case_sensitive};
-ghost use Rattle.omf_making.specs.Names.{defined_names, names_seen};
-ghost use Rattle.omf_lib.specs.Defining.{Definer, definers_in, has_alias, is_of_module, is_undefined};
+ghost use Rattle.omf_making.specs.Names.{names_seen};
+ghost use Rattle.omf_lib.specs.Defining.{Definer, is_of_module, is_undefined};
 ghost use Rattle.omf_lib.specs.Keys.{all_keys, IsKeySet, keys_of, name_key, page_key};
 
 use crate::names::folded;
-use omf_check::Checked;
 use omf_library::Header;
 use omf_making::Defined;
 use std::alloc::{AllocError, Global};
 use std::collections::BTreeSet;
-
-/// The type of an ALIAS record.
-const ALIAS: u8 = 0xC6;
 
 /// The keys of what members define, to look them up.
 pub type KeySet = BTreeSet<Vec<u8>>;
@@ -99,8 +94,8 @@ fn add_names(
     Ok(())
 }
 
-/// Adds the keys of a member. No entry can have a page after 65535.
-fn add_member(
+/// Adds the keys of a member that defines these names. No entry can have a page after 65535.
+pub fn add_member(
     alloc: Global,
     keys: &mut KeySet,
     home: Home,
@@ -118,17 +113,6 @@ fn add_member(
     }
 }
 
-/// Whether a module has an ALIAS record. No record is decoded.
-fn has_alias(module: &Checked) -> bool
-    ensures { result ≡ has_alias (recs_of «module».now.bytes) }
-{
-    let mut found = false;
-    for (_, rec) in module.undecoded() {
-        found = found || rec.kind() == ALIAS;
-    }
-    found
-}
-
 /// Where the member at an offset begins.
 pub fn home_of(header: Header, offset: usize) -> Home
     ensures page { result.page ≡ offset / header.page }
@@ -138,24 +122,6 @@ pub fn home_of(header: Header, offset: usize) -> Home
     Home {
         page: if page == 0 { 0 } else { offset / page },
         is_case_sensitive: header.flags % 2 == 1,
-    }
-}
-
-/// Adds the keys of a member whose module defines these names, unless it has an ALIAS record.
-pub fn add_module(
-    alloc: Global,
-    keys: &mut KeySet,
-    home: Home,
-    module: &Checked,
-    names: &[Defined],
-) -> Result<(), AllocError>
-    requires { names_seen names.now ≡ defined_names (recs_of «module».now.bytes) }
-    ensures { (done : List (List ℕ)) → IsKeySet keys.old done → OnOk result (IsKeySet keys.new (done ++ all_keys home.is_case_sensitive (definers_in home.page (recs_of «module».now.bytes)))) }
-{
-    if has_alias(module) {
-        Ok(())
-    } else {
-        add_member(alloc, keys, home, names)
     }
 }
 

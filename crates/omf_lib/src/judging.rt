@@ -6,7 +6,7 @@ ghost use Rattle.omf_library.specs.Dictionary.{block_count, is_case_sensitive};
 ghost use Rattle.omf_lib.specs.Defining.{AreDefiners, Definer, IsAllDefined, IsDefiner, IsLibraryDefined};
 ghost use Rattle.omf_lib.specs.Keys.{all_keys, IsKeySet};
 
-use crate::defining::{KeySet, add_module, home_of};
+use crate::defining::{KeySet, add_member, home_of};
 use crate::fault::{Fault, Named, Note, Public};
 use crate::library::{Library, member_of, page_of, read_library};
 use crate::members::{Member, Verdict, judge, taken_of};
@@ -204,7 +204,7 @@ fn judge_member(
             let names = defined_names(alloc, &taken.module)?;
             look_up_all(report, library, member, names.as_slice())?;
             let home = home_of(library.header, member.offset);
-            add_module(alloc, keys, home, &taken.module, names.as_slice())
+            add_member(alloc, keys, home, names.as_slice())
         }
     }
 }
