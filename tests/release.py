@@ -137,6 +137,7 @@ def stages():
     yield Stage("frames", ["tests/frames.py"], "OMF_LINK", "", 600, r"^(\d+) modules linked")
     yield Stage("taken", ["tests/taken.py"], "OMF_LINK", "", 600, r"^(\d+) files linked")
     yield Stage("chosen", ["tests/chosen.py"], "OMF_LINK", "", 600, r"^(\d+) links")
+    yield Stage("rejoined", ["tests/rejoined.py"], "OMF_LINK", "", 600, r"^(\d+) joined files")
     yield Stage("keys", ["tests/keys.py"], "OMF OMF_LINK", "", 1800, r"^(\d+) links")
     yield Stage("flat", ["tests/flat.py"], "OMF_LINK", "gcc|clang qemu-system-i386", 1800, r"^(\d+) programs")
     yield Stage("find", ["tests/find.py"], "OMF_FIND OMF_LINK OMF_LIB", "", 600, r"^(\d+) runs")

@@ -14,5 +14,6 @@ pub mod RefusingLaws
 pub mod StartLaws
 pub mod TakenLaws
 pub mod UnloweredLaws
+pub mod UnorderedLaws
 pub mod TwiceLaws
 pub mod ViewLaws

@@ -1,6 +1,7 @@
 -- The file of `omf-link join`: the modules of a program, one after another (this profile's rule).
-use Rattle.std.specs.Prelude.{◌≡◌, ◌⊎◌, ℕ, List, flat_map}
-use Rattle.omf_check.specs.Module.{Module}
+use Rattle.std.specs.Prelude.{◌≡◌, ◌⊎◌, ◌==◌, ◌&&◌, ℕ, Bool, false, if◌then◌else◌, List, [], ◌∷◌, flat_map}
+use Rattle.omf_frame.specs.Framing.{Raw, raw_bytes}
+use Rattle.omf_check.specs.Module.{Module, records_in}
 use Rattle.omf_aliases.specs.Aliases.{AreFollowed}
 use Rattle.omf_exe.specs.Adding.{AreAdded}
 use Rattle.omf_exe.specs.Making.{AreOf, ProgramFiles}
@@ -10,9 +11,21 @@ use Rattle.omf_trimming.specs.Choice.{AreChosen}
 use Rattle.omf_trimming.specs.Trimmed.{AreTrimmed}
 use Rattle.omf_trimming.specs.declared.without.LeftPublics.TheVariants.{AtStart}
 
--- The bytes of modules, one after another.
+-- A COMENT of class 9EH asks a linker for DOS order (TIS OMF 1.1, "COMENT").
+abbrev pub asks_order : ℕ → List ℕ → Bool
+asks_order kind (type_byte ∷ class ∷ text) = (kind == 0x88) && (class == 0x9E)
+asks_order kind _ = false
+
+-- The bytes of a module without these comments.
+abbrev pub ordered_bytes : Raw → List ℕ
+ordered_bytes r = if asks_order r.kind r.body then [] else raw_bytes r
+
+abbrev pub without_order : List ℕ → List ℕ
+without_order bytes = flat_map ordered_bytes (records_in bytes)
+
+-- The bytes of modules, one after another. The segments are in order, and stay so: no module asks for another.
 abbrev pub all_bytes : List Module → List ℕ
-all_bytes ms = flat_map (λ m. m.bytes) ms
+all_bytes ms = flat_map (λ m. without_order m.bytes) ms
 
 -- The modules are those of which a program of the files is made: with one COMDAT of each name, those that are added, and the defaults that aliases give to externals, without what
 -- nothing refers to of the segments that may be left out.

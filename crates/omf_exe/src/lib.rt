@@ -28,6 +28,7 @@ mod refused;
 mod settling;
 mod sharing;
 mod unlinked;
+mod unordered;
 mod views;
 mod with_communals;
 mod written;

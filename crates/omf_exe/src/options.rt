@@ -164,11 +164,12 @@ impl<'a> ExeOptions<'a> {
         }
     }
 
-    /// Whether none of the options is one of a program's file alone: its map and symbols, its stack and room, and what may be in it.
+    /// Whether none of the options is one of a program's file alone: its map and symbols, its stack and room, what may be in it, and what is left out of
+    /// its code, to which modules that are linked later may refer.
     pub fn is_of_modules(&self) -> bool {
         let sizes = self.stack.is_some() || self.max_alloc.is_some();
         let allows = self.allows_twice || self.allows_long || self.allows_near || self.allows_mixed;
-        !self.shows_names() && !sizes && !allows
+        !self.shows_names() && !sizes && !allows && !self.unreached.code
     }
 
     /// Whether names of the modules are written: in a map, or as symbols.

@@ -31,6 +31,7 @@ use crate::ordering::{class_order_of, order_of, with_front};
 use crate::refusal::Refusal;
 use crate::refused::of_joining;
 use crate::sharing::{shared_module, with_added};
+use crate::unordered::put_unordered;
 use omf_aliases::{asker_of, followed};
 use omf_check::Checked;
 use omf_layout::own::ask_dos_order;
@@ -46,12 +47,12 @@ pub struct ProgramModules {
     from: Vec<Option<Origin>>,
 }
 
-/// Appends the bytes of modules, one after another.
+/// Appends the bytes of modules, one after another, without the comments that ask for DOS order.
 fn put_bytes(modules: &[Checked], bytes: &mut Vec<u8>) -> Result<(), AllocError>
     ensures { OnOk result (bytes.new.items ≡ bytes.old.items ++ all_bytes modules.now) }
 {
     for module in modules {
-        bytes.extend_from_slice(module.bytes())?;
+        put_unordered(bytes, module)?;
     }
     Ok(())
 }
@@ -383,7 +384,7 @@ impl ProgramModules {
         }
     }
 
-    /// The bytes of the modules, one after another.
+    /// The bytes of the modules, one after another, without the comments that ask for DOS order.
     ///
     /// # Errors
     ///

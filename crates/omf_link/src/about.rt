@@ -32,7 +32,7 @@ pub(crate) const ABOUT: About = About {
            [--ignore-case] [-o FILE] [FILE ..]
        omf-link join -o FILE [--order ORDER] [-L DIR ..] [--library-path DIR ..]
            [--no-default-libraries] [--no-default-library NAME ..]
-           [--ignore-case] [--keep-debug] [--eliminate] FILE ..
+           [--ignore-case] [--keep-debug] FILE ..
        omf-link lower -o FILE FILE
 ",
     details: "
@@ -61,10 +61,9 @@ pub(crate) const ABOUT: About = About {
                            one more if that is odd
   --max-alloc PARAGRAPHS   exe: the paragraphs of 16 bytes after the image that
                            DOS is asked for at most (LINK's /CPARMAXALLOC)
-  --order ORDER            exe, com, join: dos: segments in the order of DOS
-                           linkers (LINK's /DOSSEG); input: as they come; a list
-                           of classes as CODE,DATA,BSS: these first, in this
-                           order
+  --order ORDER            exe, com, join: the order of segments; dos: as DOS
+                           linkers have it (LINK's /DOSSEG); input: as they
+                           come; classes as CODE,DATA,BSS: these first
   -L DIR, --library-path DIR
                            exe, com, join: a folder for files, and for libraries
                            that modules ask for; the folders of the variable LIB
@@ -83,7 +82,7 @@ pub(crate) const ABOUT: About = About {
                            and show them in lower case
   --keep-debug             exe, com, join: with the segments of debug
                            information (classes DEBSYM, DEBTYP, DWARF) in memory
-  --eliminate              exe, com, join: without the segments of code that
+  --eliminate              exe, com: without the segments of code that
                            nothing reaches from the start and from data
   --base ADDRESS           bin: the address of the first byte; draft: of the
                            first segment (default 10000)
@@ -96,14 +95,14 @@ pub(crate) const ABOUT: About = About {
   --flat SELECTOR          draft: one frame with base 0 and this selector; the
                            default for other modules, with selector 0
 
-Numbers are hexadecimal, but for BYTES: 1000, 0x1000 and 1000H are one, and so
-are --base 1000 and --base=1000, or -L DIR and -LDIR. @FILE is the words of a
-file, and -- ends the options.
+Numbers are hexadecimal, but for BYTES and PARAGRAPHS: 1000, 0x1000 and 1000H
+are one, and so are --base 1000 and --base=1000, or -L DIR and -LDIR. @FILE is
+the words of a file, and -- ends the options.
 
 The name of a module's file may lack .obj, and for exe, com and join it may be
 in another case than the file's own. Where a file is -, omf-link reads the
-standard input; without files also, but for these three. omf-link(1),
-docs/DOS.md and docs/ADDRESSES.md show examples, and explain each line that is
+standard input; without files also, but for these three and lower. omf-link(1),
+docs/DOS.md and docs/ADDRESSES.md show examples, and explain the lines that are
 printed.
 ",
 };

@@ -238,7 +238,74 @@ fn refuse_outputs<'a, K, E: Sink>(
     }
 }
 
+/// The same, or writes why there are no modules. Returns the status.
+fn on_joined<K: Sink, E: Sink>(
+    rt: &HostRuntime,
+    program: Result<ProgramFiles, Refusal>,
+    job: Job<'_, '_>,
+    missing: &[Missing],
+    streams: &mut Streams<K, E>,
+) -> Result<Status, AllocError> {
+    match program {
+        Ok(program) => on_program(rt, program, job, missing, streams),
+        Err(refusal) => refuse(rt, &refusal, missing, streams),
+    }
+}
+
+/// The status of outputs that are refused, or memory.
+fn status_of(clash: Result<Option<Status>, AllocError>) -> Result<Status, AllocError> {
+    match clash {
+        Ok(Some(status)) => Ok(status),
+        Ok(None) => Ok(Status::Done),
+        Err(AllocError) => Err(AllocError),
+    }
+}
+
+/// Makes what is asked for of the modules of files and of the libraries that they ask for, unless an output is one of these. Returns the status.
+fn on_sources<K: Sink, E: Sink>(
+    rt: &HostRuntime,
+    sources: &mut Sources<'_>,
+    search: Search<'_, '_>,
+    job: Job<'_, '_>,
+    streams: &mut Streams<K, E>,
+) -> Result<Status, AllocError> {
+    let program = sources.joined(rt, search)?;
+    match refuse_outputs(rt, &sources.libraries, job.output, streams) {
+        Ok(None) => on_joined(rt, program, job, &sources.missing, streams),
+        clash => status_of(clash),
+    }
+}
+
 /// Reads files and the libraries that their modules ask for, makes what is asked for, and writes it. Returns the status.
+fn on_files<K: Sink, E: Sink>(
+    rt: &HostRuntime,
+    files: &[String],
+    search: Search<'_, '_>,
+    job: Job<'_, '_>,
+    streams: &mut Streams<K, E>,
+) -> Result<Status, AllocError> {
+    if let Some(status) = refuse_outputs(rt, files, job.output, streams)? {
+        return Ok(status);
+    }
+    match Sources::read(rt, files, streams)? {
+        Some(mut sources) => on_sources(rt, &mut sources, search, job, streams),
+        None => Ok(Status::Failed),
+    }
+}
+
+/// Finds the files that arguments name, and does what is asked for. Returns the status.
+fn with_search<K: Sink, E: Sink>(
+    rt: &HostRuntime,
+    asked: &Asked,
+    search: Search<'_, '_>,
+    job: Job<'_, '_>,
+    streams: &mut Streams<K, E>,
+) -> Result<Status, AllocError> {
+    let files = search.folders.files(rt, &asked.files)?;
+    on_files(rt, &files, search, job, streams)
+}
+
+/// Does what is asked for with these options. Returns the status.
 fn with_options<K: Sink, E: Sink>(
     rt: &HostRuntime,
     asked: &Asked,
@@ -246,25 +313,11 @@ fn with_options<K: Sink, E: Sink>(
     streams: &mut Streams<K, E>,
 ) -> Result<Status, AllocError> {
     let folders = Folders::of(rt, job.options)?;
-    let files = folders.files(rt, &asked.files)?;
-    if let Some(status) = refuse_outputs(rt, &files, job.output, streams)? {
-        return Ok(status);
-    }
-    let Some(mut sources) = Sources::read(rt, files.as_slice(), streams)? else {
-        return Ok(Status::Failed);
-    };
     let search = Search {
         options: job.options,
         folders: &folders,
     };
-    let program = sources.joined(rt, search)?;
-    if let Some(status) = refuse_outputs(rt, &sources.libraries, job.output, streams)? {
-        return Ok(status);
-    }
-    match program {
-        Ok(program) => on_program(rt, program, job, &sources.missing, streams),
-        Err(refusal) => refuse(rt, &refusal, &sources.missing, streams),
-    }
+    with_search(rt, asked, search, job, streams)
 }
 
 /// The options that arguments give for what is made; none if they are not understood, or if a file of modules does not have them.
@@ -283,6 +336,34 @@ fn options_of<'a>(
     }
 }
 
+/// What is made under a name with these options.
+fn job_of<'a, 'b>(product: Product, name: &'a str, options: &'a ExeOptions<'b>) -> Job<'a, 'b> {
+    let output = Output {
+        name,
+        map: options.map,
+        symbols: options.symbols.map(|symbols| symbols.name),
+    };
+    Job {
+        product,
+        options,
+        output,
+    }
+}
+
+/// Makes this product under a name. Returns the status.
+fn make<K: Sink, E: Sink>(
+    rt: &HostRuntime,
+    asked: &Asked,
+    product: Product,
+    name: &str,
+    streams: &mut Streams<K, E>,
+) -> Result<Status, AllocError> {
+    match options_of(rt, product, asked)? {
+        Some(options) => with_options(rt, asked, job_of(product, name, &options), streams),
+        None => misused_by(rt, streams, &ABOUT),
+    }
+}
+
 /// Does what arguments ask for, whose task is `exe`, `com` or `join`. Returns the status.
 pub fn on_words<K: Sink, E: Sink>(
     rt: &HostRuntime,
@@ -292,22 +373,8 @@ pub fn on_words<K: Sink, E: Sink>(
     let Some(asked) = sorted(rt.alloc(), words, 2)? else {
         return misused_by(rt, streams, &ABOUT);
     };
-    let (product, name) = match call_of(&asked) {
-        Call::Make(product, name) => (product, name),
-        Call::Other | Call::Misused => return misused_by(rt, streams, &ABOUT),
-    };
-    let Some(options) = options_of(rt, product, &asked)? else {
-        return misused_by(rt, streams, &ABOUT);
-    };
-    let output = Output {
-        name,
-        map: options.map,
-        symbols: options.symbols.map(|symbols| symbols.name),
-    };
-    let job = Job {
-        product,
-        options: &options,
-        output,
-    };
-    with_options(rt, &asked, job, streams)
+    match call_of(&asked) {
+        Call::Make(product, name) => make(rt, &asked, product, name, streams),
+        Call::Other | Call::Misused => misused_by(rt, streams, &ABOUT),
+    }
 }

@@ -9,7 +9,8 @@ ghost use Rattle.omf_linker.specs.Link.Folded.{AreFilesFolded};
 ghost use Rattle.omf_linker.specs.Seen.Looks.{AreLookedFolded, AreLookedFrom, AreLookedIn};
 
 use crate::about::ABOUT;
-use crate::mapping::kept_files;
+use crate::libraries::{JOIN, is_library, refuse_library};
+use crate::mapping::{Kept, kept_files};
 use crate::{exe, lowering};
 use omf_cmd::Fault;
 use omf_drafting::asked::{Asked, sorted};
@@ -120,35 +121,60 @@ impl Manner {
     }
 }
 
-/// Does a task for the files and the text that are named. None if one of them could not be read.
-fn of_files<K: Sink, E: Sink>(
+/// The name of the first of the files that is a library.
+fn first_library(files: &[InputFile]) -> Option<&str> {
+    for file in files {
+        if is_library(file.bytes()) {
+            return from_utf8(file.name()).ok();
+        }
+    }
+    None
+}
+
+/// Does a task for the files that are named and a text, and writes its output, or the line of its fault. Returns the status.
+fn on_text<K: Sink, E: Sink>(
+    rt: &HostRuntime,
+    manner: Manner,
+    asked: &Asked,
+    text: &[u8],
+    streams: &mut Streams<K, E>,
+) -> Result<Status, AllocError> {
+    match read_files(rt, asked.files.as_slice(), streams)? {
+        Some(files) => match first_library(&files) {
+            Some(name) => refuse_library(rt.alloc(), name, JOIN, streams),
+            None => on_seen(rt, asked, manner.seen(rt.alloc(), files, text), streams),
+        },
+        None => Ok(Status::Failed),
+    }
+}
+
+/// Does a task for the files and the text that are named. Returns the status.
+fn on_named_files<K: Sink, E: Sink>(
     rt: &HostRuntime,
     manner: Manner,
     asked: &Asked,
     streams: &mut Streams<K, E>,
-) -> Result<Option<Result<SeenText, FilesFault>>, AllocError> {
-    let Some(files) = read_files(rt, asked.files.as_slice(), streams)? else {
-        return Ok(None);
-    };
+) -> Result<Status, AllocError> {
     let name = asked.text.as_ref().map(|name| name.as_str());
-    let Some(text) = read_text(rt, name, streams)? else {
-        return Ok(None);
-    };
-    Ok(Some(manner.seen(rt.alloc(), files, &text)))
+    match read_text(rt, name, streams)? {
+        Some(text) => on_text(rt, manner, asked, &text, streams),
+        None => Ok(Status::Failed),
+    }
 }
 
-/// Does a task for the standard input: modules, and a text after them. None if it could not be read.
-fn of_input<K: Sink, E: Sink>(
+/// Does a task for the standard input, modules and a text after them, and writes its output, or the line of its fault. Returns the status.
+fn on_input<K: Sink, E: Sink>(
     rt: &HostRuntime,
     manner: Manner,
+    asked: &Asked,
     streams: &mut Streams<K, E>,
-) -> Result<Option<Result<SeenText, FilesFault>>, AllocError> {
+) -> Result<Status, AllocError> {
     let Some(input) = read_or_tell(rt, "-", streams)? else {
-        return Ok(None);
+        return Ok(Status::Failed);
     };
     match manner.seen_in(rt.alloc(), input) {
-        Ok(seen) => Ok(Some(Ok(seen))),
-        Err(fault) => Ok(Some(Err(FilesFault::Link(fault)))),
+        Ok(seen) => on_seen(rt, asked, Ok(seen), streams),
+        Err(fault) => on_seen(rt, asked, Err(FilesFault::Link(fault)), streams),
     }
 }
 
@@ -265,7 +291,67 @@ fn warn_of_map<K: Sink, E: Sink>(
     }
 }
 
-/// Writes the map of the files that are not refused, after warnings on what its link text does unseen. Returns the status.
+/// A link text, and the names of its file and of the output, if they have names.
+#[derive(Clone, Copy)]
+struct MapText<'a> {
+    text: &'a [u8],
+    name: Option<&'a str>,
+    output: Option<&'a str>,
+}
+
+/// Writes a map with the lines of its modules. Returns the status.
+fn write_map<K: Sink, E: Sink>(
+    rt: &HostRuntime,
+    kept: &Kept,
+    map: &Output,
+    output: Option<&str>,
+    streams: &mut Streams<K, E>,
+) -> Result<Status, AllocError> {
+    let shown = kept.with_lines(rt.alloc(), map)?;
+    written(rt, output, &shown, streams)
+}
+
+/// Writes the map of files, after warnings on what its link text does unseen. Returns the status.
+fn on_kept<K: Sink, E: Sink>(
+    rt: &HostRuntime,
+    manner: Manner,
+    kept: &mut Kept,
+    of: MapText<'_>,
+    streams: &mut Streams<K, E>,
+) -> Result<Status, AllocError> {
+    let files = mem::replace(&mut kept.files, Vec::new(rt.alloc()));
+    let again = copies(rt.alloc(), &files)?;
+    match manner.seen(rt.alloc(), files, of.text) {
+        Ok(seen) => {
+            let warned = warn_of_map(rt, manner, again, of.text, streams);
+            let written = write_map(rt, kept, &seen.shown, of.output, streams);
+            Ok(warned?.worst(written?))
+        }
+        Err(fault) => tell_files_fault(rt.alloc(), of.name, fault, streams),
+    }
+}
+
+/// Writes the map of the files that are not refused. Returns the status.
+fn on_map_text<K: Sink, E: Sink>(
+    rt: &HostRuntime,
+    manner: Manner,
+    asked: &Asked,
+    of: MapText<'_>,
+    streams: &mut Streams<K, E>,
+) -> Result<Status, AllocError> {
+    let mut kept = kept_files(rt, asked.files.as_slice(), streams)?;
+    let status = if kept.files.is_empty() {
+        Ok(Status::Done)
+    } else {
+        on_kept(rt, manner, &mut kept, of, streams)
+    };
+    match status {
+        Ok(status) => Ok(status.worst(kept.status)),
+        Err(fault) => Err(fault),
+    }
+}
+
+/// Writes the map of the files that are not refused, with the text that is named. Returns the status.
 fn on_map<K: Sink, E: Sink>(
     rt: &HostRuntime,
     manner: Manner,
@@ -273,25 +359,36 @@ fn on_map<K: Sink, E: Sink>(
     streams: &mut Streams<K, E>,
 ) -> Result<Status, AllocError> {
     let name = asked.text.as_ref().map(|name| name.as_str());
-    let Some(text) = read_text(rt, name, streams)? else {
-        return Ok(Status::Failed);
-    };
-    let mut kept = kept_files(rt, asked.files.as_slice(), streams)?;
-    let files = mem::replace(&mut kept.files, Vec::new(rt.alloc()));
-    if files.is_empty() {
-        return Ok(kept.status);
-    }
-    let again = copies(rt.alloc(), &files)?;
-    match manner.seen(rt.alloc(), files, &text) {
-        Ok(seen) => {
-            kept.status = kept
-                .status
-                .worst(warn_of_map(rt, manner, again, &text, streams)?);
-            let shown = kept.with_lines(rt.alloc(), &seen.shown)?;
-            let output = asked.output.as_ref().map(|name| name.as_str());
-            Ok(written(rt, output, &shown, streams)?.worst(kept.status))
+    let output = asked.output.as_ref().map(|name| name.as_str());
+    match read_text(rt, name, streams)? {
+        Some(text) => {
+            let of = MapText {
+                text: &text,
+                name,
+                output,
+            };
+            on_map_text(rt, manner, asked, of, streams)
         }
-        Err(fault) => Ok(tell_files_fault(rt.alloc(), name, fault, streams)?.worst(kept.status)),
+        None => Ok(Status::Failed),
+    }
+}
+
+/// Writes what a task gives, or the line of its fault. Returns the status.
+fn on_seen<K: Sink, E: Sink>(
+    rt: &HostRuntime,
+    asked: &Asked,
+    seen: Result<SeenText, FilesFault>,
+    streams: &mut Streams<K, E>,
+) -> Result<Status, AllocError> {
+    match seen {
+        Ok(seen) => {
+            let name = asked.output.as_ref().map(|name| name.as_str());
+            written_or_told(rt, name, &seen, streams)
+        }
+        Err(fault) => {
+            let name = asked.text.as_ref().map(|name| name.as_str());
+            tell_files_fault(rt.alloc(), name, fault, streams)
+        }
     }
 }
 
@@ -305,23 +402,12 @@ fn on_files<K: Sink, E: Sink>(
     if let Some(status) = refuse_output(rt, asked, streams)? {
         return Ok(status);
     }
-    let found = if is_on_input(asked) {
-        of_input(rt, manner, streams)?
-    } else if matches!(manner.task, Task::Map) {
-        return on_map(rt, manner, asked, streams);
-    } else {
-        of_files(rt, manner, asked, streams)?
-    };
-    match found {
-        Some(Ok(seen)) => {
-            let name = asked.output.as_ref().map(|name| name.as_str());
-            written_or_told(rt, name, &seen, streams)
-        }
-        Some(Err(fault)) => {
-            let name = asked.text.as_ref().map(|name| name.as_str());
-            tell_files_fault(rt.alloc(), name, fault, streams)
-        }
-        None => Ok(Status::Failed),
+    if is_on_input(asked) {
+        return on_input(rt, manner, asked, streams);
+    }
+    match manner.task {
+        Task::Map => on_map(rt, manner, asked, streams),
+        _ => on_named_files(rt, manner, asked, streams),
     }
 }
 

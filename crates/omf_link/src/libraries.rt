@@ -9,12 +9,42 @@ use crate::missing::{Missing, Why};
 use omf_exe::host::read_library;
 use omf_exe::{ExeOptions, ProgramFiles, Refusal};
 use omf_frame::Sink;
-use omf_host::Streams;
+use omf_host::{Status, Streams, put_quoted};
 use omf_linking::InputFile;
-use std::alloc::AllocError;
+use std::alloc::{AllocError, Global};
 use std::collections::BTreeSet;
 use std::mem::replace;
 use std::str;
+
+/// The type of the record that a library begins with (TIS OMF 1.1, appendix 2).
+const LIBRARY_HEADER: u8 = 0xF0;
+
+/// How the modules of a library become files.
+pub(crate) const GET: &str = "take its modules out with omf-lib get";
+
+/// How the members of a library that modules need become modules of one file with these.
+pub(crate) const JOIN: &str = "omf-link join takes its members that are needed";
+
+/// Whether a file begins as a library does.
+pub(crate) fn is_library(bytes: &[u8]) -> bool {
+    bytes.first() == Some(&LIBRARY_HEADER)
+}
+
+/// Writes the line of a file that is a library, where modules are taken alone, and what to do. Returns the status.
+pub(crate) fn refuse_library<K, E: Sink>(
+    alloc: Global,
+    name: &str,
+    advice: &str,
+    streams: &mut Streams<K, E>,
+) -> Result<Status, AllocError> {
+    let mut line = String::from_str(alloc, "file ")?;
+    put_quoted(&mut line, name.as_bytes())?;
+    line.push_str(": a library: ")?;
+    line.push_str(advice)?;
+    line.push('\n')?;
+    streams.report(alloc, line.as_bytes())?;
+    Ok(Status::Refused)
+}
 
 /// How often modules are looked through for libraries that they ask for: a library that is found may ask for others.
 const ROUNDS: usize = 1000;
@@ -200,24 +230,27 @@ impl<'a> Sources<'a> {
         replace(&mut self.files, Vec::new(rt.alloc()))
     }
 
-    /// The files and the libraries that their modules ask for, with the modules that they give.
-    pub(crate) fn joined(
+    /// Looks for the libraries that modules ask for, and returns those that were found.
+    fn more_for(
         &mut self,
         rt: &HostRuntime,
         search: Search<'_, '_>,
+        program: &ProgramFiles,
+    ) -> Result<Vec<InputFile>, AllocError> {
+        let names = program.sought(rt.alloc(), &[])?;
+        self.take_all(rt, search, names)
+    }
+
+    /// Files with the libraries that their modules ask for.
+    fn with_libraries(
+        &mut self,
+        rt: &HostRuntime,
+        search: Search<'_, '_>,
+        files: ProgramFiles,
     ) -> Result<Result<ProgramFiles, Refusal>, AllocError> {
-        let options = search.options;
-        let files = self.unread(rt);
-        let mut program = match ProgramFiles::of(rt.alloc(), files, options.ignore_case) {
-            Ok(program) => program,
-            Err(refusal) => return Ok(Err(refusal)),
-        };
-        if !options.default_libraries {
-            return Ok(Ok(program));
-        }
+        let mut program = files;
         for _ in 0..ROUNDS {
-            let names = program.sought(rt.alloc(), &[])?;
-            let more = self.take_all(rt, search, names)?;
+            let more = self.more_for(rt, search, &program)?;
             if more.is_empty() {
                 return Ok(Ok(program));
             }
@@ -227,5 +260,24 @@ impl<'a> Sources<'a> {
             };
         }
         Ok(Ok(program))
+    }
+
+    /// The files and the libraries that their modules ask for, with the modules that they give.
+    pub(crate) fn joined(
+        &mut self,
+        rt: &HostRuntime,
+        search: Search<'_, '_>,
+    ) -> Result<Result<ProgramFiles, Refusal>, AllocError> {
+        let files = self.unread(rt);
+        match ProgramFiles::of(rt.alloc(), files, search.options.ignore_case) {
+            Ok(program) => {
+                if search.options.default_libraries {
+                    self.with_libraries(rt, search, program)
+                } else {
+                    Ok(Ok(program))
+                }
+            }
+            Err(refusal) => Ok(Err(refusal)),
+        }
     }
 }

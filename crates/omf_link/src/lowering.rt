@@ -3,19 +3,15 @@
 ghost use Rattle.std.specs.Prelude.{◌≡◌};
 
 use crate::about::ABOUT;
+use crate::libraries::{GET, is_library, refuse_library};
 use omf_drafting::asked::{Asked, sorted};
 use omf_drafting::host::{read_or_tell, tell_fault, write_or_tell};
 use omf_frame::Sink;
-use omf_host::{
-    OutputFile, RunFiles, Status, Streams, misused_by, object_files, put_quoted, refuse_clash,
-};
+use omf_host::{OutputFile, RunFiles, Status, Streams, misused_by, object_files, refuse_clash};
 use omf_lines::{FilesFault, file_front};
 use omf_linking::LinkFault;
 use omf_lowered::{FileFault, lowered_file};
 use std::alloc::{AllocError, Global};
-
-/// The type of the record that a library begins with (TIS OMF 1.1, appendix 2).
-const LIBRARY_HEADER: u8 = 0xF0;
 
 /// Whether arguments ask for this task.
 pub(crate) fn is_asked(words: &[String]) -> bool {
@@ -81,19 +77,6 @@ fn tell<K: Sink, E: Sink>(
     Ok(Status::Refused)
 }
 
-/// Writes the line of a file that is a library. Returns the status.
-fn refuse_library<K: Sink, E: Sink>(
-    alloc: Global,
-    name: &str,
-    streams: &mut Streams<K, E>,
-) -> Result<Status, AllocError> {
-    let mut line = String::from_str(alloc, "file ")?;
-    put_quoted(&mut line, name.as_bytes())?;
-    line.push_str(": a library: take its modules out with omf-lib get\n")?;
-    streams.report(alloc, line.as_bytes())?;
-    Ok(Status::Refused)
-}
-
 /// Writes the lowered modules of a file, or the line of its first fault. Returns the status.
 fn write_lowered<K: Sink, E: Sink>(
     rt: &HostRuntime,
@@ -101,8 +84,8 @@ fn write_lowered<K: Sink, E: Sink>(
     names: Names<'_>,
     streams: &mut Streams<K, E>,
 ) -> Result<Status, AllocError> {
-    if bytes.first() == Some(&LIBRARY_HEADER) {
-        return refuse_library(rt.alloc(), names.input, streams);
+    if is_library(bytes) {
+        return refuse_library(rt.alloc(), names.input, GET, streams);
     }
     match lowered_file(rt.alloc(), bytes) {
         Ok(out) => write_or_tell(rt, lowered_bytes(&out, names.output), None, streams),

@@ -1,5 +1,6 @@
 //! The task `map` for files: those that are refused are left out, and each module has a line with its file.
 
+use crate::libraries::{JOIN, is_library, refuse_library};
 use omf_check::Profile;
 use omf_drafting::host::{read_or_tell, tell_fault};
 use omf_frame::Sink;
@@ -9,6 +10,7 @@ use omf_linker::link::Output;
 use omf_linking::{InputFile, LinkFault, file_modules};
 use std::alloc::{AllocError, Global};
 use std::fmt::Write;
+use std::str::from_utf8;
 
 /// The files that are not refused.
 #[derive(Drop)]
@@ -27,6 +29,17 @@ fn fault_of(alloc: Global, file: &InputFile, fault: LinkFault) -> FilesFault {
     match file_front(alloc, file.name()) {
         Ok(front) => FilesFault::File { fault, front },
         Err(AllocError) => FilesFault::Link(ImageFault::Link(LinkFault::Memory)),
+    }
+}
+
+/// The number of the modules of a file.
+fn count_of(alloc: Global, bytes: &[u8]) -> Result<usize, LinkFault> {
+    let profile = Profile {
+        refuse_vendor_comments: false,
+    };
+    match file_modules(alloc, profile, bytes) {
+        Ok(modules) => Ok(modules.len()),
+        Err(fault) => Err(fault),
     }
 }
 
@@ -50,12 +63,15 @@ impl Kept {
         file: InputFile,
         streams: &mut Streams<K, E>,
     ) -> Result<(), AllocError> {
-        let profile = Profile {
-            refuse_vendor_comments: false,
-        };
-        match file_modules(rt.alloc(), profile, file.bytes()) {
-            Ok(own) => {
-                self.add_lines(rt.alloc(), file.name(), own.len())?;
+        if is_library(file.bytes()) {
+            self.status = self.status.worst(Status::Refused);
+            let name = from_utf8(file.name()).unwrap_or("");
+            refuse_library(rt.alloc(), name, JOIN, streams)?;
+            return Ok(());
+        }
+        match count_of(rt.alloc(), file.bytes()) {
+            Ok(count) => {
+                self.add_lines(rt.alloc(), file.name(), count)?;
                 Ok(self.files.push(file)?)
             }
             Err(LinkFault::Memory) => Err(AllocError),
