@@ -3,8 +3,7 @@
 #
 # A PROGRAM is NAME=FILE: its name in bin/, and the proved program. LIBRARIES is the folder of libomf.a and libomf.so (build), PAGE the page
 # (build/omf.html), TO the folder of the tar (build). dist/GATE is packed if it is of these sources: dist/gate.sh writes it.
-# The same sources give the same bytes, with the kit and Python and xz of Debian 12: names are sorted, times are 0, the owner is 0, and nothing is
-# compressed twice.
+# The same sources give the same bytes, with the kit and Python and xz of Debian 12: names are sorted, times are 0, the owner is 0.
 set -euo pipefail
 cd "$(dirname "$0")/.."
 version=$(cat VERSION)

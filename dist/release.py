@@ -14,7 +14,7 @@ TEXT = """**Without the kit**: `tar xf dist/{name}.tar.xz` gives programs, man p
 
 
 def main(name, sums):
-    text = README.read_text(encoding="utf-8").replace(" There is no binary release yet.", "")
+    text = README.read_text(encoding="utf-8")
     text, count = re.subn(r"^\*\*Without the kit\*\*.*?\n(?=\n(?!```)[^\n])", lambda _: TEXT.format(name=name, sums=sums.rstrip()), text, flags=re.M | re.S)
     if count != 1:
         sys.exit(f"README.md has {count} paragraphs \"Without the kit\"")

@@ -1,7 +1,7 @@
 #!/usr/bin/env bash
 # The release in dist/: release.sh make | compare. `make dist` made the package in build/ and the page before, from the proved programs.
 #
-# All of a release: `.ci/run | tee build/gate.log`, `dist/gate.sh build/gate.log`, `make dist`, `dist/release.sh make`, `make release`, and the commit
+# All of a release: `mkdir -p build; .ci/run | tee build/gate.log`, `dist/gate.sh build/gate.log`, `make dist`, `dist/release.sh make`, `make release`, and the commit
 # of dist/ and README.md. A change of a source (dist/sources.py --list) after `make dist` needs it anew.
 #
 # make      copies both to dist/, and writes their SHA-256 and how to unpack them into README.md, in the place of its paragraph "Without the kit".
@@ -20,6 +20,7 @@ page=${PAGE:-build/omf.html}
 
 make_release() {
     grep -q 'The programs were proved before\.' "$page" || { echo "$page is not of proved programs" >&2; exit 1; }
+    ! tar -xOf "build/$tar" "$name/GATE" | grep -q '^no run' || { echo "build/$tar names no run of the gate: dist/gate.sh LOG, make dist" >&2; exit 1; }
     cp "build/$tar" "$page" dist/
     (cd dist && sha256sum "$tar" omf.html) | sed 's|  |  dist/|' | dist/release.py "$name"
 }

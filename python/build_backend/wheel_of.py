@@ -23,7 +23,7 @@ def _line(path, data):
 
 def _files(kind):
     files = {}
-    for name in sorted(os.listdir(NAME)):
+    for name in ("__init__.py", "libomf.so", "py.typed"):
         path = os.path.join(NAME, name)
         if os.path.isfile(path):
             with open(path, "rb") as file:
