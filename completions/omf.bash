@@ -2,7 +2,7 @@
 
 _omf() {
     local task=${COMP_WORDS[1]} before=${COMP_WORDS[COMP_CWORD-1]} current=${COMP_WORDS[COMP_CWORD]} words=
-    if [ "$COMP_CWORD" -eq 1 ]; then COMPREPLY=($(compgen -W "list check reloc canon --help --version" -- "$current")); return; fi
+    if [ "$COMP_CWORD" -eq 1 ]; then COMPREPLY=($(compgen -W "list check reloc canon" -- "$current")); return; fi
     case "$task $before" in
     esac
     [[ $current == -* ]] || return
@@ -131,7 +131,7 @@ _omf_link() {
         'hex') words="--addresses --allow --ignore-case -t -o";;
         'srec') words="--addresses --allow --ignore-case -t -o";;
         'draft') words="--base --real --flat --ignore-case -o";;
-        'join') words="-o --order -L --library-path --no-default-libraries --no-default-library --ignore-case --keep-debug --eliminate";;
+        'join') words="-o --order -L --library-path --no-default-libraries --no-default-library --ignore-case --keep-debug";;
         'lower') words="-o";;
     esac
     COMPREPLY=($(compgen -W "$words" -- "$current"))

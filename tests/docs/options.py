@@ -13,7 +13,9 @@ from tree import ROOT, code_files, crates
 
 FOLDER = ROOT / "completions"
 ABOUT = "made by tests/docs.py options from the usage texts of the programs"
-ALWAYS = [("--help", "", "how to call it"), ("--version", "", "the version")]
+QUESTIONS = [("--help", "", "how to call it"), ("--version", "", "the version")]
+# The options of each program that may be given several times, with other values: the usage shows `[--option WORD ..]`.
+REPEATED = set()
 TRIES = {"omf-link exe --ord": "--order", "omf-link exe --allow tw": "twice", "omf-lib ch": "check", "omf-find --symbols gh": "ghidra", "omf re": "reloc"}
 
 
@@ -38,7 +40,12 @@ def meaning(text, option):
         return ""
     words = re.sub(r"\s+", " ", line[1]).strip()
     words = re.sub(r"^(?:--)?\S+ [A-Z|0-9]+ (?=[a-z])", "", words)
-    return re.split(r"[;(]", re.sub(r"^(?:[a-z]+(?:, | or )?)+: ", "", words))[0].strip().rstrip(".")
+    return re.split(r"[;(]|, for ", re.sub(r"^(?:[a-z]+(?:, | or )?)+: ", "", words))[0].strip().rstrip(".")
+
+
+def always(program):
+    """The options that each task has; none of omf."""
+    return [] if program == "omf" else QUESTIONS
 
 
 def options_of(text, line):
@@ -58,6 +65,7 @@ def table():
         for line in usage.split("\n"):
             head = re.match(rf"\s*{re.escape(program)} ((?:[a-z]+\|?)+)?", line)
             if head:
+                REPEATED.update((program, it) for it in re.findall(r"\[(--?[a-zA-Z-]+) [^]]* \.\.\]", line))
                 for task in (head[1] or "").split("|"):
                     tasks.setdefault(task, []).extend(it for it in options_of(text, line[head.end():]) if it not in tasks.get(task, []))
         programs[program] = tasks
@@ -76,7 +84,7 @@ def bash(programs):
         name = "_" + program.replace("-", "_")
         lines += [f"{name}() {{", '    local task=${COMP_WORDS[1]} before=${COMP_WORDS[COMP_CWORD-1]} current=${COMP_WORDS[COMP_CWORD]} words=']
         if "" not in tasks:
-            first = " ".join([*tasks, *(it for it, _, _ in ALWAYS)])
+            first = " ".join([*tasks, *(it for it, _, _ in always(program))])
             lines.append(f'    if [ "$COMP_CWORD" -eq 1 ]; then COMPREPLY=($(compgen -W "{first}" -- "$current")); return; fi')
         lines.append('    case "$task $before" in' if "" not in tasks else '    case "$before" in')
         for task, options in tasks.items():
@@ -87,7 +95,7 @@ def bash(programs):
         lines += ["    esac", '    [[ $current == -* ]] || return']
         lines.append('    case "$task" in' if "" not in tasks else "    case '' in")
         for task, options in tasks.items():
-            names = " ".join([it for it, _, _ in options] + ([it for it, _, _ in ALWAYS] if not task else []))
+            names = " ".join([it for it, _, _ in options] + ([it for it, _, _ in always(program)] if not task else []))
             lines.append(f"        '{task}') words=\"{names}\";;")
         lines += ["    esac", '    COMPREPLY=($(compgen -W "$words" -- "$current"))', "}", f"complete -o default -o bashdefault -F {name} {program}", ""]
     return "\n".join(lines)
@@ -100,13 +108,13 @@ def escaped(text, mark="'"):
 def zsh(programs):
     """Completions for zsh."""
     lines = ["#compdef " + " ".join(programs), f"# Completions for zsh, {ABOUT}.", ""]
-    spec = lambda option, word, says: f"'{option}[{escaped(says or option).replace('[', '(').replace(']', ')')}]" + (f":{word.lower() if '|' not in word else 'value'}:" + (f"({values(word)})" if values(word) else "_files") if word else "") + "'"
+    spec = lambda option, word, says: f"'{'*' * ((program, option) in REPEATED)}{option}[{escaped(says or option).replace('[', '(').replace(']', ')')}]" + (f":{word.lower() if '|' not in word else 'value'}:" + (f"({values(word)})" if values(word) else "_files") if word else "") + "'"
     lines.append("case $service in")
     for program, tasks in programs.items():
         if "" in tasks:
-            lines.append(f"    {program}) _arguments {' '.join(spec(*it) for it in [*tasks[''], *ALWAYS])} '*:file:_files';;")
+            lines.append(f"    {program}) _arguments {' '.join(spec(*it) for it in [*tasks[''], *always(program)])} '*:file:_files';;")
             continue
-        lines += [f"    {program})", "        if (( CURRENT == 2 )); then", f"            _values 'task' {' '.join(tasks)} --help --version", "            return", "        fi", "        local task=$words[2]; shift words; (( CURRENT-- ))", "        case $task in"]
+        lines += [f"    {program})", "        if (( CURRENT == 2 )); then", f"            _values 'task' {' '.join([*tasks, *(it for it, _, _ in always(program))])}", "            return", "        fi", "        local task=$words[2]; shift words; (( CURRENT-- ))", "        case $task in"]
         lines += [f"            {task}) _arguments {' '.join(spec(*it) for it in options)} '*:file:_files';;" for task, options in tasks.items()]
         lines += ["        esac;;"]
     return "\n".join([*lines, "esac", ""])
@@ -124,7 +132,7 @@ def fish(programs):
                 flag = f"-l {option[2:]}" if option.startswith("--") else f"-s {option[1:]}"
                 takes = f" -x -a '{values(word)}'" if values(word) else " -r" if word else ""
                 lines.append(f"complete -c {program}{here} {flag}{takes}" + (f" -d '{escaped(says)}'" if says else ""))
-        lines += [f"complete -c {program} -l {it[2:]} -d '{says}'" for it, _, says in ALWAYS] + [""]
+        lines += [f"complete -c {program} -l {it[2:]} -d '{says}'" for it, _, says in always(program)] + [""]
     return "\n".join(lines)
 
 
@@ -155,7 +163,7 @@ def synopsis(page):
 
 def differences(program, tasks, page):
     """Where the SYNOPSIS of a man page has other tasks or options than the usage."""
-    always = {it for it, _, _ in ALWAYS}
+    always = {it for it, _, _ in QUESTIONS}
     found = {task: options - always for task, options in synopsis(page).items() if task in tasks or options - always}
     wanted = {task: {it for it, _, _ in options} for task, options in tasks.items()}
     for task in sorted(found.keys() | wanted.keys()):
@@ -179,7 +187,7 @@ def faults():
         yield from differences(program, tasks, page)
         page = re.sub(r"\bFl (?=\S)", "-", re.sub(r"\\f[A-Z]", " ", page)).replace("\\-", "-")
         known = {it for options in tasks.values() for it, _, _ in options}
-        for option in sorted(set(re.findall(r"(?<![\w-])--[a-z][a-z-]*", page)) - known - {it for it, _, _ in ALWAYS}):
+        for option in sorted(set(re.findall(r"(?<![\w-])--[a-z][a-z-]*", page)) - known - {it for it, _, _ in QUESTIONS}):
             yield f"man/{program}.1 names {option}, which no task has"
         for option in sorted(known):
             if not re.search(rf"(?<![\w-]){re.escape(option)}(?![\w-])", page):
