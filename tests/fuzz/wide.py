@@ -180,6 +180,8 @@ def is_lowered(bytes_):
     while at + FRONT <= len(bytes_):
         if bytes_[at] == COMDAT_EXTERNALS or bytes_[at] & 0xFE in (BACKPATCH, COMDAT):
             return True
+        if bytes_[at] & 0xFE == SEGMENT and bytes_[at + FRONT:at + FRONT + 1] >= b"\xC0":  # A = 6 and 7
+            return True
         at += FRONT + int.from_bytes(bytes_[at + 1:at + FRONT], "little")
     return False
 

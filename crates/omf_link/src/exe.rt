@@ -179,6 +179,34 @@ fn write_joined<K: Sink, E: Sink>(
     Ok(warn(rt.alloc(), streams, lines.as_bytes()))
 }
 
+/// Makes a program of the modules of files, and writes it. Nothing is written if it has a fault. Returns the status.
+fn make_program<K: Sink, E: Sink>(
+    rt: &HostRuntime,
+    program: ProgramFiles,
+    job: Job<'_, '_>,
+    missing: &[Missing],
+    streams: &mut Streams<K, E>,
+) -> Result<Status, AllocError> {
+    match program.make(rt.alloc(), job.options, Leftovers::Left) {
+        Ok(made) => write_program(rt, &made, job.output, streams),
+        Err(refusal) => refuse(rt, &refusal, missing, streams),
+    }
+}
+
+/// Writes the modules of files in one file. Nothing is written if they have a fault. Returns the status.
+fn join_modules<K: Sink, E: Sink>(
+    rt: &HostRuntime,
+    program: ProgramFiles,
+    job: Job<'_, '_>,
+    missing: &[Missing],
+    streams: &mut Streams<K, E>,
+) -> Result<Status, AllocError> {
+    match program.join(rt.alloc(), job.options) {
+        Ok(bytes) => write_joined(rt, &bytes, job.output.name, missing, streams),
+        Err(refusal) => refuse(rt, &refusal, missing, streams),
+    }
+}
+
 /// Makes what is asked for of the modules of files, and writes it. Nothing is written if it has a fault. Returns the status.
 fn on_program<K: Sink, E: Sink>(
     rt: &HostRuntime,
@@ -188,14 +216,8 @@ fn on_program<K: Sink, E: Sink>(
     streams: &mut Streams<K, E>,
 ) -> Result<Status, AllocError> {
     match job.product {
-        Product::Program(_) => match program.make(rt.alloc(), job.options, Leftovers::Left) {
-            Ok(made) => write_program(rt, &made, job.output, streams),
-            Err(refusal) => refuse(rt, &refusal, missing, streams),
-        },
-        Product::Modules => match program.join(rt.alloc(), job.options) {
-            Ok(bytes) => write_joined(rt, &bytes, job.output.name, missing, streams),
-            Err(refusal) => refuse(rt, &refusal, missing, streams),
-        },
+        Product::Program(_) => make_program(rt, program, job, missing, streams),
+        Product::Modules => join_modules(rt, program, job, missing, streams),
     }
 }
 

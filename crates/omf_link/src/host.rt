@@ -431,6 +431,38 @@ fn makes_program(words: &[String]) -> bool {
     }
 }
 
+/// Does a task that is no program for DOS, in this manner. Returns the status.
+fn on_manner<K: Sink, E: Sink>(
+    rt: &HostRuntime,
+    asked: &Asked,
+    manner: Manner,
+    streams: &mut Streams<K, E>,
+) -> Result<Status, AllocError> {
+    let looks = is_looked_at(manner.task);
+    let on_input_alone = is_on_input(asked);
+    let has_no_text = matches!(manner.task, Task::Draft(_)) && asked.text.is_some();
+    let has_no_file = !on_input_alone && asked.files.is_empty();
+    if has_no_text || has_no_file || (manner.allowed.has_any() && !looks) {
+        return misused_by(rt, streams, &ABOUT);
+    }
+    if on_input_alone && asked.output.is_none() && !looks && !manner.ignores_case {
+        return perform_on_input::<Link, _, _>(rt, manner.task, streams);
+    }
+    on_files(rt, manner, asked, streams)
+}
+
+/// Writes that the arguments are not understood, unless memory ran out. Returns the status.
+fn misused_unless_failed<K, E: Sink>(
+    rt: &HostRuntime,
+    task: Result<Option<Task>, AllocError>,
+    streams: &mut Streams<K, E>,
+) -> Result<Status, AllocError> {
+    match task {
+        Ok(_) => misused_by(rt, streams, &ABOUT),
+        Err(AllocError) => Err(AllocError),
+    }
+}
+
 /// Does a task that is no program for DOS. Returns the status.
 fn on_task<K: Sink, E: Sink>(
     rt: &HostRuntime,
@@ -440,25 +472,17 @@ fn on_task<K: Sink, E: Sink>(
 ) -> Result<Status, AllocError> {
     let cased = case_in(rt.alloc(), asked.words.as_slice())?;
     let ignores_case = cased.ignores_case;
-    let Some(task) = task_of(rt.alloc(), cased.words.as_slice())? else {
-        return misused_by(rt, streams, &ABOUT);
-    };
-    let looks = is_looked_at(task);
-    let on_input_alone = is_on_input(asked);
-    let has_no_text = matches!(task, Task::Draft(_)) && asked.text.is_some();
-    let has_no_file = !on_input_alone && asked.files.is_empty();
-    if has_no_text || has_no_file || (allowed.has_any() && !looks) {
-        return misused_by(rt, streams, &ABOUT);
+    match task_of(rt.alloc(), cased.words.as_slice()) {
+        Ok(Some(task)) => {
+            let manner = Manner {
+                task,
+                allowed,
+                ignores_case,
+            };
+            on_manner(rt, asked, manner, streams)
+        }
+        task => misused_unless_failed(rt, task, streams),
     }
-    if on_input_alone && asked.output.is_none() && !looks && !ignores_case {
-        return perform_on_input::<Link, _, _>(rt, task, streams);
-    }
-    let manner = Manner {
-        task,
-        allowed,
-        ignores_case,
-    };
-    on_files(rt, manner, asked, streams)
 }
 
 /// Does what arguments ask for, which have no option `--allow`. Returns the status.
@@ -475,27 +499,45 @@ fn on_words<K: Sink, E: Sink>(
     on_task(rt, &asked, allowed, streams)
 }
 
+/// Does what arguments ask for that name no program for DOS. Returns the status.
+fn with_allowed<K: Sink, E: Sink>(
+    rt: &HostRuntime,
+    words: &[String],
+    streams: &mut Streams<K, E>,
+) -> Result<Status, AllocError> {
+    match allowed_in(rt.alloc(), words)? {
+        Some((allowed, words)) => on_words(rt, &words, allowed, streams),
+        None => misused_by(rt, streams, &ABOUT),
+    }
+}
+
+/// Does what arguments ask for. Returns the status.
+fn on_arguments<K: Sink, E: Sink>(
+    rt: &HostRuntime,
+    words: &[String],
+    streams: &mut Streams<K, E>,
+) -> Result<Status, AllocError> {
+    if let Some(question) = question_with_tasks(words.get(1..).unwrap_or(&[])) {
+        return explain(rt.alloc(), &mut streams.output, question, &ABOUT);
+    }
+    if makes_program(words) {
+        return exe::on_words(rt, words, streams);
+    }
+    if lowering::is_asked(words) {
+        return lowering::on_words(rt, words, streams);
+    }
+    with_allowed(rt, words, streams)
+}
+
 /// Does what the arguments ask for. Returns the status.
 fn act<K: Sink, E: Sink>(
     rt: &HostRuntime,
     streams: &mut Streams<K, E>,
 ) -> Result<Status, AllocError> {
     let about = &ABOUT;
-    let Some(words) = program_and_arguments(rt, about.usage)? else {
-        return misused_by(rt, streams, about);
-    };
-    if let Some(question) = question_with_tasks(words.get(1..).unwrap_or(&[])) {
-        return explain(rt.alloc(), &mut streams.output, question, &ABOUT);
-    }
-    if makes_program(&words) {
-        return exe::on_words(rt, &words, streams);
-    }
-    if lowering::is_asked(&words) {
-        return lowering::on_words(rt, &words, streams);
-    }
-    match allowed_in(rt.alloc(), &words)? {
-        Some((allowed, words)) => on_words(rt, &words, allowed, streams),
-        None => misused_by(rt, streams, &ABOUT),
+    match program_and_arguments(rt, about.usage)? {
+        Some(words) => on_arguments(rt, &words, streams),
+        None => misused_by(rt, streams, about),
     }
 }
 

@@ -94,6 +94,49 @@ fn write_lowered<K: Sink, E: Sink>(
     }
 }
 
+/// Reads the file, and writes its lowered modules. Returns the status.
+fn lower<K: Sink, E: Sink>(
+    rt: &HostRuntime,
+    names: Names<'_>,
+    streams: &mut Streams<K, E>,
+) -> Result<Status, AllocError> {
+    match read_or_tell(rt, names.input, streams)? {
+        Some(bytes) => write_lowered(rt, &bytes, names, streams),
+        None => Ok(Status::Failed),
+    }
+}
+
+/// The same, unless the output is the input. Returns the status.
+fn on_names<'a, K: Sink, E: Sink>(
+    rt: &HostRuntime,
+    inputs: &'a [String],
+    names: Names<'a>,
+    streams: &mut Streams<K, E>,
+) -> Result<Status, AllocError> {
+    let files = RunFiles {
+        inputs,
+        text: None,
+        output: names.output,
+        second: None,
+    };
+    match refuse_clash(rt, streams, files)? {
+        Some(status) => Ok(status),
+        None => lower(rt, names, streams),
+    }
+}
+
+/// Does what sorted arguments ask for. Returns the status.
+fn on_asked<K: Sink, E: Sink>(
+    rt: &HostRuntime,
+    asked: &Asked,
+    streams: &mut Streams<K, E>,
+) -> Result<Status, AllocError> {
+    match names_of(asked) {
+        Some(names) => on_names(rt, &asked.files, names, streams),
+        None => misused_by(rt, streams, &ABOUT),
+    }
+}
+
 /// Does what arguments ask for. Returns the status.
 pub(crate) fn on_words<K: Sink, E: Sink>(
     rt: &HostRuntime,
@@ -104,20 +147,5 @@ pub(crate) fn on_words<K: Sink, E: Sink>(
         return misused_by(rt, streams, &ABOUT);
     };
     asked.files = object_files(rt, &asked.files)?;
-    let Some(names) = names_of(&asked) else {
-        return misused_by(rt, streams, &ABOUT);
-    };
-    let files = RunFiles {
-        inputs: &asked.files,
-        text: None,
-        output: names.output,
-        second: None,
-    };
-    if let Some(status) = refuse_clash(rt, streams, files)? {
-        return Ok(status);
-    }
-    let Some(bytes) = read_or_tell(rt, names.input, streams)? else {
-        return Ok(Status::Failed);
-    };
-    write_lowered(rt, &bytes, names, streams)
+    on_asked(rt, &asked, streams)
 }
