@@ -15,7 +15,7 @@ use Rattle.omf_output.specs.declared.exe.fault.ExeFault.TheVariants as fault
 use Rattle.omf_output.specs.declared.exe.room.Stack.{Stack}
 use Rattle.omf_output.specs.Exe.Based.{Holds, IsBased, is_movable, segments_moving}
 use Rattle.omf_output.specs.Exe.Linked.{code, in_16_bits, in_registers, is_main, main_start, ok_or, one_start, stack_at, starts}
-use Rattle.omf_output.specs.Exe.Members.{Member, Portion, all_moving, is_stack, joined, member_at, moving, portion, portion_of, portions, portions_in, segdefs, segdefs_in, stack}
+use Rattle.omf_output.specs.Exe.Members.{Member, Portion, all_moving, is_stack, joined, lower, member_at, moving, of_parts, portion, portion_of, portions, portions_in, segdefs, segdefs_in, stack}
 use Rattle.omf_output.specs.Exe.Memory.{ModuleMoves, moved_start}
 use Rattle.omf_output.specs.Exe.Moved.{moved, moved_frame, moved_place, where_moving}
 use Rattle.omf_output.proofs.MainLaws.{main-starts}
@@ -115,7 +115,7 @@ module _ (k : ℕ) where
   -- ---- the stack
 
   abbrev moved_stack : Stack → Stack
-  moved_stack s = record { frame = moved_frame k s.frame; end = s.end + 16 * k }
+  moved_stack s = record { frame = moved_frame k s.frame; first = s.first + 16 * k; end = s.end + 16 * k }
 
   max-shift : (n : ℕ) (ps : List Portion) → fold max (n + 16 * k) (map (λ p. p.end) (map moved_portion ps)) ≡ fold max n (map (λ p. p.end) ps) + 16 * k
   max-shift n [] = refl
@@ -132,9 +132,22 @@ module _ (k : ℕ) where
       by true e = ap (λ xs. moved_portion p ∷ xs) e
       by false e = e
 
+  lt-shift : (a b d : ℕ) → nat_lt (a + d) (b + d) ≡ nat_lt a b
+  lt-shift a b d = grind arith
+
+  lower-moves : (l : Portion) (ps : List Portion) → fold lower (moved_portion l) (map moved_portion ps) ≡ moved_portion (fold lower l ps)
+  lower-moves l [] = refl
+  lower-moves l (p ∷ ps) =
+      ap (λ x. fold lower x (map moved_portion ps)) (ap (λ b. cond b (moved_portion p) (moved_portion l)) (lt-shift p.place.address l.place.address (16 * k)) ∙ by (nat_lt p.place.address l.place.address))
+      ∙ lower-moves (lower l p) ps
+    where
+      by : (b : Bool) → cond b (moved_portion p) (moved_portion l) ≡ moved_portion (cond b p l)
+      by true = refl
+      by false = refl
+
   joined-moves : (ps : List Portion) → joined (map moved_portion ps) ≡ option_map moved_stack (joined ps)
   joined-moves [] = refl
-  joined-moves (p ∷ ps) = ap (λ n. Some (record { frame = moved_frame k p.place.frame; end = n })) (max-shift p.end ps)
+  joined-moves (p ∷ ps) = ap₂ (λ (l : Portion) n. Some (of_parts l n)) (lower-moves p ps) (max-shift p.end ps)
 
   stacks-move : (ms : List Member) → All IsBased ms → stack (portions (at_k ms)) ≡ option_map moved_stack (stack (portions ms))
   stacks-move ms h = ap stack (portions-move ms h) ∙ ap joined (filter-moves (portions ms)) ∙ joined-moves (filter (λ p. p.is_stack) (portions ms))

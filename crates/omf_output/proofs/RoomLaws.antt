@@ -1,6 +1,6 @@
 -- The memory that segments take, one segment after the other.
 use Rattle.std.proofs.Common.{◌≡◌, ℕ, ◌+◌, ◌⊎◌, ◌<◌, ◌≤◌, List, [], ◌∷◌, Bool, true, false, cond, map, max, min, refl, sym, ◌∙◌, ap, ⊎_elim, inl, inr, arith}
-use Rattle.std.specs.Prelude.{Option, Some, None, filter, filter_map, fold, not, sum_by, zip}
+use Rattle.std.specs.Prelude.{Option, Some, None, filter, filter_map, fold, nat_lt, not, sum_by, zip}
 use Rattle.std.proofs.Math.Nat.{min-eq_left, min-eq_right}
 use Rattle.std.proofs.lemmas.Bool.{cases_lt}
 use Rattle.std.proofs.lemmas.List.Sums.{fold-append}
@@ -9,15 +9,26 @@ use Rattle.omf_placement.specs.declared.frame.Placed.{Placed}
 use Rattle.omf_output.specs.declared.exe.room.Stack.{Stack}
 use Rattle.omf_output.specs.Inner.Rooms.{Room, no_room, with_portion, with_stack}
 use Rattle.omf_output.specs.Exe.Com.{size_of, without_stack}
-use Rattle.omf_output.specs.Exe.Members.{Member, Portion, joined, portion, portions, portions_in}
+use Rattle.omf_output.specs.Exe.Members.{Member, Portion, joined, lower, of_parts, portion, portions, portions_in}
 
-abbrev stack_then : Option Stack → List Portion → Option Stack
-stack_then None ps = joined ps
-stack_then (Some s) ps = Some (record { frame = s.frame; end = fold max s.end (map (λ p. p.end) ps) })
+abbrev grown : Option Stack → Portion → Option Stack
+grown o p = Some (with_stack o p)
 
-stack-more : (o : Option Stack) (p : Portion) (ps : List Portion) → stack_then (Some (with_stack o p)) ps ≡ stack_then o (p ∷ ps)
-stack-more None p ps = refl
-stack-more (Some s) p ps = refl
+-- One part more is the lowest so far, or is not.
+part-more : (l : Portion) (n : ℕ) (p : Portion) → with_stack (Some (of_parts l n)) p ≡ of_parts (lower l p) (max n p.end)
+part-more l n p = by (nat_lt p.place.address l.place.address)
+  where
+    by : (b : Bool) → cond b (of_parts p (max n p.end)) (of_parts l (max n p.end)) ≡ of_parts (cond b p l) (max n p.end)
+    by true = refl
+    by false = refl
+
+parts-grown : (l : Portion) (n : ℕ) (ps : List Portion) → fold grown (Some (of_parts l n)) ps ≡ Some (of_parts (fold lower l ps) (fold max n (map (λ p. p.end) ps)))
+parts-grown l n [] = refl
+parts-grown l n (p ∷ ps) = ap (λ s. fold grown (Some s) ps) (part-more l n p) ∙ parts-grown (lower l p) (max n p.end) ps
+
+stack-joined : (ps : List Portion) → fold grown None ps ≡ joined ps
+stack-joined [] = refl
+stack-joined (p ∷ ps) = parts-grown p p.end ps
 
 pub ends-fold : (room : Room) (ps : List Portion) → (fold with_portion room ps).end ≡ fold max room.end (map (λ p. p.end) ps)
 ends-fold room [] = refl
@@ -32,18 +43,17 @@ own-fold room (p ∷ ps) = own-fold (with_portion room p) ps ∙ by p.is_stack
     by true = refl
     by false = refl
 
-pub stack-fold : (room : Room) (ps : List Portion) → (fold with_portion room ps).stack ≡ stack_then room.stack (filter (λ p. p.is_stack) ps)
-stack-fold room [] = by room.stack
-  where
-    by : (o : Option Stack) → o ≡ stack_then o []
-    by None = refl
-    by (Some s) = refl
+stack-fold : (room : Room) (ps : List Portion) → (fold with_portion room ps).stack ≡ fold grown room.stack (filter (λ p. p.is_stack) ps)
+stack-fold room [] = refl
 stack-fold room (p ∷ ps) = stack-fold (with_portion room p) ps ∙ by p.is_stack
   where
-    by : (b : Bool) → stack_then (cond b (Some (with_stack room.stack p)) room.stack) (filter (λ q. q.is_stack) ps)
-        ≡ stack_then room.stack (cond b (p ∷ filter (λ q. q.is_stack) ps) (filter (λ q. q.is_stack) ps))
-    by true = stack-more room.stack p (filter (λ q. q.is_stack) ps)
+    by : (b : Bool) → fold grown (cond b (Some (with_stack room.stack p)) room.stack) (filter (λ q. q.is_stack) ps)
+        ≡ fold grown room.stack (cond b (p ∷ filter (λ q. q.is_stack) ps) (filter (λ q. q.is_stack) ps))
+    by true = refl
     by false = refl
+
+pub stack-is : (ps : List Portion) → (fold with_portion no_room ps).stack ≡ joined (filter (λ p. p.is_stack) ps)
+stack-is ps = stack-fold no_room ps ∙ stack-joined (filter (λ p. p.is_stack) ps)
 
 abbrev stack_length : ℕ → Portion → ℕ
 stack_length n p = min (n + size_of p) 65536

@@ -1,4 +1,4 @@
--- Segments between the parts of a stack (this profile's rule). DOS has one stack, from the frame of its first segment to the end of its last one: what is
+-- Segments between the parts of a stack (this profile's rule). DOS has one stack, from the frame of its lowest segment to the end of its last one: what is
 -- between them is written over.
 use Rattle.std.specs.Prelude.{ℕ, ◌+◌, ◌==◌, ◌&&◌, List, max, min, not, nat_lt, find, filter, filter_map, flat_map, fold, Bool, Option, Some, None, option_and_then, is_some, if◌then◌else◌}
 use Rattle.std.specs.List.{enumerate_from}

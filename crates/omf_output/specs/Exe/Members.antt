@@ -1,5 +1,5 @@
 -- The modules of a program: where their segments end, their stack and their start.
-use Rattle.std.specs.Prelude.{ℕ, ◌+◌, List, [], ◌∷◌, map, max, filter, filter_map, flat_map, fold, zip, Bool, ◌==◌, Option, Some, None}
+use Rattle.std.specs.Prelude.{ℕ, ◌+◌, List, [], ◌∷◌, map, max, filter, filter_map, flat_map, fold, zip, Bool, ◌==◌, nat_lt, Option, Some, None, if◌then◌else◌}
 use Rattle.omf_records.specs.Values.{Contents, Rec, Segment, SegmentItem, combination}
 use Rattle.omf_check.specs.Module.{recs_of}
 use Rattle.omf_check.specs.Tables.{segment_length}
@@ -61,10 +61,17 @@ portions ms = flat_map portions_in ms
 abbrev pub memory_end : List Portion → ℕ
 memory_end ps = fold max 0 (map (λ p. p.end) ps)
 
--- The stack: the frame of its first segment, and the first address after all of its segments.
+-- Of two segments the one that begins lower; the first if they begin at one address.
+abbrev pub lower : Portion → Portion → Portion
+lower p q = if nat_lt q.place.address p.place.address then q else p
+
+-- The stack: the address and the frame of its lowest segment, and the first address after all of its segments.
+abbrev pub of_parts : Portion → ℕ → Stack
+of_parts lowest end = record { frame = lowest.place.frame; first = lowest.place.address; end = end }
+
 abbrev pub joined : List Portion → Option Stack
 joined [] = None
-joined (p ∷ ps) = Some (record { frame = p.place.frame; end = fold max p.end (map (λ q. q.end) ps) })
+joined (p ∷ ps) = Some (of_parts (fold lower p ps) (fold max p.end (map (λ q. q.end) ps)))
 
 abbrev pub stack : List Portion → Option Stack
 stack ps = joined (filter (λ p. p.is_stack) ps)

@@ -1,5 +1,5 @@
 -- Words of the worked examples.
-use Rattle.std.specs.Prelude.{ℕ, ◌+◌, List, [], ◌∷◌, ◌++◌, Bool, true, false, Some, None, codes}
+use Rattle.std.specs.Prelude.{ℕ, ◌+◌, ◌/◌, List, [], ◌∷◌, ◌++◌, Bool, true, false, Some, None, codes}
 use Rattle.omf_records.specs.Values.{At, Rec, Names, Segment, Group, Comment, Externs, Publics, Plain, Iterated, Fixups, ModEnd, Fixup, SegmentItem}
 use Rattle.omf_check.specs.declared.method.FrameMethod.{FrameMethod}
 use Rattle.omf_check.specs.declared.method.TargetMethod.{TargetMethod}
@@ -83,9 +83,9 @@ joined_in_a_group = joined_segments ++ record { kind = 0x9A; contents = Group (r
 abbrev pub two_apart_grouped : Places
 two_apart_grouped = record { segments = two_apart.segments; groups = record { base = 0; selector = 0 } ∷ []; externals = [] }
 
--- A segment of the stack, from an address on.
+-- A segment of the stack, from an address on, in the frame that begins there.
 abbrev pub stack_portion : ℕ → ℕ → Portion
-stack_portion address size = record { place = placed_at address 0 0; end = address + size; is_stack = true }
+stack_portion address size = record { place = placed_at address address (address / 16); end = address + size; is_stack = true }
 
 abbrev pub fixup : ℕ → FrameMethod → TargetMethod → ℕ × PlainFixup
 fixup locat frame target = (0x9C, record { locat = locat; reference = record { frame = frame; target = target; displacement = 0 } })

@@ -1,6 +1,6 @@
 -- The memory that segments take, one segment after the other.
-use Rattle.std.specs.Prelude.{ℕ, ◌+◌, ◌-◌, max, min, Option, Some, None, if◌then◌else◌}
-use Rattle.omf_output.specs.Exe.Members.{Portion}
+use Rattle.std.specs.Prelude.{ℕ, ◌+◌, ◌-◌, max, min, nat_lt, Option, Some, None, if◌then◌else◌}
+use Rattle.omf_output.specs.Exe.Members.{Portion, of_parts}
 use Rattle.omf_output.specs.declared.exe.room.Stack.{Stack}
 
 -- The first address after the segments so far; after those that are no part of the stack; the stack so far; and the bytes of its segments together, at most 65,536.
@@ -14,8 +14,8 @@ abbrev pub no_room : Room
 no_room = record { end = 0; own_end = 0; stack = None; stack_len = 0 }
 
 abbrev pub with_stack : Option Stack → Portion → Stack
-with_stack None p = record { frame = p.place.frame; end = p.end }
-with_stack (Some s) p = record { frame = s.frame; end = max s.end p.end }
+with_stack None p = of_parts p p.end
+with_stack (Some s) p = if nat_lt p.place.address s.first then of_parts p (max s.end p.end) else record s { end = max s.end p.end }
 
 abbrev pub with_portion : Room → Portion → Room
 with_portion room p = record {

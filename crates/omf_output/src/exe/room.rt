@@ -15,11 +15,13 @@ use omf_placement::{Frame, Placed};
 use omf_records::{Acbp, Combination, Segment};
 use std::marker::Model;
 
-/// A stack: the frame of its first segment, and the first address after all of its segments.
+/// A stack: where its lowest segment is, and the first address after all of its segments.
 #[derive(Clone, Copy, Debug, PartialEq, Eq)]
 pub struct Stack {
-    /// The frame.
+    /// The frame of its lowest segment.
     pub frame: Frame,
+    /// The address of its first byte.
+    pub first: u64,
     /// The first address after the stack.
     pub end: u64,
 }
@@ -76,15 +78,25 @@ fn is_stack(attribute: Acbp) -> bool
 }
 
 /// The stack with one more of its segments.
-fn with_stack(stack: Option<Stack>, frame: Frame, end: u64) -> Stack
-    ensures { (place : Placed) → place.frame ≡ frame → result ≡ with_stack stack (record { place = place; end = end; is_stack = true }) }
+fn with_stack(stack: Option<Stack>, place: Placed, end: u64) -> Stack
+    ensures { result ≡ with_stack stack (record { place = place; end = end; is_stack = true }) }
 {
+    let first = u64::from(place.address);
     match stack {
-        Some(stack) => Stack {
-            frame: stack.frame,
+        Some(stack) if first >= stack.first => Stack {
             end: stack.end.max(end),
+            ..stack
         },
-        None => Stack { frame, end },
+        Some(Stack { end: before, .. }) => Stack {
+            frame: place.frame,
+            first,
+            end: before.max(end),
+        },
+        None => Stack {
+            frame: place.frame,
+            first,
+            end,
+        },
     }
 }
 
@@ -120,7 +132,7 @@ impl Room {
         let end = u64::from(place.address) + length;
         let is_stack = is_stack(segment.attribute);
         let stack = if is_stack {
-            Some(with_stack(self.stack, place.frame, end))
+            Some(with_stack(self.stack, place, end))
         } else {
             self.stack
         };

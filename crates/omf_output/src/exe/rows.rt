@@ -8,6 +8,8 @@ ghost use Rattle.omf_reloc.specs.Image.{start};
 ghost use Rattle.omf_output.specs.declared.exe.com_fault.ComFault.TheVariants as com_fault;
 ghost use Rattle.omf_output.specs.Exe.Com.{com_loaded, counts_apart, first_fixup, first_low, is_low, piece_fault, stack_bytes, start_fault};
 ghost use Rattle.omf_output.specs.Exe.Exe.{exe};
+ghost use Rattle.omf_output.specs.Exe.Linked.{in_registers};
+ghost use Rattle.omf_output.specs.Exe.Members.{joined};
 ghost use Rattle.omf_output.specs.Exe.Memory.{IsProgram, program};
 ghost use Rattle.omf_output.specs.Exe.Judged.{pieces_move};
 ghost use Rattle.omf_reloc.specs.Plain.{Fixed, pieces};
@@ -89,6 +91,12 @@ pub fn stack_of_a_com_program()
     ensures two { stack_bytes (stack_portion 0x100 512 ∷ stack_portion 0x300 1024 ∷ []) ≡ 1536 }
     ensures large { stack_bytes (stack_portion 0 65536 ∷ stack_portion 0 65536 ∷ []) ≡ 65536 }
     ensures one_over { stack_bytes (stack_portion 0 65535 ∷ stack_portion 0 2 ∷ stack_portion 0 1 ∷ []) ≡ 65536 }
+{}
+
+/// SS:SP of a stack in two classes, whose later part is lower: from the frame of that part, 0020H, to the end of the other, 400H.
+pub fn stack_with_a_lower_part()
+    ensures later { in_registers (joined (stack_portion 0x300 0x100 ∷ stack_portion 0x200 0x100 ∷ [])) ≡ Ok (0x20, 0x200) }
+    ensures first { in_registers (joined (stack_portion 0x200 0x100 ∷ stack_portion 0x300 0x100 ∷ [])) ≡ Ok (0x20, 0x200) }
 {}
 
 /// A near reference of a location in segment 2, at 40H, to segment 1, at 0, is into another frame, unless a group has both; the reverse is not. The group

@@ -2,7 +2,7 @@ use Rattle.std.proofs.Common.{◌+◌, ◌∙◌, ap, drop, max}
 use Rattle.std.specs.Prelude.{fold}
 use Rattle.omf_output.specs.Inner.Rooms.{Room, no_room, with_portion}
 use Rattle.omf_output.specs.Exe.Members.{portions}
-use Rattle.omf_output.proofs.RoomLaws.{ends-fold, length-summed, own-fold, room-more, stack-fold, whole-room}
+use Rattle.omf_output.proofs.RoomLaws.{ends-fold, length-summed, own-fold, room-more, stack-is, whole-room}
 use Rattle.omf_placement.proofs.StepLaws.{next_item, none_left}
 use Rattle.omf_output.proofs.exe.room.room_of.Goals as goal
 
@@ -32,7 +32,7 @@ pub returns-clause-stack : goal.returns-clause-stack
 returns-clause-stack c =
     let ms = c.args.members.now in
     let whole = whole-room ms (drop c.loop-member.member-index ms) c.loop-member.room (none_left ms c.loop-member.member-index c.loop-member-test.false) c.loop-member.invariant in
-    ap (λ (r : Room). r.stack) whole ∙ stack-fold no_room (portions ms)
+    ap (λ (r : Room). r.stack) whole ∙ stack-is (portions ms)
 
 pub returns-clause-stack_len : goal.returns-clause-stack_len
 returns-clause-stack_len c =
