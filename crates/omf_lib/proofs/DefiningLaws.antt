@@ -1,6 +1,6 @@
 -- What members define, one after another, and what is found so far.
 use native.Mathlib.Omega.{arith}
-use Rattle.std.proofs.Common.{◌≡◌, ℕ, ◌+◌, ◌<◌, ◌==◌, ◌||◌, Bool, true, false, List, [], ◌∷◌, ◌++◌, length, refl, sym, ap, ap₂, ◌∙◌, subst, append_assoc, append-nil, below_more, Vec, Global, BTreeSet, Result, Ok, Err, IfOk, OnOk, Some, inl, ◌/◌}
+use Rattle.std.proofs.Common.{◌≡◌, ℕ, ◌+◌, ◌||◌, Bool, true, false, List, [], ◌∷◌, ◌++◌, refl, sym, subst, append_assoc, append-nil, below_more, Vec, Global, BTreeSet, Result, Ok, Err, IfOk, OnOk, Some, inl, ◌/◌}
 use Rattle.std.proofs.lemmas.Grind.{flat_map-append}
 use Rattle.omf_check.specs.Module.{recs_of}
 use Rattle.omf_check.specs.declared.profile.Profile.{Profile}
@@ -8,7 +8,6 @@ use Rattle.omf_host.specs.declared.ending.Status.{Status}
 use Rattle.omf_host.specs.declared.ending.Status.TheVariants as status
 use Rattle.omf_library.specs.Library.{header_of, page_size}
 use Rattle.omf_library.specs.Spans.{AreSpansIn}
-use Rattle.omf_making.specs.Names.{Defined, defined_names}
 use Rattle.omf_making.specs.Taken.{IsTaken}
 use Rattle.omf_library.specs.Dictionary.{IsDictionary, is_case_sensitive}
 use Rattle.omf_library.specs.declared.dictionary.Dictionary.{Dictionary}
@@ -19,7 +18,6 @@ use Rattle.omf_lib.specs.Defining.{AreDefiners, AreEntriesDefined, Definer, HasU
 use Rattle.omf_lib.specs.Keys.{IsKeySet, all_keys, keys_of}
 use Rattle.omf_lib.specs.Members.{IsLibraryRead, begins_before}
 use Rattle.omf_lib.specs.declared.library.Library.{Library}
-use Rattle.omf_lib.proofs.KeyLaws.{on_ok}
 
 -- Whether one of the first n has a property, and one more.
 pub any_none : (Has : ℕ → Bool → Type 0) → IsAnyOf Has 0 false
@@ -74,19 +72,10 @@ pub ok_given : {T E P : Type 0} (r : Result T E) → P → OnOk r P
 ok_given (Ok x) p = p
 ok_given (Err e) p = tt
 
-pub module_added : {T E : Type 0} (profile : Profile) (page offset : ℕ) (bytes : List ℕ) (t : Taken) (at : ℕ) (own s : Bool) (ns : List Defined) (done : List (List ℕ)) (set : BTreeSet (Vec ℕ Global)) (r : Result T E)
-    → at ≡ offset / page → own ≡ s → ns ≡ defined_names (recs_of t.«module».bytes) → IsTaken profile bytes t
-    → OnOk r (IsKeySet set (done ++ keys_of own (record { page = at; names = ns }))) → OnOk r ((ds : List Definer) × IsDefiner profile page offset bytes ds × IsKeySet set (done ++ all_keys s ds))
-module_added profile page offset bytes t at own s ns done set r p q n d o =
-    let made = definer_of (offset / page) (recs_of t.«module».bytes) in
-    on_ok r (λ k. (
-      made ∷ [],
-      inl (t, d, refl),
-      subst (λ ks. IsKeySet set (done ++ ks)) (sym (append-nil (keys_of s made)))
-          (subst (λ b. IsKeySet set (done ++ keys_of b made)) q
-          (subst (λ j. IsKeySet set (done ++ keys_of own (record { page = j; names = defined_names (recs_of t.«module».bytes) }))) p
-          (subst (λ xs. IsKeySet set (done ++ keys_of own (record { page = at; names = xs }))) n k))),
-    )) o
+pub module_added : (profile : Profile) (page offset : ℕ) (bytes : List ℕ) (t : Taken) (s : Bool) (done : List (List ℕ)) (set : BTreeSet (Vec ℕ Global))
+    → IsTaken profile bytes t → IsKeySet set (done ++ all_keys s (definer_of (offset / page) (recs_of t.«module».bytes) ∷ []))
+    → (ds : List Definer) × IsDefiner profile page offset bytes ds × IsKeySet set (done ++ all_keys s ds)
+module_added profile page offset bytes t s done set d k = (definer_of (offset / page) (recs_of t.«module».bytes) ∷ [], inl (t, d, refl), k)
 
 -- A file that is read as a library.
 pub all_there : {E : Type 0} (profile : Profile) (bytes : List ℕ) (l : Library) (r : Result Status E) → IsLibraryRead bytes (Ok l)

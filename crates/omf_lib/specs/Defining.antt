@@ -15,7 +15,7 @@ use Rattle.omf_library.specs.declared.spans.Span.{Span}
 use Rattle.omf_making.specs.declared.taken.Refusal.{Refusal}
 use Rattle.omf_making.specs.declared.taken.Taken.{Taken}
 use Rattle.omf_records.specs.Values.{Rec}
-use Rattle.omf_lib.specs.Lines.{entry_words}
+use Rattle.omf_lib.specs.Lines.{entry_words, head_words}
 use Rattle.omf_lib.specs.Members.{begins_before}
 use Rattle.omf_lib.specs.declared.library.Library.{Library}
 
@@ -62,7 +62,7 @@ is_undefined_at sensitive ds block bucket = let at = entry_offset block bucket i
 abbrev pub undefined_text : Bool → List Definer → ℕ → List ℕ → ℕ → List ℕ
 undefined_text sensitive ds offset block bucket =
     let at = entry_offset block bucket in
-    if is_undefined_at sensitive ds block bucket then entry_words 21 (codes "Undefined") offset (page_at block at) (name_at block at) ++ 10 ∷ [] else []
+    if is_undefined_at sensitive ds block bucket then head_words (codes "21 Undefined") offset ++ entry_words (page_at block at) (name_at block at) ++ 10 ∷ [] else []
 
 -- Whether one of the first n has a property.
 abbrev pub IsAnyOf : (ℕ → Bool → Type 0) → ℕ → Bool → Type 0

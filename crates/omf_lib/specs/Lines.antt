@@ -18,46 +18,89 @@ abbrev pub public_line : ℕ → List ℕ → List ℕ
 public_line member name = codes "P " ++ decimal member ++ 32 ∷ quoted name ++ 10 ∷ []
 
 -- A reason, and its place in the member, as `omf check` prints them.
+abbrev pub place_text : Place → List ℕ
+place_text at = codes " record " ++ decimal at.number ++ codes " at " ++ decimal at.start ++ codes " within " ++ decimal at.within
+
 abbrev pub reason_text : Reason → Place → List ℕ
-reason_text why at = 32 ∷ decimal (reason_number why) ++ 32 ∷ reason_name why ++ codes " record " ++ decimal at.number ++ codes " at " ++ decimal at.start ++ codes " within " ++ decimal at.within
+reason_text why at = 32 ∷ decimal (reason_number why) ++ 32 ∷ reason_name why ++ place_text at
 
--- A fault: its number, its name and its offset; and the member, the entry or the public that has it.
-abbrev pub fault_head : ℕ → List ℕ → ℕ → List ℕ
-fault_head number name at = codes "fault " ++ decimal number ++ 32 ∷ name ++ codes " at " ++ decimal at
+-- The number and the name of a fault, and the offset that its line names.
+abbrev pub fault_name : Fault → List ℕ
+fault_name fault.NoHeader = codes "1 NoHeader"
+fault_name fault.HeaderCut = codes "2 HeaderCut"
+fault_name (fault.PageSize _) = codes "3 PageSize"
+fault_name (fault.NoMember _ _) = codes "4 NoMember"
+fault_name (fault.MemberCut _ _) = codes "5 MemberCut"
+fault_name (fault.NoEnd _ _) = codes "6 NoEnd"
+fault_name (fault.Member _ _ _ _) = codes "7 Member"
+fault_name (fault.DictionaryOffset _) = codes "8 DictionaryOffset"
+fault_name (fault.DictionaryOutside _) = codes "9 DictionaryOutside"
+fault_name (fault.EntryOutside _) = codes "10 EntryOutside"
+fault_name (fault.EntryNowhere _) = codes "11 EntryNowhere"
+fault_name (fault.NotFound _) = codes "12 NotFound"
+fault_name (fault.NotFoundKept _) = codes "13 NotFoundKept"
+fault_name (fault.NoEntry _) = codes "14 NoEntry"
+fault_name (fault.OtherMember _) = codes "15 OtherMember"
+fault_name (fault.LongSearches _) = codes "16 LongSearches"
+fault_name (fault.Undefined _) = codes "21 Undefined"
 
-abbrev pub of_member : ℕ → List ℕ → ℕ → ℕ → List ℕ
-of_member number name at member = fault_head number name at ++ codes " member " ++ decimal member
+abbrev pub fault_offset : Fault → ℕ
+fault_offset fault.NoHeader = 0
+fault_offset fault.HeaderCut = 0
+fault_offset (fault.PageSize _) = 1
+fault_offset (fault.NoMember at _) = at
+fault_offset (fault.MemberCut at _) = at
+fault_offset (fault.NoEnd at _) = at
+fault_offset (fault.Member at _ _ _) = at
+fault_offset (fault.DictionaryOffset at) = at
+fault_offset (fault.DictionaryOutside at) = at
+fault_offset (fault.EntryOutside at) = at
+fault_offset (fault.EntryNowhere e) = e.offset
+fault_offset (fault.NotFound e) = e.offset
+fault_offset (fault.NotFoundKept e) = e.offset
+fault_offset (fault.NoEntry p) = p.offset
+fault_offset (fault.OtherMember p) = p.offset
+fault_offset (fault.LongSearches at) = at
+fault_offset (fault.Undefined e) = e.offset
 
-abbrev pub entry_words : ℕ → List ℕ → ℕ → ℕ → List ℕ → List ℕ
-entry_words number name at page spelled = fault_head number name at ++ codes " page " ++ decimal page ++ 32 ∷ quoted spelled
+abbrev pub head_words : List ℕ → ℕ → List ℕ
+head_words name at = codes "fault " ++ name ++ codes " at " ++ decimal at
 
-abbrev pub of_entry : ℕ → List ℕ → Named → List ℕ
-of_entry number name e = entry_words number name e.offset e.page e.name.now
+abbrev pub fault_head : Fault → List ℕ
+fault_head f = head_words (fault_name f) (fault_offset f)
 
-abbrev pub of_public : ℕ → List ℕ → Public → List ℕ
-of_public number name p = of_member number name p.offset p.member ++ 32 ∷ quoted p.name.now
+-- The member, the entry or the public that has a fault.
+abbrev pub of_member : ℕ → List ℕ
+of_member member = codes " member " ++ decimal member
 
-abbrev pub fault_words : Fault → List ℕ
-fault_words fault.NoHeader = fault_head 1 (codes "NoHeader") 0
-fault_words fault.HeaderCut = fault_head 2 (codes "HeaderCut") 0
-fault_words (fault.PageSize size) = fault_head 3 (codes "PageSize") 1 ++ codes " size " ++ decimal size
-fault_words (fault.NoMember at member) = of_member 4 (codes "NoMember") at member
-fault_words (fault.MemberCut at member) = of_member 5 (codes "MemberCut") at member
-fault_words (fault.NoEnd at member) = of_member 6 (codes "NoEnd") at member
-fault_words (fault.Member at member why place) = of_member 7 (codes "Member") at member ++ codes " refused" ++ reason_text why place
-fault_words (fault.DictionaryOffset at) = fault_head 8 (codes "DictionaryOffset") at
-fault_words (fault.DictionaryOutside at) = fault_head 9 (codes "DictionaryOutside") at
-fault_words (fault.EntryOutside at) = fault_head 10 (codes "EntryOutside") at
-fault_words (fault.EntryNowhere e) = of_entry 11 (codes "EntryNowhere") e
-fault_words (fault.NotFound e) = of_entry 12 (codes "NotFound") e
-fault_words (fault.NotFoundKept e) = of_entry 13 (codes "NotFoundKept") e
-fault_words (fault.NoEntry p) = of_public 14 (codes "NoEntry") p
-fault_words (fault.OtherMember p) = of_public 15 (codes "OtherMember") p
-fault_words (fault.LongSearches at) = fault_head 16 (codes "LongSearches") at
-fault_words (fault.Undefined e) = of_entry 21 (codes "Undefined") e
+abbrev pub of_refused : ℕ → Reason → Place → List ℕ
+of_refused member why at = of_member member ++ codes " refused" ++ reason_text why at
+
+abbrev pub entry_words : ℕ → List ℕ → List ℕ
+entry_words page spelled = codes " page " ++ decimal page ++ 32 ∷ quoted spelled
+
+abbrev pub of_entry : Named → List ℕ
+of_entry e = entry_words e.page e.name.now
+
+abbrev pub of_public : Public → List ℕ
+of_public p = of_member p.member ++ 32 ∷ quoted p.name.now
+
+abbrev pub fault_rest : Fault → List ℕ
+fault_rest (fault.PageSize size) = codes " size " ++ decimal size
+fault_rest (fault.NoMember _ member) = of_member member
+fault_rest (fault.MemberCut _ member) = of_member member
+fault_rest (fault.NoEnd _ member) = of_member member
+fault_rest (fault.Member _ member why at) = of_refused member why at
+fault_rest (fault.EntryNowhere e) = of_entry e
+fault_rest (fault.NotFound e) = of_entry e
+fault_rest (fault.NotFoundKept e) = of_entry e
+fault_rest (fault.Undefined e) = of_entry e
+fault_rest (fault.NoEntry p) = of_public p
+fault_rest (fault.OtherMember p) = of_public p
+fault_rest _ = []
 
 abbrev pub fault_line : Fault → List ℕ
-fault_line f = fault_words f ++ 10 ∷ []
+fault_line f = fault_head f ++ fault_rest f ++ 10 ∷ []
 
 -- The fault of a file that has no header of a library.
 abbrev pub header_fault : LibraryFault → Fault

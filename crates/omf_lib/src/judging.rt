@@ -1,9 +1,11 @@
 //! The text of `omf-lib check`: what is wrong with a library, and what is odd about it.
 
-ghost use Rattle.std.specs.Prelude.{◌≡◌, ◌<◌, ◌++◌, List, ℕ, false, IfOk, OnOk};
+ghost use Rattle.std.specs.Prelude.{◌≡◌, ◌<◌, ◌++◌, ◌∷◌, ◌/◌, [], List, ℕ, false, IfOk, OnOk};
+ghost use Rattle.omf_check.specs.Module.{recs_of};
 ghost use Rattle.omf_host.specs.declared.ending.Status.TheVariants as status;
 ghost use Rattle.omf_library.specs.Dictionary.{block_count, is_case_sensitive};
-ghost use Rattle.omf_lib.specs.Defining.{AreDefiners, Definer, IsAllDefined, IsDefiner, IsLibraryDefined};
+ghost use Rattle.omf_making.specs.Names.{defined_names, names_seen};
+ghost use Rattle.omf_lib.specs.Defining.{AreDefiners, Definer, definer_of, IsAllDefined, IsDefiner, IsLibraryDefined};
 ghost use Rattle.omf_lib.specs.Keys.{all_keys, IsKeySet};
 
 use crate::defining::{KeySet, add_member, home_of};
@@ -14,7 +16,7 @@ use crate::noting::note_regions;
 use crate::shown::{Shown, Stop};
 use crate::text::put_note;
 use crate::undefined::judge_definitions;
-use omf_check::Profile;
+use omf_check::{Checked, Profile};
 use omf_frame::Sink;
 use omf_host::Status;
 use omf_library::{BLOCK, BUCKETS, Bucket, Dictionary, Rule, Sought, Span, credit_of};
@@ -109,7 +111,28 @@ fn look_up_comdat(
     }
 }
 
-/// Looks up the publics of a member, if there is a dictionary after the members. A communal and an alias may have an entry, or none.
+/// Looks up a name that a member defines, if it is to have an entry: a communal and an alias may have one, or none.
+fn look_up_name(
+    report: &mut Report,
+    dictionary: Dictionary<'_>,
+    page: Option<usize>,
+    kind: Kind,
+    name: Public<'_>,
+) -> Result<(), AllocError> {
+    match kind {
+        Kind::Public => {
+            report.publics = report.publics.saturating_add(1);
+            look_up(report, dictionary, page, name)
+        }
+        Kind::Comdat => {
+            report.publics = report.publics.saturating_add(1);
+            look_up_comdat(report, dictionary, name)
+        }
+        Kind::Communal | Kind::Import | Kind::Alias => Ok(()),
+    }
+}
+
+/// Looks up the names of a member, if there is a dictionary after the members.
 fn look_up_all(
     report: &mut Report,
     library: &Library<'_>,
@@ -124,22 +147,12 @@ fn look_up_all(
     };
     let page = page_of(library.header, member.offset);
     for defined in names {
-        let public = Public {
+        let name = Public {
             offset: member.offset,
             member: member.number,
             name: defined.name.as_slice(),
         };
-        match defined.kind {
-            Kind::Public => {
-                report.publics = report.publics.saturating_add(1);
-                look_up(report, dictionary, page, public)?;
-            }
-            Kind::Comdat => {
-                report.publics = report.publics.saturating_add(1);
-                look_up_comdat(report, dictionary, public)?;
-            }
-            Kind::Communal | Kind::Import | Kind::Alias => {}
-        }
+        look_up_name(report, dictionary, page, defined.kind, name)?;
     }
     Ok(())
 }
@@ -186,7 +199,36 @@ fn note_lowered(
     )
 }
 
-/// Checks a member, looks up its publics, and appends the keys of its names.
+/// The names of a module that is taken of a member. Looks up its publics.
+fn names_of(
+    report: &mut Report,
+    library: &Library<'_>,
+    member: &Member<'_>,
+    module: &Checked,
+) -> Result<Vec<Defined>, AllocError>
+    ensures { IfOk result (λ names. names_seen names.items ≡ defined_names (recs_of «module».now.bytes)) }
+{
+    let names = defined_names(*report.shown.text.allocator(), module)?;
+    look_up_all(report, library, member, names.as_slice())?;
+    Ok(names)
+}
+
+/// Looks up the publics of a module that is taken of a member, and adds the keys of its names.
+fn judge_names(
+    report: &mut Report,
+    keys: &mut KeySet,
+    library: &Library<'_>,
+    member: &Member<'_>,
+    module: &Checked,
+) -> Result<(), AllocError>
+    ensures { (done : List (List ℕ)) → IsKeySet keys.old done → OnOk result (IsKeySet keys.new (done ++ all_keys (is_case_sensitive library.now.header) (definer_of (member.now.offset / library.now.header.page) (recs_of «module».now.bytes) ∷ []))) }
+{
+    let names = names_of(report, library, member, module)?;
+    let home = home_of(library.header, member.offset);
+    add_member(*report.shown.text.allocator(), keys, home, names.as_slice())
+}
+
+/// Checks a member, looks up its publics, and adds the keys of its names.
 fn judge_member(
     report: &mut Report,
     keys: &mut KeySet,
@@ -196,15 +238,11 @@ fn judge_member(
 ) -> Result<(), AllocError>
     ensures { (done : List (List ℕ)) → IsKeySet keys.old done → OnOk result ((own : List Definer) × IsDefiner profile library.now.header.page member.now.offset member.now.bytes.now own × IsKeySet keys.new (done ++ all_keys (is_case_sensitive library.now.header) own)) }
 {
-    let alloc = *report.shown.text.allocator();
-    match taken_of(alloc, profile, member.bytes)? {
+    match taken_of(*report.shown.text.allocator(), profile, member.bytes)? {
         Judgement::Refused(why) => put_refused(report, member, why),
         Judgement::Taken(taken) => {
-            note_lowered(report, profile, member, taken.is_lowered)?;
-            let names = defined_names(alloc, &taken.module)?;
-            look_up_all(report, library, member, names.as_slice())?;
-            let home = home_of(library.header, member.offset);
-            add_member(alloc, keys, home, names.as_slice())
+            judge_names(report, keys, library, member, &taken.module)?;
+            note_lowered(report, profile, member, taken.is_lowered)
         }
     }
 }
