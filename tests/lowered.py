@@ -310,7 +310,9 @@ class Lowered:
             body = shortest(group) + shortest(self.comdats[text][0]) + named(text) + bytes(4) + shortest(kind)
             self.records.append(record(0xB7 if name in self.local else 0x91, body))
             self.records.append(record(COMMENT, b"\x80\xDCCOMDAT" + bytes([attributes >> 4])))
-        self.comdats[text][3] = max(self.comdats[text][3], end)
+        # What data before it reach in its segment: also the data of an LEDATA before the first COMDAT, for a segment that was not defined there.
+        before = max((at + size for segment, at, size, *_ in self.data if segment == self.comdats[text][0]), default=0)
+        self.comdats[text][3] += max(0, end - (before if flags & CONTINUED else 0))
         front = shortest(self.comdats[text][0]) + little(offset, width)
         own = None if flags & ITERATED else bytearray(data)
         self.data.append((self.comdats[text][0], offset, end - offset, len(self.records), front, own))
