@@ -1,5 +1,5 @@
 -- The modules of a program with those that are added, and their origins.
-use Rattle.std.proofs.Common.{◌≡◌, ◌∙◌, ◌-◌, ℕ, List, [], ◌∷◌, Result, Ok, Err, ap, arith, inr, length, subst, sym, take}
+use Rattle.std.proofs.Common.{◌≡◌, ◌∙◌, ℕ, List, [], ◌∷◌, Result, Ok, Err, ap, arith, inr, length, subst, take}
 use Rattle.std.specs.Prelude.{IfErr, IfOk, Option, None, Some}
 use Rattle.omf_check.specs.Module.{Module}
 use Rattle.omf_exe.specs.Adding.{AreOrderedBy, IsStackOf, has_order, least_stack}

@@ -3,7 +3,6 @@ pub mod ClashingLaws
 pub mod CommunalFinds
 pub mod ExeLaws
 pub mod InputLaws
-pub mod JoinedLaws
 pub mod JoiningLaws
 pub mod MakingLaws
 pub mod MapAddresses

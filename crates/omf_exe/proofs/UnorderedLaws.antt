@@ -1,5 +1,5 @@
 -- What is written of a module without the comments that ask for DOS order.
-use Rattle.std.proofs.Common.{◌≡◌, ℕ, ◌-◌, ◌<◌, List, [], ◌∷◌, ◌++◌, cond, take, refl, sym, ap, ap₂, subst, ◌∙◌, arith, length, append_assoc, append-nil, length-append}
+use Rattle.std.proofs.Common.{◌≡◌, ℕ, ◌-◌, ◌<◌, List, [], ◌∷◌, ◌++◌, cond, take, refl, sym, ap, ap₂, subst, ◌∙◌, arith, length, append_assoc, append-nil}
 use Rattle.std.specs.Prelude.{flat_map}
 use Rattle.std.proofs.Math.Seq.{take-append_seam}
 use Rattle.omf_frame.specs.Framing.{Raw, raw_bytes, front_record, present, after_front}

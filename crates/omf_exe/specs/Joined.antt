@@ -1,15 +1,10 @@
 -- The file of `omf-link join`: the modules of a program, one after another (this profile's rule).
-use Rattle.std.specs.Prelude.{◌≡◌, ◌⊎◌, ◌==◌, ◌&&◌, ℕ, Bool, false, if◌then◌else◌, List, [], ◌∷◌, flat_map}
+use Rattle.std.specs.Prelude.{◌≡◌, ◌==◌, ◌&&◌, ℕ, Bool, false, if◌then◌else◌, List, [], ◌∷◌, flat_map}
 use Rattle.omf_frame.specs.Framing.{Raw, raw_bytes}
 use Rattle.omf_check.specs.Module.{Module, records_in}
-use Rattle.omf_aliases.specs.Aliases.{AreFollowed}
-use Rattle.omf_exe.specs.Adding.{AreAdded}
-use Rattle.omf_exe.specs.Making.{AreOf, ProgramFiles}
-use Rattle.omf_exe.specs.Refusing.{AreNotAdded, AreNotFollowed}
+use Rattle.omf_exe.specs.Making.{AreCompleted, AreIncomplete, AreOf, ProgramFiles, modules_of}
+use Rattle.omf_exe.specs.Program.{ProgramModules}
 use Rattle.omf_exe.specs.declared.options.ExeOptions.{ExeOptions}
-use Rattle.omf_trimming.specs.Choice.{AreChosen}
-use Rattle.omf_trimming.specs.Trimmed.{AreTrimmed}
-use Rattle.omf_trimming.specs.declared.without.LeftPublics.TheVariants.{AtStart}
 
 -- A COMENT of class 9EH asks a linker for DOS order (TIS OMF 1.1, "COMENT").
 abbrev pub asks_order : ℕ → List ℕ → Bool
@@ -27,23 +22,14 @@ without_order bytes = flat_map ordered_bytes (records_in bytes)
 abbrev pub all_bytes : List Module → List ℕ
 all_bytes ms = flat_map (λ m. without_order m.bytes) ms
 
--- The modules are those of which a program of the files is made: with one COMDAT of each name, those that are added, and the defaults that aliases give to externals, without what
--- nothing refers to of the segments that may be left out.
+-- The modules are those of which a program of the files is made.
 pub record IsJoinedFile (options : ExeOptions) (p : ProgramFiles) (bytes : List ℕ) : Type 0 where
   pub given : AreOf p.ignores_case p.files p.modules
-  pub chosen : List Module
-  pub choice : AreChosen p.modules chosen
-  pub all : List Module
-  pub added : AreAdded options.kind options.stack options.order chosen all
-  pub whole : List Module
-  pub followed : AreFollowed all whole
-  pub linked : List Module
-  pub trimmed : AreTrimmed AtStart options.unreached whole linked
-  pub file : bytes ≡ all_bytes linked
+  pub linked : ProgramModules
+  pub completed : AreCompleted options (modules_of p) linked
+  pub file : bytes ≡ all_bytes linked.modules
 
--- Why files have none: those that are added have a fault, or the aliases are not followed.
+-- Why files have none: their modules are not completed.
 pub record IsNotJoined (options : ExeOptions) (p : ProgramFiles) : Type 0 where
   pub given : AreOf p.ignores_case p.files p.modules
-  pub chosen : List Module
-  pub choice : AreChosen p.modules chosen
-  pub why : AreNotAdded options.kind options.stack options.order chosen ⊎ ((all : List Module) × AreAdded options.kind options.stack options.order chosen all × AreNotFollowed all)
+  pub why : AreIncomplete options p.modules

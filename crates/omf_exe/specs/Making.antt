@@ -111,22 +111,36 @@ pub record IsMadeOf (options : ExeOptions) (p : ProgramModules) (made : MadeProg
   pub twice : HaveNamesTwice p.modules (is_some made.repeated) × IsAllowed options.allows_twice (is_some made.repeated)
   pub stack : option_map string_bytes made.stack ≡ option_map stack_line (other_stack options.kind options.stack made.bytes.items)
 
--- What is written of files: of their modules with one COMDAT of each name, those that are added, and the defaults that aliases give to externals, without what nothing refers to of
--- the segments that may be left out.
+-- Modules as a program has them: with one COMDAT of each name, those that are added, and the defaults that aliases give to externals, without what nothing refers to of the segments
+-- that may be left out.
+pub record AreCompleted (options : ExeOptions) (given linked : ProgramModules) : Type 0 where
+  pub chosen : List Module
+  pub choice : AreChosen given.modules chosen
+  pub all : ProgramModules
+  pub added : AreAllWith options.kind options.stack options.order chosen given.from all
+  pub whole : List Module
+  pub followed : AreFollowed all.modules whole
+  pub trimmed : AreTrimmed AtStart options.unreached whole linked.modules
+  pub from : linked.from ≡ all.from
+
+-- Why modules are not completed: those that are added have a fault, or the aliases are not followed.
+pub record AreIncomplete (options : ExeOptions) (ms : List Module) : Type 0 where
+  pub chosen : List Module
+  pub choice : AreChosen ms chosen
+  pub why : AreNotAdded options.kind options.stack options.order chosen ⊎ ((all : List Module) × AreAdded options.kind options.stack options.order chosen all × AreNotFollowed all)
+
+-- What is written of files: of their modules, completed.
+abbrev pub modules_of : ProgramFiles → ProgramModules
+modules_of p = record { modules = p.modules; from = p.from }
+
 pub record IsMade (options : ExeOptions) (p : ProgramFiles) (made : MadeProgram) : Type 0 where
   pub given : AreOf p.ignores_case p.files p.modules
   pub origins : AreFrom p.ignores_case p.files p.modules p.from
-  pub chosen : List Module
-  pub choice : AreChosen p.modules chosen
-  pub all : ProgramModules
-  pub added : AreAllWith options.kind options.stack options.order chosen p.from all
-  pub whole : List Module
-  pub followed : AreFollowed all.modules whole
-  pub linked : List Module
-  pub trimmed : AreTrimmed AtStart options.unreached whole linked
-  pub made_of : IsMadeOf options (record { modules = linked; from = all.from }) made
-  pub map : IsMapIf (IsListedMap options.unreached p.files (record { modules = linked; from = all.from })) options.kind (is_some options.map) made.bytes.items made.map
-  pub symbols : AreSymbolsIf (AreNamedSymbols options.unreached linked) options.kind options.symbols made.symbols
+  pub linked : ProgramModules
+  pub completed : AreCompleted options (modules_of p) linked
+  pub made_of : IsMadeOf options linked made
+  pub map : IsMapIf (IsListedMap options.unreached p.files linked) options.kind (is_some options.map) made.bytes.items made.map
+  pub symbols : AreSymbolsIf (AreNamedSymbols options.unreached linked.modules) options.kind options.symbols made.symbols
 
 -- Why nothing is written of modules: they have no places; a look finds what is not allowed; there is no program of them at their placements; or more than one
 -- public has a name, and that is not allowed.
@@ -140,20 +154,7 @@ IsNotSettledOf options ms = AreUnplaced ms ⊎ IsLookFault options ms
 abbrev pub IsNotMadeOf : ExeOptions → List Module → Type 0
 IsNotMadeOf options ms = IsNotSettledOf options ms ⊎ (HaveNoBytes options.kind ms ⊎ ((options.allows_twice ≡ false) × HaveNamesTwice ms true))
 
--- Why nothing is written of modules: their aliases are not followed; or nothing is written of those with the defaults.
-pub record IsNotMadeWith (options : ExeOptions) (all : List Module) : Type 0 where
-  pub whole : List Module
-  pub followed : AreFollowed all whole
-  pub linked : List Module
-  pub trimmed : AreTrimmed AtStart options.unreached whole linked
-  pub why : IsNotMadeOf options linked
-
-abbrev pub IsNotLinkedOf : ExeOptions → List Module → Type 0
-IsNotLinkedOf options all = AreNotFollowed all ⊎ IsNotMadeWith options all
-
--- Why nothing is written of files.
+-- Why nothing is written of files: their modules are not completed, or nothing is written of those.
 pub record IsNotMade (options : ExeOptions) (p : ProgramFiles) : Type 0 where
   pub given : AreOf p.ignores_case p.files p.modules
-  pub chosen : List Module
-  pub choice : AreChosen p.modules chosen
-  pub why : AreNotAdded options.kind options.stack options.order chosen ⊎ ((all : List Module) × AreAdded options.kind options.stack options.order chosen all × IsNotLinkedOf options all)
+  pub why : AreIncomplete options p.modules ⊎ ((linked : ProgramModules) × AreCompleted options (modules_of p) linked × IsNotMadeOf options linked.modules)

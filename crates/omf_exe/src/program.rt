@@ -12,6 +12,7 @@ ghost use Rattle.omf_exe.specs.Adding.{AreOrderedBy, has_order};
 ghost use Rattle.omf_exe.specs.Input.{AllGive, AreOfFiles, AreOfFolded, IsMemberFolded};
 ghost use Rattle.omf_exe.specs.Joined.{all_bytes};
 ghost use Rattle.omf_exe.specs.Libraries.{sought};
+ghost use Rattle.omf_exe.specs.Making.{AreCompleted, AreIncomplete};
 ghost use Rattle.omf_exe.specs.Ordering.{AreInClassOrder, AreOrdered};
 ghost use Rattle.omf_exe.specs.Origins.{AllFrom, AreAllWith, AreOfFilesFrom, AreOfFoldedFrom, origins_with};
 ghost use Rattle.omf_exe.specs.Refusing.{AreNotAdded, AreNotFollowed, AreNotInClassOrder, AreNotOrdered, AreNotOrderedBy, AreNotShared, GiveNoFolded, GiveNoModules, IsRefusalFor, NeedRefused, is_out_of_memory};
@@ -382,6 +383,27 @@ impl ProgramModules {
             Ok(modules) => Ok(ProgramModules { modules, from }),
             Err(fault) => Err(of_following(alloc, fault)),
         }
+    }
+
+    /// The modules as a program has them: with one COMDAT of each name, those that the linker adds, and the defaults that aliases give to their externals, without what nothing
+    /// refers to of the segments that the options leave out.
+    ///
+    /// # Errors
+    ///
+    /// The fault of `with_added`; otherwise that of `following_aliases`; or out of memory.
+    pub fn completed(
+        self,
+        alloc: Global,
+        options: &ExeOptions<'_>,
+    ) -> Result<ProgramModules, Refusal>
+        ensures completed { IfOk result (AreCompleted options.now self) }
+        ensures refused { IfErr result (IsRefusalFor (AreIncomplete options.now self.modules)) }
+    {
+        let chosen = self.chosen(alloc)?;
+        let added = chosen.with_added(alloc, options)?;
+        let whole = added.following_aliases(alloc)?;
+        let linked = whole.trimmed(alloc, options.unreached, LeftPublics::AtStart)?;
+        Ok(linked)
     }
 
     /// The bytes of the modules, one after another, without the comments that ask for DOS order.

@@ -15,7 +15,6 @@ use crate::refusal::Refusal;
 use crate::written::{Leftovers, written_of};
 use omf_externals::move_all;
 use omf_linking::InputFile;
-use omf_trimming::LeftPublics;
 use std::alloc::{AllocError, Global};
 use std::marker::Model;
 
@@ -130,11 +129,8 @@ impl ProgramFiles {
         ensures refused { IfErr result (IsRefusalFor (IsNotMade options.now self)) }
     {
         let ProgramFiles { files, modules, .. } = self;
-        let chosen = modules.chosen(alloc)?;
-        let added = chosen.with_added(alloc, options)?;
-        let all = added.following_aliases(alloc)?;
-        let trimmed = all.trimmed(alloc, options.unreached, LeftPublics::AtStart)?;
-        let made = written_of(alloc, trimmed, &files, options, leftovers)?;
+        let linked = modules.completed(alloc, options)?;
+        let made = written_of(alloc, linked, &files, options, leftovers)?;
         Ok(made)
     }
 
@@ -148,11 +144,8 @@ impl ProgramFiles {
         ensures refused { IfErr result (IsRefusalFor (IsNotJoined options.now self)) }
     {
         let ProgramFiles { modules, .. } = self;
-        let chosen = modules.chosen(alloc)?;
-        let added = chosen.with_added(alloc, options)?;
-        let all = added.following_aliases(alloc)?;
-        let trimmed = all.trimmed(alloc, options.unreached, LeftPublics::AtStart)?;
-        match trimmed.bytes(alloc) {
+        let linked = modules.completed(alloc, options)?;
+        match linked.bytes(alloc) {
             Ok(bytes) => Ok(bytes),
             Err(AllocError) => Err(memory()),
         }

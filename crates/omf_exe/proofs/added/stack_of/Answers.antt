@@ -1,11 +1,10 @@
 use Rattle.std.proofs.Common.{◌≡◌, ◌∙◌, ap, rules, subst, sym}
-use Rattle.std.specs.Prelude.{Option, Some, None, Ok}
+use Rattle.std.specs.Prelude.{Some, Ok}
 use Rattle.omf_check.specs.Checking.{Decides}
 use Rattle.omf_check.specs.Module.{typed_modules}
 use Rattle.omf_combining.specs.Stack.{stack_bytes}
 use Rattle.omf_exe.specs.Adding.{IsStackOf}
 use Rattle.omf_exe.specs.Sharing.{IsCheckedOf}
-use Rattle.omf_aliases.specs.Aliases.{any_profile}
 use Rattle.omf_exe.proofs.added.stack_of.Goals as goal
 
 pub returns-in-Ok : goal.returns-in-Ok

@@ -6,6 +6,15 @@ use Rattle.omf_exe.specs.Refusing.{IsRefusalFor}
 use Rattle.omf_exe.proofs.MakingLaws.{made-of-files, not_made}
 use Rattle.omf_exe.proofs.program_files.ProgramFiles.make.Goals as goal
 
+pub returns-in_err-linked-clause-refused : goal.returns-in_err-linked-clause-refused
+returns-in_err-linked-clause-refused c =
+    let options = c.args.options.now in
+    let f = c.in_err-linked.field-0.0 in
+    let same : c.from_residual.result ≡ Err f = search rules in
+    let own = c.self.inside in
+    subst (λ r. IfErr r (IsRefusalFor (IsNotMade options c.args.self))) (sym same)
+    (λ e. not_made options c.args.self own.files.items own.ignores_case own.modules c.self.view_is c.self.invariant.0 (inl (c.in_err-linked.ensures.refused e)))
+
 pub returns-in_err-made-clause-refused : goal.returns-in_err-made-clause-refused
 returns-in_err-made-clause-refused c =
     let options = c.args.options.now in
@@ -13,26 +22,15 @@ returns-in_err-made-clause-refused c =
     let same : c.from_residual-in_err-made.result ≡ Err f = search rules in
     let own = c.self.inside in
     subst (λ r. IfErr r (IsRefusalFor (IsNotMade options c.args.self))) (sym same)
-    (λ e. not_made options c.args.self own.files.items own.ignores_case own.modules.modules own.modules.from c.in_ok-chosen.chosen.modules c.in_ok-added.added.modules c.self.view_is c.self.invariant.0 c.in_ok-chosen.ensures.chosen c.in_ok-added.ensures.added.added
-    (inr (record { whole = c.in_ok-all.all.modules; followed = c.in_ok-all.ensures.followed; linked = c.in_ok-trimmed.trimmed.modules; trimmed = c.in_ok-trimmed.ensures.trimmed; why = c.in_err-made.ensures.refused e })))
-
-pub returns-in_err-all-clause-refused : goal.returns-in_err-all-clause-refused
-returns-in_err-all-clause-refused c =
-    let options = c.args.options.now in
-    let f = c.in_err-all.field-0.0 in
-    let same : c.from_residual-in_err-all.result ≡ Err f = search rules in
-    let own = c.self.inside in
-    subst (λ r. IfErr r (IsRefusalFor (IsNotMade options c.args.self))) (sym same)
-    (λ e. not_made options c.args.self own.files.items own.ignores_case own.modules.modules own.modules.from c.in_ok-chosen.chosen.modules c.in_ok-added.added.modules c.self.view_is c.self.invariant.0 c.in_ok-chosen.ensures.chosen c.in_ok-added.ensures.added.added
-    (inl (c.in_err-all.ensures.refused e)))
+    (λ e. not_made options c.args.self own.files.items own.ignores_case own.modules c.self.view_is c.self.invariant.0
+    (inr (c.in_ok-linked.linked, c.in_ok-linked.ensures.completed, c.in_err-made.ensures.refused e)))
 
 pub returns-clause-made : goal.returns-clause-made
 returns-clause-made c =
     let options = c.args.options.now in
     let own = c.self.inside in
-    let linked = c.in_ok-trimmed.trimmed in
+    let linked = c.in_ok-linked.linked in
     let made = c.in_ok-made.made in
     let map_of = subst (λ (fs : List InputFile). IsMapIf (IsListedMap options.unreached fs linked) options.kind (is_some options.map) made.bytes.items made.map) c.deref.ensures.value c.in_ok-made.ensures.map in
-    made-of-files options c.args.self own.files.items own.ignores_case own.modules.modules own.modules.from c.in_ok-chosen.chosen c.in_ok-added.added c.in_ok-all.all linked made c.self.view_is c.self.invariant.0
-    c.self.invariant.1 c.in_ok-chosen.ensures.chosen c.in_ok-chosen.ensures.from c.in_ok-added.ensures.added c.in_ok-all.ensures.followed c.in_ok-all.ensures.from c.in_ok-trimmed.ensures.trimmed c.in_ok-trimmed.ensures.from
+    made-of-files options c.args.self own.files.items own.ignores_case own.modules linked made c.self.view_is c.self.invariant.0 c.self.invariant.1 c.in_ok-linked.ensures.completed
     c.in_ok-made.ensures.made map_of c.in_ok-made.ensures.symbols
