@@ -32,17 +32,17 @@ complete -o default -o bashdefault -F _omf_dump omf-dump
 _omf_find() {
     local task=${COMP_WORDS[1]} before=${COMP_WORDS[COMP_CWORD-1]} current=${COMP_WORDS[COMP_CWORD]} words=
     case "$before" in
-        '--symbols') COMPREPLY=($(compgen -W "ghidra ida r2 nm" -- "$current")); return;;
-        '--load') return;;
         '--near') return;;
         '--link') return;;
         '--least') return;;
         '--base') return;;
         '--frame') return;;
+        '--symbols') COMPREPLY=($(compgen -W "ghidra ida r2 nm" -- "$current")); return;;
+        '--load') return;;
     esac
     [[ $current == -* ]] || return
     case '' in
-        '') words="--symbols --load --json --possible --near --link --least --base --frame --refuse-vendor-comments --help --version";;
+        '') words="--json --possible --near --link --least --base --frame --refuse-vendor-comments --symbols --load --help --version";;
     esac
     COMPREPLY=($(compgen -W "$words" -- "$current"))
 }

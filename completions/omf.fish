@@ -17,8 +17,6 @@ complete -c omf-dump -l undefined -d 'with --names: only those that others are t
 complete -c omf-dump -l help -d 'how to call it'
 complete -c omf-dump -l version -d 'the version'
 
-complete -c omf-find -l symbols -x -a 'ghidra ida r2 nm' -d 'only the names, as this tool imports them'
-complete -c omf-find -l load -r -d 'add this to the addresses of symbols, in place of 10000 for ghidra and ida where they load an .EXE'
 complete -c omf-find -l json -d 'one object of JSON on each line'
 complete -c omf-find -l possible -d 'also where a module may be, and why it is not sure'
 complete -c omf-find -l near -r -d 'also segments of which at most N bytes differ, with these bytes'
@@ -27,6 +25,8 @@ complete -c omf-find -l least -r -d 'take a segment by its bytes alone from N by
 complete -c omf-find -l base -r -d 'the program is a raw image from this address on'
 complete -c omf-find -l frame -r -d 'a segment register of a raw image has this value'
 complete -c omf-find -l refuse-vendor-comments -d 'refuse comments of the classes C0H to FFH'
+complete -c omf-find -l symbols -x -a 'ghidra ida r2 nm' -d 'only the names, as this tool imports them'
+complete -c omf-find -l load -r -d 'add this to the addresses of symbols, in place of 10000 for ghidra and ida where they load an .EXE'
 complete -c omf-find -l help -d 'how to call it'
 complete -c omf-find -l version -d 'the version'
 

@@ -45,8 +45,8 @@ struct Flags {
     is_defined: bool,
     is_undefined: bool,
     refuse_vendor_comments: bool,
-    /// The most bytes of data that are shown of a record.
-    most: usize,
+    /// The most bytes of data that are shown of a record, if this is asked for.
+    most: Option<usize>,
 }
 
 impl Flags {
@@ -60,7 +60,7 @@ impl Flags {
             is_defined: false,
             is_undefined: false,
             refuse_vendor_comments: false,
-            most: usize::MAX,
+            most: None,
         }
     }
 
@@ -74,13 +74,22 @@ impl Flags {
         }
     }
 
+    /// What is listed of each input; None if an option belongs to another task.
+    fn subject(self) -> Option<Subject> {
+        match (self.has_verdict, self.has_names, self.which()?) {
+            (false, true, which) => Some(Subject::Names(which)),
+            (true, false, Which::All) => Some(Subject::Verdicts),
+            _ => None,
+        }
+    }
+
     /// What is shown of each input; None if an option belongs to another task.
     fn task(self) -> Option<Task> {
-        let which = self.which()?;
-        match (self.has_verdict, self.has_names, which) {
-            (false, true, which) => Some(Task::Lines(Subject::Names(which))),
-            (true, false, Which::All) => Some(Task::Lines(Subject::Verdicts)),
-            (false, false, Which::All) if !self.is_csv => Some(Task::Records),
+        let is_list = self.has_verdict || self.has_names;
+        let is_of_records = !self.is_csv && !self.is_defined && !self.is_undefined;
+        match (is_list, self.most) {
+            (true, None) => Some(Task::Lines(self.subject()?)),
+            (false, _) if is_of_records => Some(Task::Records),
             _ => None,
         }
     }
@@ -100,7 +109,7 @@ impl Flags {
         let task = self.task()?;
         let (format, shape) = self.shapes()?;
         let refuse_vendor_comments = self.refuse_vendor_comments;
-        let most = self.most;
+        let most = self.most.unwrap_or(usize::MAX);
         Some(Asked {
             task,
             mode: Mode {
@@ -173,7 +182,7 @@ pub fn read_arguments(alloc: Global, arguments: Vec<String>) -> Result<Option<As
             Word::Defined => flags.is_defined = true,
             Word::Undefined => flags.is_undefined = true,
             Word::Data => match number_of(words.next()) {
-                Some(most) => flags.most = most,
+                Some(most) => flags.most = Some(most),
                 None => return Ok(None),
             },
             Word::RefuseVendorComments => flags.refuse_vendor_comments = true,

@@ -62,6 +62,35 @@ impl Asked {
         }
     }
 
+    /// Whether an option is given without the one that it is for, or beside an output that does not have it.
+    fn is_contradictory(&self) -> bool {
+        let is_map = match self.output {
+            Output::Text | Output::Json => true,
+            Output::Symbols(_) => false,
+        };
+        if is_map {
+            self.load.is_some() || self.has_frames_alone()
+        } else {
+            self.shows_possible || self.near.is_some() || self.has_frames_alone()
+        }
+    }
+
+    /// Whether selectors are given, and no address of a raw image.
+    fn has_frames_alone(&self) -> bool {
+        self.base.is_none() && !self.selectors.is_empty()
+    }
+
+    /// Asks for an output. Returns false if another one is asked for.
+    fn take_output(&mut self, output: Output) -> bool {
+        match (self.output, output) {
+            (Output::Json, Output::Symbols(_)) | (Output::Symbols(_), Output::Json) => false,
+            _ => {
+                self.output = output;
+                true
+            }
+        }
+    }
+
     /// The form of faults: objects in JSON, else lines.
     pub fn format(&self) -> Format {
         match self.output {
@@ -138,7 +167,7 @@ fn file_of(alloc: Global, argument: &str) -> Result<Option<String>, AllocError>
 /// Takes an option without a value. Returns whether it is one.
 fn take_flag(asked: &mut Asked, word: Word) -> bool {
     match word {
-        Word::Json => asked.output = Output::Json,
+        Word::Json => return asked.take_output(Output::Json),
         Word::Possible => asked.shows_possible = true,
         Word::RefuseVendorComments => asked.profile.refuse_vendor_comments = true,
         _ => return false,
@@ -150,7 +179,7 @@ fn take_flag(asked: &mut Asked, word: Word) -> bool {
 fn take_value(asked: &mut Asked, word: Word, value: &str) -> Result<bool, AllocError> {
     match word {
         Word::Symbols => match tool_named(value) {
-            Some(tool) => asked.output = Output::Symbols(tool),
+            Some(tool) => return Ok(asked.take_output(Output::Symbols(tool))),
             None => return Ok(false),
         },
         Word::Frame => match selector_of(value) {
@@ -209,7 +238,7 @@ pub fn read_arguments(alloc: Global, arguments: Vec<String>) -> Result<Option<As
             }
         }
     }
-    if asked.base.is_none() && !asked.selectors.is_empty() {
+    if asked.is_contradictory() {
         return Ok(None);
     }
     Ok(Some(asked))

@@ -39,9 +39,11 @@ use std::process::ExitCode;
 const ABOUT: About = About {
     name: "omf-find",
     colored_name: "\x1B[1;36momf-find\x1B[0m",
-    usage: "usage: omf-find [--symbols ghidra|ida|r2|nm] [--load ADDRESS] [--json]
-           [--possible] [--near N] [--link TEXT] [--least N]
+    usage: "usage: omf-find [--json] [--possible] [--near N] [--link TEXT] [--least N]
            [--base ADDRESS] [--frame SELECTOR ..]
+           [--refuse-vendor-comments] PROGRAM FILE ..
+       omf-find --symbols ghidra|ida|r2|nm [--load ADDRESS] [--link TEXT]
+           [--least N] [--base ADDRESS] [--frame SELECTOR ..]
            [--refuse-vendor-comments] PROGRAM FILE ..
 ",
     details: "
