@@ -5,7 +5,7 @@ import re
 import sys
 
 README = pathlib.Path(__file__).resolve().parent.parent / "README.md"
-TEXT = """**Without the kit**: `tar xf dist/{name}.tar.xz` gives programs, man pages, completions, the C library, a Python wheel, examples and the page, for Linux with glibc 2.34 or later (Debian 12, Ubuntu 22.04). SHA-256:
+TEXT = """**Without the kit**: `tar xf dist/{name}.tar.xz` gives the programs, man pages, C library, Python wheel, examples and page, for Linux with glibc 2.34 or later (Debian 12, Ubuntu 22.04). SHA-256:
 
 ```text
 {sums}

@@ -1,7 +1,8 @@
 -- The start and the stack of a program at placements that are moved.
 use Rattle.std.proofs.Common.{◌≡◌, ℕ, ◌+◌, ◌-◌, ◌*◌, List, [], ◌∷◌, ◌++◌, Bool, true, false, cond, map, max, refl, sym, ◌∙◌, ap, ap₂, arith}
-use Rattle.std.specs.Prelude.{All, Option, Some, None, option_map, Ok, Err, filter, filter_map, fold, zip, nat_le, nat_lt, ◌&&◌, ◌%◌}
+use Rattle.std.specs.Prelude.{All, Option, Some, None, option_map, Ok, Err, filter, filter_map, fold, zip, nat_le, nat_lt, not, ◌&&◌, ◌%◌}
 use Rattle.std.specs.List.{cons_option}
+use Rattle.std.specs.Option.{option_or}
 use Rattle.std.proofs.lemmas.List.{map-append}
 use Rattle.std.proofs.lemmas.List.Elements.{All-head, All-tail}
 use Rattle.omf_frame.specs.Bytes.{last}
@@ -15,7 +16,7 @@ use Rattle.omf_output.specs.declared.exe.fault.ExeFault.TheVariants as fault
 use Rattle.omf_output.specs.declared.exe.room.Stack.{Stack}
 use Rattle.omf_output.specs.Exe.Based.{Holds, IsBased, is_movable, segments_moving}
 use Rattle.omf_output.specs.Exe.Linked.{code, in_16_bits, in_registers, is_main, main_start, ok_or, one_start, stack_at, starts}
-use Rattle.omf_output.specs.Exe.Members.{Member, Portion, all_moving, is_stack, joined, lower, member_at, moving, of_parts, portion, portion_of, portions, portions_in, segdefs, segdefs_in, stack}
+use Rattle.omf_output.specs.Exe.Members.{Member, Portion, all_moving, has_byte, is_stack, joined, lower, member_at, moving, of_parts, portion, portion_of, portions, portions_in, segdefs, segdefs_in, stack}
 use Rattle.omf_output.specs.Exe.Memory.{ModuleMoves, moved_start}
 use Rattle.omf_output.specs.Exe.Moved.{moved, moved_frame, moved_place, where_moving}
 use Rattle.omf_output.proofs.MainLaws.{main-starts}
@@ -123,14 +124,14 @@ module _ (k : ℕ) where
       let same : max (n + 16 * k) (p.end + 16 * k) ≡ max n p.end + 16 * k = omega arith in
       ap (λ a. fold max a (map (λ q. q.end) (map moved_portion ps))) same ∙ max-shift (max n p.end) ps
 
-  filter-moves : (ps : List Portion) → filter (λ p. p.is_stack) (map moved_portion ps) ≡ map moved_portion (filter (λ p. p.is_stack) ps)
-  filter-moves [] = refl
-  filter-moves (p ∷ ps) = by p.is_stack (filter-moves ps)
+  filter-moves : (c : Portion → Bool) → ((p : Portion) → c (moved_portion p) ≡ c p) → (ps : List Portion) → filter c (map moved_portion ps) ≡ map moved_portion (filter c ps)
+  filter-moves c same [] = refl
+  filter-moves c same (p ∷ ps) =
+      ap₂ (λ b xs. cond b (moved_portion p ∷ xs) xs) (same p) (filter-moves c same ps) ∙ by (c p)
     where
-      by : (b : Bool) → filter (λ p. p.is_stack) (map moved_portion ps) ≡ map moved_portion (filter (λ p. p.is_stack) ps)
-          → cond b (moved_portion p ∷ filter (λ p. p.is_stack) (map moved_portion ps)) (filter (λ p. p.is_stack) (map moved_portion ps)) ≡ map moved_portion (cond b (p ∷ filter (λ p. p.is_stack) ps) (filter (λ p. p.is_stack) ps))
-      by true e = ap (λ xs. moved_portion p ∷ xs) e
-      by false e = e
+      by : (b : Bool) → cond b (moved_portion p ∷ map moved_portion (filter c ps)) (map moved_portion (filter c ps)) ≡ map moved_portion (cond b (p ∷ filter c ps) (filter c ps))
+      by true = refl
+      by false = refl
 
   lt-shift : (a b d : ℕ) → nat_lt (a + d) (b + d) ≡ nat_lt a b
   lt-shift a b d = grind arith
@@ -149,8 +150,25 @@ module _ (k : ℕ) where
   joined-moves [] = refl
   joined-moves (p ∷ ps) = ap₂ (λ (l : Portion) n. Some (of_parts l n)) (lower-moves p ps) (max-shift p.end ps)
 
+  byte-moves : (p : Portion) → has_byte (moved_portion p) ≡ has_byte p
+  byte-moves p = lt-shift p.place.address p.end (16 * k)
+
+  either-moves : (a b : Option Stack) → option_or (option_map moved_stack a) (option_map moved_stack b) ≡ option_map moved_stack (option_or a b)
+  either-moves None b = refl
+  either-moves (Some s) b = refl
+
+  parts-move : (c : Portion → Bool) → ((p : Portion) → c (moved_portion p) ≡ c p) → (ps : List Portion) → joined (filter c (map moved_portion ps)) ≡ option_map moved_stack (joined (filter c ps))
+  parts-move c same ps = ap joined (filter-moves c same ps) ∙ joined-moves (filter c ps)
+
+  stack-of-moved : (ps : List Portion) → stack (map moved_portion ps) ≡ option_map moved_stack (stack ps)
+  stack-of-moved ps =
+      ap₂ (λ (a : Option Stack) b. option_or a b)
+      (parts-move (λ p. p.is_stack && has_byte p) (λ p. ap (λ b. p.is_stack && b) (byte-moves p)) ps)
+      (parts-move (λ p. p.is_stack && not (has_byte p)) (λ p. ap (λ b. p.is_stack && not b) (byte-moves p)) ps)
+      ∙ either-moves (joined (filter (λ p. p.is_stack && has_byte p) ps)) (joined (filter (λ p. p.is_stack && not (has_byte p)) ps))
+
   stacks-move : (ms : List Member) → All IsBased ms → stack (portions (at_k ms)) ≡ option_map moved_stack (stack (portions ms))
-  stacks-move ms h = ap stack (portions-move ms h) ∙ ap joined (filter-moves (portions ms)) ∙ joined-moves (filter (λ p. p.is_stack) (portions ms))
+  stacks-move ms h = ap stack (portions-move ms h) ∙ stack-of-moved (portions ms)
 
   le-shift : (a b d : ℕ) → nat_le (a + d) (b + d) ≡ nat_le a b
   le-shift a b d = grind arith

@@ -1,6 +1,7 @@
 -- The memory that segments take, one segment after the other.
-use Rattle.std.proofs.Common.{◌≡◌, ℕ, ◌+◌, ◌⊎◌, ◌<◌, ◌≤◌, List, [], ◌∷◌, Bool, true, false, cond, map, max, min, refl, sym, ◌∙◌, ap, ⊎_elim, inl, inr, arith}
-use Rattle.std.specs.Prelude.{Option, Some, None, filter, filter_map, fold, nat_lt, not, sum_by, zip}
+use Rattle.std.proofs.Common.{◌≡◌, ℕ, ◌+◌, ◌⊎◌, ◌<◌, ◌≤◌, List, [], ◌∷◌, Bool, true, false, cond, map, max, min, refl, sym, ◌∙◌, ap, ap₂, ⊎_elim, inl, inr, arith}
+use Rattle.std.specs.Prelude.{Option, Some, None, ◌&&◌, filter, filter_map, fold, nat_lt, not, sum_by, zip}
+use Rattle.std.specs.Option.{option_or}
 use Rattle.std.proofs.Math.Nat.{min-eq_left, min-eq_right}
 use Rattle.std.proofs.lemmas.Bool.{cases_lt}
 use Rattle.std.proofs.lemmas.List.Sums.{fold-append}
@@ -9,7 +10,7 @@ use Rattle.omf_placement.specs.declared.frame.Placed.{Placed}
 use Rattle.omf_output.specs.declared.exe.room.Stack.{Stack}
 use Rattle.omf_output.specs.Inner.Rooms.{Room, no_room, with_portion, with_stack}
 use Rattle.omf_output.specs.Exe.Com.{size_of, without_stack}
-use Rattle.omf_output.specs.Exe.Members.{Member, Portion, joined, lower, of_parts, portion, portions, portions_in}
+use Rattle.omf_output.specs.Exe.Members.{Member, Portion, has_byte, joined, lower, of_parts, portion, portions, portions_in, stack}
 
 abbrev grown : Option Stack → Portion → Option Stack
 grown o p = Some (with_stack o p)
@@ -43,17 +44,22 @@ own-fold room (p ∷ ps) = own-fold (with_portion room p) ps ∙ by p.is_stack
     by true = refl
     by false = refl
 
-stack-fold : (room : Room) (ps : List Portion) → (fold with_portion room ps).stack ≡ fold grown room.stack (filter (λ p. p.is_stack) ps)
-stack-fold room [] = refl
-stack-fold room (p ∷ ps) = stack-fold (with_portion room p) ps ∙ by p.is_stack
-  where
-    by : (b : Bool) → fold grown (cond b (Some (with_stack room.stack p)) room.stack) (filter (λ q. q.is_stack) ps)
-        ≡ fold grown room.stack (cond b (p ∷ filter (λ q. q.is_stack) ps) (filter (λ q. q.is_stack) ps))
-    by true = refl
-    by false = refl
+grown-by : (b : Bool) (o : Option Stack) (p : Portion) (ps : List Portion) → fold grown (cond b (Some (with_stack o p)) o) ps ≡ fold grown o (cond b (p ∷ ps) ps)
+grown-by true o p ps = refl
+grown-by false o p ps = refl
 
-pub stack-is : (ps : List Portion) → (fold with_portion no_room ps).stack ≡ joined (filter (λ p. p.is_stack) ps)
-stack-is ps = stack-fold no_room ps ∙ stack-joined (filter (λ p. p.is_stack) ps)
+filled-fold : (room : Room) (ps : List Portion) → (fold with_portion room ps).filled ≡ fold grown room.filled (filter (λ p. p.is_stack && has_byte p) ps)
+filled-fold room [] = refl
+filled-fold room (p ∷ ps) = filled-fold (with_portion room p) ps ∙ grown-by (p.is_stack && has_byte p) room.filled p (filter (λ q. q.is_stack && has_byte q) ps)
+
+empty-fold : (room : Room) (ps : List Portion) → (fold with_portion room ps).empty ≡ fold grown room.empty (filter (λ p. p.is_stack && not (has_byte p)) ps)
+empty-fold room [] = refl
+empty-fold room (p ∷ ps) = empty-fold (with_portion room p) ps ∙ grown-by (p.is_stack && not (has_byte p)) room.empty p (filter (λ q. q.is_stack && not (has_byte q)) ps)
+
+pub stack-is : (ps : List Portion) → option_or (fold with_portion no_room ps).filled (fold with_portion no_room ps).empty ≡ stack ps
+stack-is ps = ap₂ (λ (a : Option Stack) b. option_or a b)
+    (filled-fold no_room ps ∙ stack-joined (filter (λ p. p.is_stack && has_byte p) ps))
+    (empty-fold no_room ps ∙ stack-joined (filter (λ p. p.is_stack && not (has_byte p)) ps))
 
 abbrev stack_length : ℕ → Portion → ℕ
 stack_length n p = min (n + size_of p) 65536

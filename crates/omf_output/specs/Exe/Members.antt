@@ -1,5 +1,6 @@
 -- The modules of a program: where their segments end, their stack and their start.
-use Rattle.std.specs.Prelude.{ℕ, ◌+◌, List, [], ◌∷◌, map, max, filter, filter_map, flat_map, fold, zip, Bool, ◌==◌, nat_lt, Option, Some, None, if◌then◌else◌}
+use Rattle.std.specs.Prelude.{ℕ, ◌+◌, List, [], ◌∷◌, map, max, filter, filter_map, flat_map, fold, zip, Bool, ◌==◌, ◌&&◌, nat_lt, not, Option, Some, None, if◌then◌else◌}
+use Rattle.std.specs.Option.{option_or}
 use Rattle.omf_records.specs.Values.{Contents, Rec, Segment, SegmentItem, combination}
 use Rattle.omf_check.specs.Module.{recs_of}
 use Rattle.omf_check.specs.Tables.{segment_length}
@@ -65,7 +66,7 @@ memory_end ps = fold max 0 (map (λ p. p.end) ps)
 abbrev pub lower : Portion → Portion → Portion
 lower p q = if nat_lt q.place.address p.place.address then q else p
 
--- The stack: the address and the frame of its lowest segment, and the first address after all of its segments.
+-- Of segments of the stack: the address and the frame of the lowest, and the first address after all of them.
 abbrev pub of_parts : Portion → ℕ → Stack
 of_parts lowest end = record { frame = lowest.place.frame; first = lowest.place.address; end = end }
 
@@ -73,5 +74,9 @@ abbrev pub joined : List Portion → Option Stack
 joined [] = None
 joined (p ∷ ps) = Some (of_parts (fold lower p ps) (fold max p.end (map (λ q. q.end) ps)))
 
+abbrev pub has_byte : Portion → Bool
+has_byte p = nat_lt p.place.address p.end
+
+-- The stack (this profile's rule): its segments that have a byte, or the empty ones if none has.
 abbrev pub stack : List Portion → Option Stack
-stack ps = joined (filter (λ p. p.is_stack) ps)
+stack ps = option_or (joined (filter (λ p. p.is_stack && has_byte p) ps)) (joined (filter (λ p. p.is_stack && not (has_byte p)) ps))

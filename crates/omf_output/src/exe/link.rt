@@ -113,10 +113,11 @@ fn plan_of(members: &[Member<'_>]) -> Result<Plan, ExeFault>
     if data_end as u64 > 1 << 20 || memory_end > 1 << 20 {
         return Err(ExeFault::TooHigh);
     }
+    let stack = room.stack();
     Ok(Plan {
         code,
-        stack: stack_pointer(room.stack)?,
-        has_stack: room.stack.is_some(),
+        stack: stack_pointer(stack)?,
+        has_stack: stack.is_some(),
         data_end,
         memory_end,
     })

@@ -1,6 +1,7 @@
 //! The memory that the segments of a program take, and its stack.
 
 ghost use Rattle.std.specs.Prelude.{◌≡◌, true, ◌∷◌, ◌++◌, ◌<◌, ◌≤◌, ◌^◌, ◌+◌, List, ℕ, [], None, filter_map, fold, max, min, option_to_list, zip};
+ghost use Rattle.std.specs.Option.{option_or};
 ghost use Rattle.omf_records.specs.Values.{SegmentItem};
 ghost use Rattle.omf_check.specs.Module.{recs_of};
 ghost use Rattle.omf_check.specs.Tables.{segment_length};
@@ -15,7 +16,7 @@ use omf_placement::{Frame, Placed};
 use omf_records::{Acbp, Combination, Segment};
 use std::marker::Model;
 
-/// A stack: where its lowest segment is, and the first address after all of its segments.
+/// A stack: where its lowest segment is, and the first address after all of its segments. Empty ones count only if all are empty.
 #[derive(Clone, Copy, Debug, PartialEq, Eq)]
 pub struct Stack {
     /// The frame of its lowest segment.
@@ -33,8 +34,10 @@ pub(crate) struct Room {
     pub(crate) end: u64,
     /// The first address after those that are no part of the stack.
     pub(crate) own_end: u64,
-    /// The stack, if one of them is a part of it.
-    pub(crate) stack: Option<Stack>,
+    /// The stack's segments that have a byte.
+    filled: Option<Stack>,
+    /// The stack's empty segments.
+    empty: Option<Stack>,
     /// The bytes of the stack's segments together, at most 65,536.
     pub(crate) stack_len: u64,
 }
@@ -44,7 +47,7 @@ impl Model for Room {
 
     ghost Value = { Rooms };
 
-    ghost view = { λ r. record { end = r.end; own_end = r.own_end; stack = r.stack; stack_len = r.stack_len } };
+    ghost view = { λ r. record { end = r.end; own_end = r.own_end; filled = r.filled; empty = r.empty; stack_len = r.stack_len } };
 }
 
 /// The length of a segment in bytes, in a SEGDEF of this type (TIS OMF 1.1, "SEGDEF", B bit).
@@ -115,8 +118,37 @@ impl Room {
         Room {
             end: 0,
             own_end: 0,
-            stack: None,
+            filled: None,
+            empty: None,
             stack_len: 0,
+        }
+    }
+
+    /// The stack: its segments that have a byte, or the empty ones if none has.
+    pub(crate) fn stack(&self) -> Option<Stack>
+        ensures { result ≡ option_or self.now.filled self.now.empty }
+    {
+        self.filled.or(self.empty)
+    }
+
+    /// The memory with a segment of the stack of this length.
+    fn with_part(self, place: Placed, length: u64) -> Room
+        requires low { length ≤ 2 ^ 32 }
+        ensures { result ≡ with_portion self (record { place = place; end = place.address + length; is_stack = true }) }
+    {
+        let end = u64::from(place.address) + length;
+        let stack_len = with_length(self.stack_len, length);
+        let (filled, empty) = if length > 0 {
+            (Some(with_stack(self.filled, place, end)), self.empty)
+        } else {
+            (self.filled, Some(with_stack(self.empty, place, end)))
+        };
+        Room {
+            end: self.end.max(end),
+            own_end: self.own_end,
+            filled,
+            empty,
+            stack_len,
         }
     }
 
@@ -129,28 +161,14 @@ impl Room {
             return self;
         }
         let length = segment_length(kind, segment);
+        if is_stack(segment.attribute) {
+            return self.with_part(place, length);
+        }
         let end = u64::from(place.address) + length;
-        let is_stack = is_stack(segment.attribute);
-        let stack = if is_stack {
-            Some(with_stack(self.stack, place, end))
-        } else {
-            self.stack
-        };
-        let own_end = if is_stack {
-            self.own_end
-        } else {
-            self.own_end.max(end)
-        };
-        let stack_len = if is_stack {
-            with_length(self.stack_len, length)
-        } else {
-            self.stack_len
-        };
         Room {
             end: self.end.max(end),
-            own_end,
-            stack,
-            stack_len,
+            own_end: self.own_end.max(end),
+            ..self
         }
     }
 }
@@ -194,7 +212,7 @@ fn with_member(before: Room, member: &Member<'_>) -> Room
 pub(crate) fn room_of(members: &[Member<'_>]) -> Room
     ensures end { result.end ≡ memory_end (portions members.now) }
     ensures own_end { result.own_end ≡ memory_end (without_stack (portions members.now)) }
-    ensures stack { result.stack ≡ stack (portions members.now) }
+    ensures stack { option_or result.filled result.empty ≡ stack (portions members.now) }
     ensures stack_len { max 256 result.stack_len ≡ stack_bytes (portions members.now) }
 {
     let mut room = Room::new();

@@ -9,7 +9,7 @@ ghost use Rattle.omf_output.specs.declared.exe.com_fault.ComFault.TheVariants as
 ghost use Rattle.omf_output.specs.Exe.Com.{com_loaded, counts_apart, first_fixup, first_low, is_low, piece_fault, stack_bytes, start_fault};
 ghost use Rattle.omf_output.specs.Exe.Exe.{exe};
 ghost use Rattle.omf_output.specs.Exe.Linked.{in_registers};
-ghost use Rattle.omf_output.specs.Exe.Members.{joined};
+ghost use Rattle.omf_output.specs.Exe.Members.{stack};
 ghost use Rattle.omf_output.specs.Exe.Memory.{IsProgram, program};
 ghost use Rattle.omf_output.specs.Exe.Judged.{pieces_move};
 ghost use Rattle.omf_reloc.specs.Plain.{Fixed, pieces};
@@ -95,8 +95,15 @@ pub fn stack_of_a_com_program()
 
 /// SS:SP of a stack in two classes, whose later part is lower: from the frame of that part, 0020H, to the end of the other, 400H.
 pub fn stack_with_a_lower_part()
-    ensures later { in_registers (joined (stack_portion 0x300 0x100 ∷ stack_portion 0x200 0x100 ∷ [])) ≡ Ok (0x20, 0x200) }
-    ensures first { in_registers (joined (stack_portion 0x200 0x100 ∷ stack_portion 0x300 0x100 ∷ [])) ≡ Ok (0x20, 0x200) }
+    ensures later { in_registers (stack (stack_portion 0x300 0x100 ∷ stack_portion 0x200 0x100 ∷ [])) ≡ Ok (0x20, 0x200) }
+    ensures first { in_registers (stack (stack_portion 0x200 0x100 ∷ stack_portion 0x300 0x100 ∷ [])) ≡ Ok (0x20, 0x200) }
+{}
+
+/// An empty segment of the stack, below or above the one of 100H bytes at 200H, changes nothing. One that is alone is the stack.
+pub fn stack_with_an_empty_part()
+    ensures below { in_registers (stack (stack_portion 0x100 0 ∷ stack_portion 0x200 0x100 ∷ [])) ≡ Ok (0x20, 0x100) }
+    ensures above { in_registers (stack (stack_portion 0x200 0x100 ∷ stack_portion 0x400 0 ∷ [])) ≡ Ok (0x20, 0x100) }
+    ensures alone { in_registers (stack (stack_portion 0x100 0 ∷ [])) ≡ Ok (0x10, 0) }
 {}
 
 /// A near reference of a location in segment 2, at 40H, to segment 1, at 0, is into another frame, unless a group has both; the reverse is not. The group

@@ -1,5 +1,6 @@
 use Rattle.std.proofs.Common.{◌+◌, ◌∙◌, ap, drop, max}
 use Rattle.std.specs.Prelude.{fold}
+use Rattle.std.specs.Option.{option_or}
 use Rattle.omf_output.specs.Inner.Rooms.{Room, no_room, with_portion}
 use Rattle.omf_output.specs.Exe.Members.{portions}
 use Rattle.omf_output.proofs.RoomLaws.{ends-fold, length-summed, own-fold, room-more, stack-is, whole-room}
@@ -32,7 +33,7 @@ pub returns-clause-stack : goal.returns-clause-stack
 returns-clause-stack c =
     let ms = c.args.members.now in
     let whole = whole-room ms (drop c.loop-member.member-index ms) c.loop-member.room (none_left ms c.loop-member.member-index c.loop-member-test.false) c.loop-member.invariant in
-    ap (λ (r : Room). r.stack) whole ∙ stack-is (portions ms)
+    ap (λ (r : Room). option_or r.filled r.empty) whole ∙ stack-is (portions ms)
 
 pub returns-clause-stack_len : goal.returns-clause-stack_len
 returns-clause-stack_len c =
