@@ -117,16 +117,33 @@ def places_in(text):
 ALIGNMENTS = {1: 1, 2: 2, 3: 16, 4: 256, 5: 4}
 
 
-def stack_byte(text, modules):
-    """The module that omf-link adds to an .EXE whose stack has an odd length: a part of one byte after the last one; None for another stack. `text` is a
-    drafted text of the modules."""
-    parts, length = [], 0
+def stack_segments(text, modules):
+    """The stack's segments (C = 5, not absolute): the place of each in a drafted text of the modules, its length, its attribute byte and its title."""
     for one, (segments, _) in zip(modules, places_in(with_frames(text, modules))):
         defined = [(kind, body) for kind, body in bodies(one, SEGMENTS)]
         for (kind, body), title, place in zip(defined, titles_of(one)[0], segments):
             if body[0] >> 5 and body[0] >> 2 & 7 == 5:
                 size = 0x10000 if body[0] & 2 else int.from_bytes(body[1:5 if kind & 1 else 3], "little")
-                parts.append((place[0], len(parts), size, ALIGNMENTS.get(body[0] >> 5, 1), body[0] & 1, title))
+                yield place, size, body[0], title
+
+
+def stack_pointer(text, modules):
+    """SS and SP of modules at a drafted text: the frame of the lowest segment of the stack that has a byte, and the end of the last one. Empty segments
+    count where there are no others."""
+    parts = [(place, size) for place, size, _, _ in stack_segments(text, modules)]
+    parts = [it for it in parts if it[1]] or parts
+    if not parts:
+        return 0, 0
+    _, base, selector = min((place for place, _ in parts), key=lambda it: it[0])
+    return selector, (max(place[0] + size for place, size in parts) - base) % 65536
+
+
+def stack_byte(text, modules):
+    """The module that omf-link adds to an .EXE whose stack has an odd length: a part of one byte after the last one; None for another stack. `text` is a
+    drafted text of the modules."""
+    parts, length = [], 0
+    for place, size, attribute, title in stack_segments(text, modules):
+        parts.append((place[0], len(parts), size, ALIGNMENTS.get(attribute >> 5, 1), attribute & 1, title))
     for _, _, size, alignment, _, _ in sorted(parts):
         length = -(-length // alignment) * alignment + size
     if length % 2 == 0:
@@ -230,7 +247,7 @@ def module(random_, number, is_main, front=0, locations=LOCATIONS, frames=FRAMES
     count, externals = random_.randrange(3) + 1, random_.randrange(3)
     names = [b"", b"_TEXT", b"_DATA", b"STACK", b"CODE", b"DATA", b"DGROUP"]
     records = [record(0x80, b"\x01" + bytes([0x41 + number])), record(0x96, b"".join(bytes([len(it)]) + it for it in names))]
-    sizes = [random_.choice((8, 12, 16, 33, 64, 300)) for _ in range(count)]
+    sizes = [random_.choice((8, 12, 16, 33, 64, 300, 0)) for _ in range(count)]
     sizes[0] += front
     for size in sizes:
         kind = random_.choice((0x28, 0x28, 0x48, 0x60, 0x68, 0x74))
@@ -248,7 +265,7 @@ def module(random_, number, is_main, front=0, locations=LOCATIONS, frames=FRAMES
     if externals:
         records.append(record(0x8C, b"".join(bytes([len(it)]) + it + b"\0" for it in (random_.choice(NAMES) for _ in range(externals)))))
     for segment, size in enumerate(sizes, 1):
-        if random_.randrange(5) == 0:
+        if size == 0 or random_.randrange(5) == 0:
             continue
         low = front if segment == 1 else 0
         length = min(size - low, random_.choice((8, 12, 24)))

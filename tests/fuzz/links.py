@@ -2,6 +2,7 @@
 import functools
 import os
 import re
+import struct
 import subprocess
 
 import executables
@@ -193,6 +194,8 @@ class Exe:
         if self.TASK == "exe":
             least, asked = executables.least_memory(text), self.LOADED(file, 0)[2]
             promised(least <= asked < least + executables.PARAGRAPH, f"memory: {asked} bytes, not {least}")
+            found, wanted = struct.unpack_from("<2H", file, 0xE), executables.stack_pointer(text, inputs)
+            promised(found == wanted, f"SS and SP: {found}, not {wanted}")
         text = executables.with_frames(text, inputs)
         for paragraph in (0, *(self.random.randrange(1, 0x8000) for _ in range(2))):
             image, start, _ = self.LOADED(file, paragraph)

@@ -10,7 +10,7 @@ library    changed libraries: omf-lib finds the members that tests/fuzz/librarie
            exactly the members, only into its folder, and changes no file that is there; `make` of them and `canon` give libraries without faults
 exe        modules, made at random or real, some changed, some with COMDATs, CEXTDEFs, NBKPATs, aliases, weak externals and LINNUMs: what
            `omf-link exe` writes, loaded by tests/fuzz/executables.py at several paragraphs, has
-           the bytes and the start of these modules, linked or each relocated alone, at addresses so much higher; with some of them in a library
+           the bytes, the start and the stack of these modules, linked or each relocated alone, at addresses so much higher; with some in a library
            the file has the members that are needed; of a fault there is one line, or one for each name, and no file; names that more than one
            module defines are those that a second reader finds, and with --allow twice they are lines on standard error; it follows aliases and
            defaults; with COMDATs the file is the one of the lowerings by tests/lowered.py, without those left out; the map has the lines of LINNUMs
