@@ -20,6 +20,8 @@ from promises import ALLOW_ALL, TIMEOUT, program, promised, run, told_of
 UNASKED = (b"\xFFz", b"Unasked", b"Una")
 # A line that may follow `undefined`: a module asks for this library.
 NOT_FOUND = re.compile(rb'library "[^"\n]*" is not found(: [^\n]*)?\n')
+# The line of a stack that has another length than --stack asks for.
+STACK = re.compile(rb"^stack: SP is (\d+): ", re.M)
 REFUSED = re.compile(rb'file "in(\d+)\.obj" module 1 refused .*\n')
 
 
@@ -96,6 +98,8 @@ class Exe:
             self.compare(names, inputs, (folder / "p.exe").read_bytes(), folder)
         if status == 0 and self.random.randrange(3) == 0:
             self.look_at_repeated(inputs, names, folder)
+        if status == 0 and self.TASK == "exe" and self.random.randrange(3) == 0:
+            self.look_at_stack(names, folder)
         if len(inputs) > 1 and self.random.randrange(3) == 0:
             self.look_at_library(inputs, names, folder)
         if self.random.randrange(4) == 0:
@@ -139,6 +143,24 @@ class Exe:
         promised(status == 1 and (lines == wanted or not TWICE.fullmatch(lines)), f"{lines}, not {wanted}")
         if lines == wanted and self.is_allowed(lines, [*names, *files], folder):
             self.compare([*names, *files], [*inputs, *own], (folder / "p.exe").read_bytes(), folder)
+
+    def look_at_stack(self, names, folder):
+        """With --stack N, SP is N, or N + 1 for an odd one, or a line shows another; and DOS gives memory up to SS:SP."""
+        size = self.random.choice((1, 16, 255, 256, 1000, 4096, 65534))
+        even = size + size % 2
+        words = [self.link, self.TASK, "--stack", str(size), "-o", "s.exe", *names]
+        done = subprocess.run(words, stdout=subprocess.PIPE, stderr=subprocess.PIPE, cwd=folder, timeout=TIMEOUT)
+        told = told_of(done)
+        shown = STACK.search(told)
+        if done.returncode:
+            return promised(done.returncode == 1 and told and not shown, f"--stack {size}: status {done.returncode}, {done}")
+        file = (folder / "s.exe").read_bytes()
+        found, pointer = struct.unpack_from("<2H", file, 0xE)
+        length = pointer or 65536
+        promised(length == (int(shown[1]) if shown else even) and (not shown or length != even), f"--stack {size}: SP {length}, {told[-200:]}")
+        end, asked = executables.PARAGRAPH * found + length, self.LOADED(file, 0)[2]
+        promised(end <= asked, f"--stack {size}: the stack ends at {end}, the memory at {asked}")
+        self.compared += 1
 
     def look_at_library(self, inputs, names, folder, lowered=None):
         """Some modules in a library: the members that are needed, as a second reader finds them, linked by name give the same file. That reader reads
