@@ -3,8 +3,9 @@ import re
 import struct
 import subprocess
 
+from kinds import lengths_of
 from libraries import record
-from modules import SEGMENTS, bodies, defaults_of, ends_of, named_externals, publics_of, titles_of
+from modules import SEGMENTS, bodies, defaults_of, ends_of, named_externals, publics_of, quoted, titles_of
 
 PARAGRAPH = 16
 COM_FRONT = 0x100
@@ -120,11 +121,9 @@ ALIGNMENTS = {1: 1, 2: 2, 3: 16, 4: 256, 5: 4}
 def stack_segments(text, modules):
     """The stack's segments (C = 5, not absolute): the place of each in a drafted text of the modules, its length, its attribute byte and its title."""
     for one, (segments, _) in zip(modules, places_in(with_frames(text, modules))):
-        defined = [(kind, body) for kind, body in bodies(one, SEGMENTS)]
-        for (kind, body), title, place in zip(defined, titles_of(one)[0], segments):
+        for (_, body), length, title, place in zip(bodies(one, SEGMENTS), lengths_of(one), titles_of(one)[0], segments):
             if body[0] >> 5 and body[0] >> 2 & 7 == 5:
-                size = 0x10000 if body[0] & 2 else int.from_bytes(body[1:5 if kind & 1 else 3], "little")
-                yield place, size, body[0], title
+                yield place, length, body[0], title
 
 
 def stack_pointer(text, modules):
@@ -176,6 +175,25 @@ def candidates(modules):
             own = [names[it - 1] for it in defaults.get(index, ())]
             followed = own[0] if own else name
             yield [name, *own], ends.get(followed)
+
+
+def map_rows(modules, places):
+    """The lines of a map for the segments, the groups and the publics of modules, by the first word of each."""
+    rows = {"segment": [], "group": [], "public": []}
+    publics = []
+    for number, (one, there) in enumerate(zip(modules, places), 1):
+        titles = titles_of(one)
+        for index, (title, length, place) in enumerate(zip(titles[0], lengths_of(one), there[0]), 1):
+            rows["segment"].append(f"segment {number} {index} {place[0]:08X} {length:08X} {quoted(title[0])} {quoted(title[1])}")
+        for index, (title, frame) in enumerate(zip(titles[1], there[1]), 1):
+            rows["group"].append(f"group {number} {index} {frame[1]:04X} {quoted(title)}")
+        for name, *where in publics_of(one):
+            at, base, selector = public_place(there, *where)
+            rows["public"].append(f"public {number} {at:08X} {quoted(name)}")
+            publics.append((name, at, f"{selector:04X}:{at - base:04X} {quoted(name)}"))
+    rows["name"] = [f"name {it[2]}" for it in sorted(publics, key=lambda it: it[0])]
+    rows["value"] = [f"value {it[2]}" for it in sorted(publics, key=lambda it: (it[1], it[0]))]
+    return rows
 
 
 def has_undefined(modules):

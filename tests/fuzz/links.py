@@ -212,7 +212,7 @@ class Exe:
         if own:
             (folder / "stack.obj").write_bytes(own)
             return self.compare([*names, "stack.obj"], [*inputs, own], file, folder)
-        self.look_at_lines(names, inputs, executables.places_in(executables.with_frames(text, inputs)), folder)
+        self.look_at_map(names, inputs, executables.places_in(executables.with_frames(text, inputs)), folder)
         if self.TASK == "exe":
             least, asked = executables.least_memory(text), self.LOADED(file, 0)[2]
             promised(least <= asked < least + executables.PARAGRAPH, f"memory: {asked} bytes, not {least}")
@@ -236,17 +236,22 @@ class Exe:
             promised(not memory or max(memory) == at + len(image) - 1, f"bytes after the last at {paragraph}")
             self.compared += 1
 
-
-    def look_at_lines(self, names, inputs, places, folder):
-        """The lines of LINNUMs in the map."""
+    def look_at_map(self, names, inputs, places, folder):
+        """The lines of the map: of LINNUMs, and of the segments, groups and publics of modules that the readers here read whole."""
         words = [self.link, self.TASK, "--allow", "twice", "-o", "m.exe", "--map", "m.map", *names]
-        if not any(map(kinds.has_lines, inputs)) or self.random.randrange(2):
+        if self.random.randrange(4 if not any(map(kinds.has_lines, inputs)) else 2):
             return
         promised(subprocess.run(words, stderr=subprocess.PIPE, cwd=folder, timeout=TIMEOUT).returncode == 0, "with --map: not linked")
-        found = [it for it in (folder / "m.map").read_text().splitlines() if it.startswith("line ")]
+        lines = (folder / "m.map").read_text().splitlines()
+        found = [it for it in lines if it.startswith("line ")]
         wanted = [it for number, (one, there) in enumerate(zip(inputs, places), 1) for it in kinds.map_lines(one, number, there)]
         promised(found == wanted, f"lines {found}, not {wanted}")
         self.compared += 1
+        if not all(map(is_open, inputs)):
+            return
+        for word, rows in executables.map_rows(inputs, places).items():
+            found = [it for it in lines if it.startswith(word + " ")]
+            promised(found == rows, f"{word}: {found}, not {rows}")
 
 
 class Com(Exe):

@@ -13,7 +13,8 @@ exe        modules, made at random or real, some changed, some with COMDATs, CEX
            the bytes, the start and the stack of these modules, linked or each relocated alone, at addresses so much higher; with some in a library
            the file has the members that are needed; of a fault there is one line, or one for each name, and no file; names that more than one
            module defines are those that a second reader finds, and with --allow twice they are lines on standard error; it follows aliases and
-           defaults; with COMDATs the file is the one of the lowerings by tests/lowered.py, without those left out; the map has the lines of LINNUMs
+           defaults; with COMDATs the file is the one of the lowerings by tests/lowered.py, without those left out; the map has the lines of
+           LINNUMs, segments, groups and publics; with --stack N the stack has that length, or a line shows another
 com        the same for `omf-link com`
 placement  placement texts: a draft of omf-place is read back, another spelling of it has the same listing, and of a changed text the first line
            that a second reader does not understand is reported
