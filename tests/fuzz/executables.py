@@ -5,7 +5,7 @@ import subprocess
 
 from kinds import lengths_of
 from libraries import record
-from modules import SEGMENTS, bodies, defaults_of, ends_of, named_externals, publics_of, quoted, titles_of
+from modules import GROUPS, SEGMENTS, bodies, defaults_of, ends_of, index_at, named_externals, publics_of, quoted, titles_of
 
 PARAGRAPH = 16
 COM_FRONT = 0x100
@@ -45,9 +45,15 @@ def segment_frames(text, absolute):
     return frames
 
 
-def moved(text, paragraph):
+def empty_groups(modules):
+    """The names of groups, as a text has them, of which no module's GRPDEF has a member."""
+    groups = [(title, body[index_at(body, 0)[1]:]) for one in modules for title, (_, body) in zip(titles_of(one)[1], bodies(one, GROUPS))]
+    return {quoted(title) for title, _ in groups} - {quoted(title) for title, members in groups if members}
+
+
+def moved(text, paragraph, empty=frozenset()):
     """A drafted text with all that is not absolute this number of paragraphs higher, and with one frame for the groups of a name: the lowest. A group
-    whose frame is that of an absolute segment stays."""
+    whose frame is that of an absolute segment stays, and one of these names, which has no members."""
     lines, modules = text.decode().splitlines(), 0
     stay = segment_frames(text, True) - segment_frames(text, False)
     frames = {}
@@ -64,7 +70,7 @@ def moved(text, paragraph):
             line = f"S {segment[1]} {int(segment[2], 16) + PARAGRAPH * paragraph:X} {frame}"
         elif line.startswith("G "):
             key = line.split()[1]
-            by = 0 if frames[key] in stay else paragraph
+            by = 0 if frames[key] in stay or key in empty else paragraph
             line = f"G {key} {frames[key] + PARAGRAPH * by:X} {frames[key] // PARAGRAPH + by:X}"
         made.append(line)
     return ("\n".join(made) + "\n").encode()
@@ -190,7 +196,7 @@ def map_rows(modules, places):
         for name, *where in publics_of(one):
             at, base, selector = public_place(there, *where)
             rows["public"].append(f"public {number} {at:08X} {quoted(name)}")
-            publics.append((name, at, f"{selector:04X}:{at - base:04X} {quoted(name)}"))
+            publics.append((name, at, f"{selector:04X}:{at - base:04X} {quoted(name)}" if at >= base else f"- {quoted(name)}"))
     rows["name"] = [f"name {it[2]}" for it in sorted(publics, key=lambda it: it[0])]
     rows["value"] = [f"value {it[2]}" for it in sorted(publics, key=lambda it: (it[1], it[0]))]
     return rows

@@ -108,7 +108,7 @@ class Exe:
     def look_at_lowered(self, status, lines, inputs, names, folder):
         """Modules with COMDATs and the like are linked as their lowerings are, without the COMDATs that are left out."""
         found, refused = kinds.plain(inputs), REFUSED.fullmatch(lines)
-        if found is None:
+        if found is None or any(map(wide.is_lowered, found[0])):  # the reader leaves A = 6 and 7
             return None
         rest, lowered = found
         if refused:
@@ -221,7 +221,7 @@ class Exe:
         text = executables.with_frames(text, inputs)
         for paragraph in (0, *(self.random.randrange(1, 0x8000) for _ in range(2))):
             image, start, _ = self.LOADED(file, paragraph)
-            there = executables.moved(text, paragraph)
+            there = executables.moved(text, paragraph, executables.empty_groups(inputs))
             (folder / "text").write_bytes(executables.with_aliases(there, inputs))
             if is_read and (is_mixed or self.random.randrange(2)):
                 memory, own = executables.relocated(self.omf, inputs, there)
