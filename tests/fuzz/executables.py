@@ -3,9 +3,8 @@ import re
 import struct
 import subprocess
 
-from kinds import lengths_of
 from libraries import record
-from modules import GROUPS, SEGMENTS, bodies, defaults_of, ends_of, index_at, named_externals, publics_of, quoted, titles_of
+from modules import GROUPS, SEGMENTS, bodies, defaults_of, ends_of, index_at, lengths_of, named_externals, publics_of, quoted, titles_of
 
 PARAGRAPH = 16
 COM_FRONT = 0x100

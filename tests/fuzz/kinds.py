@@ -7,7 +7,7 @@ import libraries
 from aliases import asking
 from changes import records_of
 from libraries import record
-from modules import ALIAS, EXTERNALS, LOCAL_EXTERNALS, SEGMENTS, WEAK, bodies, index_at, name_at, name_places, named_externals, publics_of, quoted, titles_of
+from modules import ALIAS, EXTERNALS, LOCAL_EXTERNALS, SEGMENTS, WEAK, bodies, index_at, lengths_of, name_at, name_places, named_externals, publics_of, quoted, titles_of
 from promises import ROOT
 
 sys.path.append(str(ROOT / "tests"))
@@ -308,13 +308,6 @@ def plain(modules):
 
 def has_lines(module):
     return any(True for _ in bodies(module, LINES))
-
-
-def lengths_of(module):
-    """The length of each segment."""
-    for kind, body in bodies(module, SEGMENTS):
-        at, size = 4 if body[0] >> 5 == 0 else 1, 4 if kind & 1 else 2
-        yield 1 << 8 * size if body[0] & 2 else int.from_bytes(body[at:at + size], "little")
 
 
 def map_lines(module, number, places):

@@ -83,6 +83,13 @@ def publics_of(bytes_):
     return found
 
 
+def lengths_of(bytes_):
+    """The length of each segment."""
+    for kind, body in bodies(bytes_, SEGMENTS):
+        at, size = 4 if body[0] >> 5 == 0 else 1, 4 if kind & 1 else 2
+        yield 1 << 8 * size if body[0] & 2 else int.from_bytes(body[at:at + size], "little")
+
+
 def titles_of(bytes_):
     """The name and the class of each segment, and the name of each group, by their indices. A name that is missing is empty."""
     names, segments, groups = [b""], [], []
