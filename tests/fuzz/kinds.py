@@ -7,7 +7,7 @@ import libraries
 from aliases import asking
 from changes import records_of
 from libraries import record
-from modules import ALIAS, EXTERNALS, LOCAL_EXTERNALS, SEGMENTS, WEAK, bodies, index_at, lengths_of, name_at, name_places, named_externals, publics_of, quoted, titles_of
+from modules import ALIAS, EXTERNALS, LOCAL_EXTERNALS, WEAK, bodies, index_at, lengths_of, name_at, name_places, named_externals, publics_of, quoted, titles_of
 from promises import ROOT
 
 sys.path.append(str(ROOT / "tests"))

@@ -20,6 +20,8 @@ from promises import ALLOW_ALL, TIMEOUT, program, promised, run, told_of
 UNASKED = (b"\xFFz", b"Unasked", b"Una")
 # A line that may follow `undefined`: a module asks for this library.
 NOT_FOUND = re.compile(rb'library "[^"\n]*" is not found(: [^\n]*)?\n')
+# The line of `draft` for a frame by number, which exe and com lower and no reader here does (tests/frames.py).
+BY_NUMBER = re.compile(rb'file "in\d+\.obj" module 1 refused 15 FrameMethod .*\n')
 # The line of a stack that has another length than --stack asks for.
 STACK = re.compile(rb"^stack: SP is (\d+): ", re.M)
 REFUSED = re.compile(rb'file "in(\d+)\.obj" module 1 refused .*\n')
@@ -202,6 +204,8 @@ class Exe:
     def compare(self, names, inputs, file, folder):
         """The file at some paragraphs, and the memory of the modules there."""
         status, text = run([self.link, "draft", "--base", "0", "--real", *names], folder=folder)
+        if status and BY_NUMBER.fullmatch(text):
+            return
         promised(status == 0, f"draft: {text[:200]}")
         if any(it[libraries.module_length(it):].strip(b"\0\x1A") for it in inputs):  # the readers here read one module of a file
             return

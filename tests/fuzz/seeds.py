@@ -5,6 +5,7 @@ FOLDER/members has libraries, FOLDER/link modules with a link text after them, F
 modules of examples/, those of the folder MORE that have less than 5 KB, and some made at random, always the same."""
 import pathlib
 import random
+import struct
 import sys
 
 import executables
@@ -27,6 +28,15 @@ def made_library(random_, modules):
         chosen.append((libraries.module(b"m%d" % number, names), names) if random_.randrange(2) else (real, publics_of(real)))
     chosen = [(module, [it if isinstance(it, bytes) else it[0] for it in names]) for module, names in chosen]
     return libraries.library(chosen, 1 << random_.choice((4, 4, 4, 5)), flags=random_.randrange(2))
+
+
+def has_publics(module):
+    """Whether the publics of a module can be read: an example of a fault may have a record that is cut."""
+    try:
+        publics_of(module)
+    except (IndexError, struct.error):
+        return False
+    return True
 
 
 def text_for(modules):
@@ -62,7 +72,8 @@ def main(folder, more=None):
     random_ = random.Random(1)
     seeds = load_seeds(more)
     modules = [it for it in seeds if it[:1] == b"\x80" and libraries.module_length(it) == len(it)]
-    write(folder / "members", [it for it in seeds if it[:1] == b"\xF0"] + [made_library(random_, modules) for _ in range(MADE)])
+    named = [it for it in modules if has_publics(it)]
+    write(folder / "members", [it for it in seeds if it[:1] == b"\xF0"] + [made_library(random_, named) for _ in range(MADE)])
     sets = [[executables.module(random_, number, number == 0) for number in range(random_.randrange(1, 4))] for _ in range(MADE)]
     written = [it for name in ("exe", "order") for it in [sorted((ROOT / "examples" / name).glob("*.obj"))]]
     whole = [b"".join(it.read_bytes() for it in paths) for paths in written]

@@ -104,7 +104,7 @@ def accepted(tab, tries, name, data, line):
 def refused(tab, tries, name, data, line):
     sentence, record, fault = tab.value(text_of("verdict")), int(line[4]), int(line[6]) + int(line[8])
     lines = [json.loads(it) for it in printed("omf_dump", ["--json"], data).decode("latin-1").splitlines()]
-    lines = lines[:next((at for at, it in enumerate(lines) if "number" not in it and "fault" not in it), len(lines))]  # of the first module
+    lines = lines[:next((at for at, it in enumerate(lines) if at and "number" not in it and "fault" not in it), len(lines))]  # of the first module, or a library's header
     last = next((it for it in lines if "refused" in it), None)
     means = f" is refused: {last['meaning']}" if last else " is no module: read as one, it is refused."
     tries.see(f"{name}: the sentence", sentence.startswith(name + means), True)
