@@ -249,6 +249,8 @@ class Lowered:
             self.take_comdat(number, kind & 1, contents)
         elif kind & 0xFE == SEGMENT and self.comdats:
             raise Fault(number)
+        elif kind & 0xFE == SEGMENT and contents[:1] >= b"\xC0":
+            self.take_paged(kind, contents)
         elif kind == VENDOR:
             return
         elif kind & 0xFE == SYMBOL_LINES:
@@ -256,6 +258,14 @@ class Lowered:
         else:
             self.take(kind, contents)
             self.records.append(one)
+
+    def take_paged(self, kind, contents):
+        """A SEGDEF with A = 6 or 7 as one with A = 4, with a comment for 6."""
+        page = bytes([0x80 | contents[0] & 31]) + contents[1:]
+        self.take(kind, page)
+        self.records.append(record(kind, page))
+        if contents[0] < 0xE0:
+            self.records.append(record(COMMENT, b"\0\xDC" + shortest(len(self.segments))))
 
     def lines_of(self, one, contents):
         """A LINNUM in place of a LINSYM with the name of a COMDAT before it."""
