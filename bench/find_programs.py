@@ -109,7 +109,7 @@ class Case:
         self.name, self.folder, self.files, self.facts = name, folder, files, facts
         text = (folder / "prog.map").read_text("latin-1")
         self.modules = {}
-        for number, file, member in re.findall(r'^module (\d+) file "([^"]*)" module (\d+)$', text, re.M):
+        for number, file, member in re.findall(r'^module (\d+) file "([^"]*)" module (\d+)(?: "[^"]*")?$', text, re.M):
             self.modules[int(number)] = file, int(member) - 1
         self.segments, self.publics = {}, collections.defaultdict(set)
         for number, segment, address, size, section, kind in re.findall(r'^segment (\d+) (\d+) (\S+) (\S+) "([^"]*)" "([^"]*)"$', text, re.M):
