@@ -49,7 +49,7 @@ static void look_at_fault(struct omf_answer answer, size_t length, const struct 
     if (in->fault.status != OMF_DONE) {
         PROMISED(in->fault.status == OMF_MEMORY || are_same(answer, in->fault));
     } else if (answer.status == OMF_LINE) {
-        PROMISED(answer.reason >= 1 && answer.reason <= 5 && answer.line >= 1 && answer.line <= length - in->end + 1);
+        PROMISED(answer.reason >= 1 && answer.reason <= 8 && answer.line >= 1 && answer.line <= length - in->end + 1);
     } else if (answer.status == OMF_REACH) {
         PROMISED(answer.record_count < in->count && answer.reason >= OMF_MISSING && answer.reason <= OMF_TOO_FAR && answer.reason != OMF_EXTRA);
         if (answer.reason == OMF_TOO_FAR) {
