@@ -140,6 +140,8 @@ for one in "${calls[@]}"; do
     shown)
         if [ -z "${PROGRAM:-}" ] && [ -n "${UNPROVED:-}" ]; then
             keep "$root/crates/omf_dump" try
+        elif [ -z "${PROGRAM:-}" ] && [ ! -f "$work/omf_dump.bc" ] && [ -d "$root/crates/omf_dump/out/incremental" ]; then
+            "$root/page/bitcode.sh" omf_dump "$work/omf_dump.bc" # goes over the proof that is there, and leaves the program in its place
         elif [ -z "${PROGRAM:-}" ]; then
             keep "$root/crates/omf_dump" run --backend llvm
         fi
