@@ -183,7 +183,7 @@ def shortest(index):
 
 
 def expanded(contents, at, count, width):
-    """The size of this many blocks from a position on, or of all to the end, and the position after them."""
+    """The size of this many blocks from a position on, or of all to the end, and the position after them, which is after the end where some lack."""
     size = 0
     while count != 0 and at < len(contents):
         times, inner = (int.from_bytes(contents[it:it + n], "little") for it, n in ((at, width), (at + width, 2)))
@@ -193,7 +193,13 @@ def expanded(contents, at, count, width):
         else:
             one, at = contents[at], at + 1 + contents[at]
         size, count = size + times * one, count - 1
-    return size, at
+    return size, len(contents) + 1 if count > 0 else at
+
+
+def whole_size(contents, width):
+    """The size of blocks that fill these contents; blocks that are cut have none."""
+    size, end = expanded(contents, 0, -1, width)
+    return size if end == len(contents) else 0
 
 
 def index_at(contents, at):
@@ -307,7 +313,7 @@ class Lowered:
             pattern = self.segments[segment - 1]
         name, at = index_at(contents, at)
         data = contents[at:]
-        end = offset + (expanded(data, 0, -1, width)[0] if flags & ITERATED else len(data))
+        end = offset + (whole_size(data, width) if flags & ITERATED else len(data))
         if not 1 <= name <= len(self.names) or attributes >> 4 > 3 or attributes & 15 > 4 or align > 5 or end >= 1 << 32:
             raise Fault(number)
         text = self.names[name - 1]
