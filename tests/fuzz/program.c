@@ -120,7 +120,8 @@ int LLVMFuzzerTestOneInput(const uint8_t *bytes, size_t length) {
         if (file.answer.status == OMF_DONE) {
             PROMISED(again.status == OMF_MEMORY || (again.status == OMF_ROOM && again.size == file.size));
             look_at_file(file);
-            PROMISED(in.fault.status != OMF_REFUSED && (in.fault.status == OMF_MEMORY || in.end == length));
+            /* A module that is refused was lowered. */
+            PROMISED(in.fault.status == OMF_REFUSED || in.fault.status == OMF_MEMORY || in.end == length);
             if (in.fault.status == OMF_DONE) {
                 compare(padded_input(&in), file);
                 compare(canonical_input(bytes, length, &in), file);

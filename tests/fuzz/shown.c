@@ -163,10 +163,17 @@ static size_t record_line(struct text text, size_t at) {
     return at;
 }
 
+/* Reads two numbers from a text, which no zero byte ends. */
+static bool numbers(struct text text, size_t at, const char *format, unsigned long long *number, unsigned long long *start) {
+    char front[80] = {0};
+    memcpy(front, text.bytes + at, text.size - at < sizeof front - 1 ? text.size - at : sizeof front - 1);
+    return sscanf(front, format, number, start) == 2;
+}
+
 /* Whether the line at an offset is of the record with this number and offset. */
 static bool is_of(struct text text, size_t at, unsigned long long number, unsigned long long start) {
     unsigned long long other_number, other_start;
-    return at < text.size && sscanf((const char *)text.bytes + at, "%llu %llx", &other_number, &other_start) == 2 && number == other_number && start == other_start;
+    return at < text.size && numbers(text, at, "%llu %llx", &other_number, &other_start) && number == other_number && start == other_start;
 }
 
 /* Each line of JSON is one object, and the records in them are those of the lines of the text that begin with a digit: one line, or for a record at
@@ -178,7 +185,7 @@ static void compare(struct text json, struct text text) {
         const char *line = (const char *)json.bytes + at, *end = (const char *)json.bytes + next;
         PROMISED(*line == '{' && value(line, end, 0) == end);
         unsigned long long number, start;
-        if (sscanf(line, "{\"number\":%llu,\"start\":%llu", &number, &start) == 2) {
+        if (numbers(json, at, "{\"number\":%llu,\"start\":%llu", &number, &start)) {
             PROMISED(is_of(text, in_text, number, start));
             in_text = record_line(text, line_end(text, in_text) + 1);
             if (is_of(text, in_text, number, start)) {
