@@ -63,7 +63,8 @@ library() {
 }
 
 programs() {
-    local one runs=0 name
+    local one runs=0 name ASAN_OPTIONS=$ASAN_OPTIONS:detect_leaks=0 # a program ends with what it holds
+    export ASAN_OPTIONS
     for one in omf omf_place omf_link omf_dump omf_lib omf_find; do
         UNPROVED=1 page/bitcode.sh $one build/unproved/page/$one.bc || { fail "$one is not built"; return; }
         [ "$to/$one" -nt build/unproved/page/$one.bc ] || {
